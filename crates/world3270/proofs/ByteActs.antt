@@ -1,5 +1,8 @@
 -- What the host sends in its turn, and notes that it sends, over bytes: they stand for the messages that it sends.
 use Rattle.std.proofs.Common.{◌≡◌, ◌<◌, ◌==◌, ℕ, Bool, true, false, Option, Some, None, is_some, List, [], ◌∷◌, ◌++◌, length, refl, ap, sym, subst, ◌∙◌, IfSome, if◌then◌else◌}
+use Rattle.world3270.proofs.StandsSizes.{is_narrow}
+use Rattle.world3270.proofs.Down.{shape_of_model}
+use Rattle.codes3270.specs.declared.size.Model.{Model}
 use Rattle.std.specs.Prelude.{All}
 use Rattle.std.proofs.lemmas.Bool.{and_parts, ltb-true}
 use Rattle.std.proofs.lemmas.List.{length-set, set-get_or}
@@ -288,11 +291,11 @@ note_sent : (text : List ℕ) (conn : Conn) (sending : Sent) → noted text conn
 note_sent text conn sending is = only_if (may_note conn.turn conn.pending (is_agreed conn.talk.state)) (noted_as text conn) sending is
 
 -- an act's command fits where it is sent
-act_suits : (shadow : Shadow) (message : ToTerminal) → PaintsWhatFits model_2 shadow message → Suits message
-act_suits shadow (ToTerminal.TalksDown saying) paints = absurd paints
-act_suits shadow (ToTerminal.Paint number wanted over) paints = (subst (λ (s : Shadow). is_paintable s wanted ≡ true) (sym paints.1) paints.0.fits, paints.0.showable.size)
-act_suits shadow (ToTerminal.ReadBuffer number) paints = tt
-act_suits shadow (ToTerminal.Note number command) paints = absurd paints
+act_suits : (size : Shape) (shadow : Shadow) (message : ToTerminal) → PaintsWhatFits size shadow message → Suits message
+act_suits size shadow (ToTerminal.TalksDown saying) paints = absurd paints
+act_suits size shadow (ToTerminal.Paint number wanted over) paints = subst (λ (s : Shadow). is_paintable s wanted ≡ true) (sym paints.1) paints.0.fits
+act_suits size shadow (ToTerminal.ReadBuffer number) paints = tt
+act_suits size shadow (ToTerminal.Note number command) paints = absurd paints
 
 -- the message that is sent is the last under way
 last_of : {X : Type 0} (P : X → Type 0) (xs : List X) (x : X) → All P (xs ++ x ∷ []) → P x
@@ -382,7 +385,7 @@ module _ (known : Known) (skips : SkipsAreThose) (given : Given) (stands_for : P
           let does : acted app link.host ≡ Some sending = ap (λ (c : Conn). acted app c) (sym (same_conn begin events old number reached found.0)) ∙ found.1 in
           let suits : Suits sending.message =
           subst (λ (s : Sent). Suits s.message) (sym (act_sent app link.host sending does))
-          (act_suits link.host.shadow _ (known.worlds.given.belief.fit app link.host (act_on app link.host link.host.turn_reason) (is_application known.worlds begin is))) in
+          (act_suits _ link.host.shadow _ (known.worlds.given.belief.fit app link.host (act_on app link.host link.host.turn_reason) (is_application known.worlds begin is))) in
           let went = went_on begin events (Event.Act number) number sending old new answer acts.host acts.act acts.acts acts.others acts.answers acts.leaves reached
           (told_reached begin events (Event.Act number) number sending old is reached tt tt (sym (skips begin events (event.Act number) old is reached tt) ∙ place)
           (ap (λ (o : Option Sent). with_link number (host_sent o link) (after begin events)) does) below found.0 suits) in
@@ -403,11 +406,13 @@ module _ (known : Known) (skips : SkipsAreThose) (given : Given) (stands_for : P
           let below : number < most_connections = ltb-true number most_connections (and_parts (is_link number) _ place).0 in
           let found = noting text (service_at number old.host) sending e in
           let does : noted text link.host ≡ Some sending = ap (λ (c : Conn). noted text c) (sym (same_conn begin events old number reached found.0)) ∙ found.1 in
-          let kept = (run_good given app app_is events (new_world app begin.pool begin.terminals) reached.are_events
-          (new_good given app app_is begin.pool begin.terminals is.pool)).links number in
-          let note : IsNoteOf model_2 (note_command link.host.shape text) =
-          record { text = text; is_text = real.0; is = ap (λ (shape : Shape). note_command shape text) kept.shape.begins } in
-          let suits : Suits sending.message = subst (λ (s : Sent). Suits s.message) (sym (note_sent text link.host sending does)) note in
+          let kept = (run_good given app app_is events (new_world app begin.pool begin.models) reached.are_events
+          (new_good given app app_is begin.pool begin.models is.pool)).links number in
+          let model : Model = link.term.display.model in
+          let note : IsNoteOf link.host.shape (note_command link.host.shape text) = record { text = text; is_text = real.0; is = refl } in
+          let suits : Suits sending.message =
+          subst (λ (s : Sent). Suits s.message) (sym (note_sent text link.host sending does))
+          (link.host.shape, shape_of_model app model link.host.shape app_is kept.sizes.host, is_narrow model link.host.shape kept.sizes.host, note) in
           let went = went_on begin events (Event.Note number text) number sending old new answer acts.host acts.act acts.acts acts.others acts.answers acts.leaves reached
           (told_reached begin events (Event.Note number text) number sending old is reached real.0 tt (sym (skips begin events (event.Note number text) old is reached tt) ∙ place)
           (ap (λ (o : Option Sent). with_link number (host_sent o link) (after begin events)) does) below found.0 suits) in

@@ -30,13 +30,13 @@ use Rattle.world3270.specs.Link.{Link, term_left_if, term_stepped}
 use Rattle.world3270.specs.Placed.{comes_down, is_link, is_queued}
 use Rattle.world3270.specs.Refines.{Begin, IsBegin, Reached, GoesOn, after}
 use Rattle.world3270.specs.TrackedTerminals.{TrackedTerminal, TrackedTakes}
-use Rattle.world3270.specs.Sendable.{CanBeSent, IsTyped, display_at}
+use Rattle.world3270.specs.Sendable.{CanBeSent, IsTyped}
 use Rattle.world3270.specs.Standing.{WorldStands, with_out}
 use Rattle.world3270.specs.Stands.{BytesDown, ByteLink, LinkStands, StandsUp, without_nops}
 use Rattle.world3270.specs.StandsLinks.{IsReady, NoneCloses, took_down}
 use Rattle.world3270.specs.Terminal.{TermEnd, TermStep, took as term_took}
 use Rattle.world3270.specs.Unbroken.{SaysNoRefusal, TerminalsRefuseNothing}
-use Rattle.world3270.specs.World.{Place, World, Event as MessageEvent, AreEvents, with_at}
+use Rattle.world3270.specs.World.{Place, World, Event as MessageEvent, AreEvents, with_at, display_at}
 use Rattle.world3270.specs.declared.event.Event.TheVariants as event
 use Rattle.world3270.specs.declared.event.Stepped.{Stepped}
 use Rattle.world3270.proofs.ByteTerms.{made_of, AreFlows, BytesWent, GoesOnHere, TermWent, flows_go_on, flows_here, link_goes_on, stands_here, term_went_stands}

@@ -1,9 +1,12 @@
 -- What connections that are lost, ends that leave, and ends that begin come to, over bytes as over messages.
 use Rattle.std.proofs.Common.{◌≡◌, ◌<◌, ◌&&◌, ℕ, Bool, true, Option, None, Some, List, [], ◌∷◌, length, refl, ap, sym, subst, ◌∙◌}
+use Rattle.panels.specs.Panel.{Panels}
+use Rattle.codes3270.specs.declared.size.Model.{Model}
+use Rattle.world3270.proofs.Models.{model_here, model_is}
 use Rattle.std.proofs.lemmas.Bool.{and_parts, ltb-true}
 use Rattle.std.proofs.lemmas.List.Elements.{All-nil}
 use Rattle.codes3270.specs.Size.{model_2}
-use Rattle.host_core.specs.Application.{application_of}
+use Rattle.host_core.specs.Application.{application_of, Application}
 use Rattle.host_core.specs.State.{most_connections}
 use Rattle.world3270.specs.Known.{Known}
 use Rattle.world3270.specs.ByteSteps.{Connects, ConnectsIf, has_place, is_link, is_terminal, is_lost, is_up, sees_loss, may_connect, free_number, lost_transits, host_gone, saw_loss, terminal_anew, host_anew, host_gone_below}
@@ -17,7 +20,7 @@ use Rattle.world3270.specs.Standing.{WorldStands, IsAt}
 use Rattle.world3270.specs.Stands.{StandsUp, all_items}
 use Rattle.world3270.specs.StandsLinks.{TermLeaves}
 use Rattle.world3270.specs.Terminal.{new_display}
-use Rattle.world3270.specs.World.{Place, World, Event as MessageEvent, IsEvent}
+use Rattle.world3270.specs.World.{Place, World, Event as MessageEvent, IsEvent, display_at}
 use Rattle.world3270.specs.declared.event.Event.{Event}
 use Rattle.world3270.specs.declared.event.Event.TheVariants as event
 use Rattle.world3270.specs.declared.event.Stepped.{Stepped}
@@ -45,7 +48,6 @@ left_is_alone terminal number old was agree stands at =
       record {
         detached = refl;
         silent = refl;
-        shape = end.shape_is;
         screen = end.screen_is;
         keyboard = refl;
         last_restored = end.last_restored_is;
@@ -73,11 +75,13 @@ module _ (leaves : TermLeaves) (terminal : ℕ) (old : ByteWorld) (was : World) 
       → (begin : Begin) → EndsAgree (term_anew (application_of begin.panels) terminal place was)
       → WorldStands (terminal_anew terminal at old) (term_anew (application_of begin.panels) terminal place was)
   anew_stands None (Place.At number) at is begin agrees = let here = at_place (Place.At number) is in absurd (cc)
-  anew_stands None (Place.Alone display) at is begin agrees = alone_stands terminal (new_slot (model_at terminal old)) (new_display model_2) old was agree stands there at (begins_alone terminal old was agree stands) agrees
+  anew_stands None (Place.Alone display) at is begin agrees = alone_stands terminal (new_slot (model_at terminal old)) (new_display display.model model_2) old was agree stands there at
+      (begins_alone terminal old display.model (model_here terminal old was agree stands (Place.Alone display) is)) agrees
   anew_stands (Some number) (Place.At other) at is begin agrees =
       let same : other ≡ number = at_number (slot_at terminal old) number other at (at_place (Place.At other) is) in
       subst (λ (n : ℕ). WorldStands (terminal_anew terminal (Some n) old) (term_anew (application_of begin.panels) terminal (Place.At other) was)) same
-      (parted_stands other old was agree stands held leaves terminal (new_slot (model_at terminal old)) (new_display model_2) there is (begins_alone terminal old was agree stands) agrees)
+      (parted_stands other old was agree stands held leaves terminal (new_slot (model_at terminal old)) (new_display (was.link other).term.display.model model_2) there is
+      (begins_alone terminal old (was.link other).term.display.model (model_here terminal old was agree stands (Place.At other) is)) agrees)
   anew_stands (Some number) (Place.Alone display) at is begin agrees = let none = (at_place (Place.Alone display) is).0 in absurd (cc)
 
 saw_panels : (terminal : ℕ) (at : Option ℕ) (old : ByteWorld) → (saw_loss terminal at old).host.panels ≡ old.host.panels
@@ -99,7 +103,7 @@ begin_is_reached known begin is = record {
   are_events = tt;
   typed = All-nil IsTyped;
   panels = refl;
-  stands = begin_stands (nothing_stands all_items StandsUp refl known.links.no_bytes known.links.start) begin.panels begin.pool begin.terminals;
+  stands = begin_stands (nothing_stands all_items StandsUp refl known.links.no_bytes known.links.start) begin.panels begin.pool begin.models;
 }
 
 -- ---- one event
@@ -194,15 +198,19 @@ module _ (known : Known) (skips : SkipsAreThose) where
       }
       by_found (Some number) free (Connects.done answers made) =
           let f = facts_now known.worlds begin events old is reached in
-          let app = application_of begin.panels in
+          let was : World = after begin events in
+          let here : Application = application_of old.host.panels in
+          let model : Model = (display_at was (was.place terminal)).model in
           let both = and_parts (is_terminal terminal old) (may_connect (slot_at terminal old).at old) place in
           let there = ltb-true terminal (length old.slots) both.0 in
           let lonely = is_alone (slot_at terminal old).at old both.1 in
           let below = way_within number old (after begin events) reached.stands (found_below most_connections 0 number old free) in
-          let same : free_over_messages (after begin events).link ≡ Some number = sym (same_free old (after begin events) reached.stands) ∙ free in
+          let same : free_over_messages was.link ≡ Some number = sym (same_free old was reached.stands) ∙ free in
           subst (λ (w : ByteWorld). GoesOn begin events (event.Connect terminal wanted) old answer w) (sym made)
-          (goes_once (event.Connect terminal wanted) (MessageEvent.Connect terminal wanted) begin events old answer (connected number terminal wanted old) is reached real (skips begin events (event.Connect terminal wanted) old is reached tt) place
+          (goes_once (event.Connect terminal wanted) (MessageEvent.Connect terminal wanted) begin events old answer (connected model number terminal wanted old) is reached real (skips begin events (event.Connect terminal wanted) old is reached tt) place
           (ap (λ (a : Stepped). once (MessageEvent.Connect terminal wanted) a) (sym answers)) refl
-          (λ agrees. subst (λ (n : Option ℕ). WorldStands (connected number terminal wanted old) (joined app terminal wanted n (after begin events))) (sym same)
-          (connected_stands number terminal wanted old (after begin events) known.links.begin f.agree reached.stands below there lonely
-          (subst (λ (n : Option ℕ). EndsAgree (joined app terminal wanted n (after begin events))) same agrees))))
+          (λ agrees. subst (λ (panels : Panels). WorldStands (connected model number terminal wanted old) (joined (application_of panels) terminal model wanted (free_over_messages was.link) was)) reached.panels
+          (subst (λ (n : Option ℕ). WorldStands (connected model number terminal wanted old) (joined here terminal model wanted n was)) (sym same)
+          (connected_stands model number terminal wanted old was known.links.begin f.agree reached.stands below there lonely (model_is terminal old was f.agree reached.stands)
+          (subst (λ (n : Option ℕ). EndsAgree (joined here terminal model wanted n was)) same
+          (subst (λ (panels : Panels). EndsAgree (joined (application_of panels) terminal model wanted (free_over_messages was.link) was)) (sym reached.panels) agrees))))))

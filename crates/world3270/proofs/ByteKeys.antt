@@ -23,12 +23,12 @@ use Rattle.world3270.specs.Happens.{key_went, done}
 use Rattle.world3270.specs.Link.{Link, term_stepped}
 use Rattle.world3270.specs.Places.{EndsAgree}
 use Rattle.world3270.specs.Refines.{Begin, IsBegin, Reached, IsReal, GoesOn, SkipsAreThose, after, once}
-use Rattle.world3270.specs.TrackedTerminals.{TrackedTerminal, of_model_2, tracked_after_key}
-use Rattle.world3270.specs.Sendable.{CanBeSent, ScreensAreSendable, display_at}
+use Rattle.world3270.specs.TrackedTerminals.{TrackedTerminal, tracked_after_key}
+use Rattle.world3270.specs.Sendable.{CanBeSent, ScreensAreSendable}
 use Rattle.world3270.specs.Standing.{WorldStands, IsAlone, IsAt, with_out}
-use Rattle.world3270.specs.Stands.{ByteLink, LinkStands}
+use Rattle.world3270.specs.Stands.{ByteLink, LinkStands, sized}
 use Rattle.world3270.specs.Terminal.{Display, after_key, erases_if, key_came, outcome_of}
-use Rattle.world3270.specs.World.{Place, World, Event as MessageEvent}
+use Rattle.world3270.specs.World.{Place, World, Event as MessageEvent, display_at}
 use Rattle.world3270.specs.declared.event.Event.TheVariants as event
 use Rattle.world3270.specs.declared.event.Stepped.{Stepped}
 use Rattle.world3270.proofs.ByteTerms.{GoesOnHere, alone_stands, flows_go_on, flows_here, link_goes_on, made_of, stands_here, term_went_stands}
@@ -39,12 +39,11 @@ use Rattle.world3270.proofs.OneOfMany.{with_other, with_same}
 -- ---- what a key makes of a terminal
 
 -- a key does over bytes what it does over messages, where screen and keyboard are the same
-outcome_is : (key : Key) (station : Station) (display : Display) → display.shape ≡ model_2 → station.keyboard ≡ display.keyboard → station.screen ≡ of_model_2 display.screen
+outcome_is : (key : Key) (station : Station) (display : Display) → station.keyboard ≡ display.keyboard → station.screen ≡ sized display
     → key_outcome key station ≡ outcome_of key display
-outcome_is key station display shape keyboard screen =
+outcome_is key station display keyboard screen =
     ap (λ (k : Keyboard). pressed station.screen.size.columns key k station.screen.screen) keyboard
     ∙ ap (λ (s : SizedScreen). pressed s.size.columns key display.keyboard s.screen) screen
-    ∙ ap (λ (s : Shape). pressed s.columns key display.keyboard display.screen) (sym shape)
 
 -- a terminal that isn't bound sends nothing
 nothing_sent : (answer : Pressed) (screen : Screen) → data_pressed false answer screen ≡ None
@@ -56,14 +55,13 @@ stays_alone : (key : Key) (tracked : TrackedTerminal) (display : Display) → Is
 stays_alone key tracked display is =
     let station : Station = tracked.terminal.station in
     let outcome : Outcome = key_outcome key station in
-    let same = outcome_is key station display is.shape is.keyboard is.screen in
+    let same = outcome_is key station display is.keyboard is.screen in
     record {
       detached = is.detached;
       silent = ap (λ (l : TermLink). tracked.terminal.out ++ sent_bytes (says_of_key key (is_bound (phase_of l)) station)) is.detached
           ∙ ap (λ (d : Option (List ℕ)). tracked.terminal.out ++ sent_bytes (data_sent station.number d)) (nothing_sent outcome.answer outcome.screen)
           ∙ append-nil tracked.terminal.out ∙ is.silent;
-      shape = is.shape;
-      screen = ap (λ (s : SizedScreen). record s { screen = outcome.screen }) is.screen ∙ ap (λ (o : Outcome). of_model_2 o.screen) same;
+      screen = ap (λ (s : SizedScreen). record s { screen = outcome.screen }) is.screen ∙ ap (λ (o : Outcome). record (sized display) { screen = o.screen }) same;
       keyboard = ap (λ (o : Outcome). o.keyboard) same;
       last_restored = is.last_restored;
       erased = ap (λ (b : Bool). b || erases_if (answer_to_key key tracked.terminal) key) is.erased
@@ -108,7 +106,7 @@ module _ (known : Known) (key : Key) (terminal : ℕ) (old : ByteWorld) (world :
       let flows = flows_here number terminal old world now_facts.agree stands here in
       let next : Link = term_stepped (key_came key link.term) link.down link in
       let is_end = ((stood.term terminal here).holds).is_end in
-      let same = outcome_is key slot.tracked.terminal.station link.term.display is_end.shape_is is_end.keyboard_is is_end.screen_is in
+      let same = outcome_is key slot.tracked.terminal.station link.term.display is_end.keyboard_is is_end.screen_is in
       let screen : CanBeSent link.term.display.shape (outcome_of key link.term.display).screen =
       subst (λ (l : Link). CanBeSent l.term.display.shape l.term.display.screen) (with_same number next world.link)
       (subst (λ (p : Place). let display = display_at (went (Place.At number)) p in CanBeSent display.shape display.screen) is (sendable terminal)) in

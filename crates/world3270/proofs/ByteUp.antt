@@ -39,7 +39,7 @@ use Rattle.world3270.specs.Sendable.{IsTyped}
 use Rattle.world3270.specs.Standing.{WorldStands, IsNotClosed, conn_of, rest_of, link_of}
 use Rattle.world3270.specs.Stands.{StandsDown, StandsUp, BytesUp, ByteLink, LinkStands, all_items}
 use Rattle.world3270.specs.StandsEnds.{IsSaid}
-use Rattle.world3270.specs.StandsLinks.{MayComeAll, WhatComesMayCome, HostSends, said_down, sent_down}
+use Rattle.world3270.specs.StandsLinks.{MayComeAll, WhatComesMayCome, HostSends, said_down, sent_down, NoneCloses}
 use Rattle.world3270.specs.Terminal.{TermEnd, took as term_took}
 use Rattle.world3270.specs.World.{World, Event as MessageEvent, with_at}
 use Rattle.world3270.specs.declared.event.Event.TheVariants as event
@@ -250,12 +250,12 @@ module _ (known : Known) (begin : Begin) (is : IsBegin begin) (events : List Mes
 
     may_come : MayComeAll link.term (sent link.lost link.down step.sends)
     may_come =
-        subst (λ (l : Link). MayComeAll l.term l.down) link_now ((subst WhatComesMayCome world_now known_then.may) number).0
+        subst (λ (l : Link). MayComeAll l.term l.down) link_now ((subst (λ (w : World). (at : ℕ) → MayComeAll (w.link at).term (w.link at).down × NoneCloses (w.link at).term (w.link at).down) world_now known_then.may) number).0
 
     step_is : (item : WireItem) (done : HostStep) → StandsUp item message → TakesItem (answer_to old.host.pool) (conn_of (service_at number old.host)) item done → done ≡ step
     step_is item done stand taken =
         let said = subst (λ (m : List ToHost). AllByRecursion IsSaidUp m) e
-        (all_said_up (application_of begin.panels) begin.pool begin.terminals events reached.are_events number) in
+        (all_said_up (application_of begin.panels) begin.pool begin.models events reached.are_events number) in
         let waited = subst (λ (c : Conn). IsAwaited c message) (sym conn_is) (awaited world number message others known_here.forms e) in
         host_takes known.links.one_header known.links.fault_or_header known.links.one_inbound (answer_to old.host.pool) (conn_of (service_at number old.host))
         item message done stand said.0 waited taken

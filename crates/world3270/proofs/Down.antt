@@ -1,5 +1,5 @@
 -- What a terminal makes of the next message, at each moment.
-use Rattle.std.proofs.Common.{◌≡◌, ◌==◌, if◌then◌else◌, inr, ◌<◌, ℕ, Bool, true, false, Option, None, Some, List, [], ◌∷◌, ◌++◌, length, map, suc, arith, refl, ap, sym, subst, ◌∙◌, Result, Ok, Err, IsOkAnd}
+use Rattle.std.proofs.Common.{◌≡◌, ◌==◌, if◌then◌else◌, inr, ◌<◌, ℕ, Bool, true, false, Option, None, Some, List, [], ◌∷◌, ◌++◌, length, map, suc, arith, refl, ap, sym, subst, ◌∙◌, Result, Ok, Err, IsOkAnd, inl}
 use Rattle.tn3270e_msg.specs.Device.{device_for, device_text, has_text}
 use Rattle.codes3270.specs.declared.size.Model.{Model}
 use Rattle.std.specs.Prelude.{is_some, filter_map, replicate}

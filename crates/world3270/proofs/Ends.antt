@@ -1,5 +1,6 @@
 -- Who holds the ends of a connection, and LUs, after every event.
 use Rattle.std.proofs.Common.{◌≡◌, ◌==◌, ℕ, Bool, true, false, Option, None, Some, List, [], ◌∷◌, refl, ap, ◌∙◌, if◌then◌else◌}
+use Rattle.codes3270.specs.declared.size.Model.{Model}
 use Rattle.std.proofs.lemmas.Bool.{and_parts}
 use Rattle.keyboard.specs.declared.key.Key.{Key}
 use Rattle.lu_pool.specs.Asking.{answer_to}
@@ -18,7 +19,7 @@ use Rattle.world3270.specs.Link.{Link, begun, cut, host_left, host_left_if, host
 use Rattle.world3270.specs.Placed.{has_place, is_link, is_queued, comes_up, free_number}
 use Rattle.world3270.specs.Places.{IsHeld, UpIsHeld, HoldersAreHere}
 use Rattle.world3270.specs.Terminal.{Display, TermStep, new_display, key_came, took as term_took}
-use Rattle.world3270.specs.World.{Place, World, Event, new_world, with_at, with_link}
+use Rattle.world3270.specs.World.{Place, World, Event, new_world, with_at, with_link, display_at}
 use Rattle.world3270.proofs.OneOfMany.{all_with}
 use Rattle.world3270.proofs.Others.{back_was, came_up_was, closed_pool}
 
@@ -157,15 +158,15 @@ term_saw_both world terminal (Place.At number) b = parted_both world terminal nu
 term_saw_both world terminal (Place.Alone display) b = b
 
 term_anew_both : (app : Application) (world : World) (terminal : ℕ) (place : Place) → BothHold world → BothHold (term_anew app terminal place world)
-term_anew_both app world terminal (Place.At number) b = parted_both world terminal number (new_display app.begins) b
+term_anew_both app world terminal (Place.At number) b = parted_both world terminal number (new_display (world.link number).term.display.model app.begins) b
 term_anew_both app world terminal (Place.Alone display) b = record { held = b.held; here = b.here }
 
 -- ---- connections
 
-joined_both : (app : Application) (world : World) (terminal : ℕ) (wanted : Option (List ℕ)) (free : Option ℕ) → BothHold world → BothHold (joined app terminal wanted free world)
-joined_both app world terminal wanted None b = b
-joined_both app world terminal wanted (Some number) b =
-    changed world.pool world.link number (begun app.begins terminal wanted) (λ e. record { host = refl; terminal = refl }) (λ e. refl) b
+joined_both : (app : Application) (world : World) (terminal : ℕ) (model : Model) (wanted : Option (List ℕ)) (free : Option ℕ) → BothHold world → BothHold (joined app terminal model wanted free world)
+joined_both app world terminal model wanted None b = b
+joined_both app world terminal model wanted (Some number) b =
+    changed world.pool world.link number (begun app model terminal wanted) (λ e. record { host = refl; terminal = refl }) (λ e. refl) b
 
 -- ---- any event
 
@@ -181,7 +182,7 @@ done_both given app (Event.Note number text) world here b = sends_both world num
 done_both given app (Event.Lose number) world here b = changed world.pool world.link number (cut (world.link number)) (λ e. absurd (cc)) (λ e. e) b
 done_both given app (Event.HostSees number) world here b = host_parted_both given world number b
 done_both given app (Event.TermSees terminal) world here b = term_saw_both world terminal (world.place terminal) b
-done_both given app (Event.Connect terminal wanted) world here b = joined_both app world terminal wanted (free_number world.link) b
+done_both given app (Event.Connect terminal wanted) world here b = joined_both app world terminal (display_at world (world.place terminal)).model wanted (free_number world.link) b
 done_both given app (Event.RestartTerm terminal) world here b = term_anew_both app world terminal (world.place terminal) b
 done_both given app Event.RestartHost world here b = host_anew_both given world b
 
@@ -196,11 +197,11 @@ run_both : Given → (app : Application) (events : List Event) (world : World) �
 run_both given app [] world b = b
 run_both given app (event ∷ events) world b = run_both given app events (happens app event world) (happens_both given app event world b)
 
-new_both : Given → (app : Application) (pool : List Entry) (terminals : ℕ) → BothHold (new_world app pool terminals)
-new_both given app pool terminals = record { held = λ number e. absurd (cc); here = λ number lu e. let free = given.pool.nobody pool lu in absurd (cc) }
+new_both : Given → (app : Application) (pool : List Entry) (models : List Model) → BothHold (new_world app pool models)
+new_both given app pool models = record { held = λ number e. absurd (cc); here = λ number lu e. let free = given.pool.nobody pool lu in absurd (cc) }
 
 pub up_is_held : Given → Always UpIsHeld
-up_is_held given app pool terminals events is lists few are = (run_both given app events (new_world app pool terminals) (new_both given app pool terminals)).held
+up_is_held given app pool models events is lists few are = (run_both given app events (new_world app pool models) (new_both given app pool models)).held
 
 pub holders_are_here : Given → Always HoldersAreHere
-holders_are_here given app pool terminals events is lists few are = (run_both given app events (new_world app pool terminals) (new_both given app pool terminals)).here
+holders_are_here given app pool models events is lists few are = (run_both given app events (new_world app pool models) (new_both given app pool models)).here

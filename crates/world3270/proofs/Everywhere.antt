@@ -1,6 +1,8 @@
 -- What each step keeps of a connection, and of the display of a terminal that is alone, holds of all of them after every event.
 use Rattle.std.proofs.Common.{◌≡◌, ℕ, Bool, true, false, Option, None, Some, List, [], ◌∷◌, refl, sym, subst, if◌then◌else◌}
-use Rattle.std.specs.Prelude.{⊤}
+use Rattle.codes3270.specs.declared.size.Model.TheVariants.{M2}
+use Rattle.codes3270.specs.declared.size.Model.{Model}
+use Rattle.std.specs.Prelude.{⊤, slice_index_or}
 use Rattle.std.specs.List.{All}
 use Rattle.std.proofs.lemmas.List.Elements.{All-head, All-tail}
 use Rattle.keyboard.specs.declared.key.Key.{Key}
@@ -21,15 +23,15 @@ use Rattle.world3270.specs.Placed.{has_place, free_number}
 use Rattle.world3270.specs.Stages.{Kept}
 use Rattle.world3270.specs.Terminal.{Display, TermStep, new_display, after_key, key_came, took as term_took}
 use Rattle.world3270.specs.View.{view_of}
-use Rattle.world3270.specs.World.{Place, World, Event, AreEvents, new_world, with_at}
+use Rattle.world3270.specs.World.{Place, World, Event, AreEvents, new_world, with_at, display_at}
 use Rattle.world3270.proofs.Down.{term_view, obeys}
 use Rattle.world3270.proofs.OneOfMany.{all_with}
 use Rattle.world3270.proofs.Worlds.{GoodWorld, happens_good, new_good}
 
 -- what each step keeps, where events are such
 pub record Steps (app : Application) (IsSuch : Event → Type 0) (OfLink : Link → Type 0) (OfDisplay : Display → Type 0) : Type 0 where
-  pub never : OfLink (unused app.begins)
-  pub begins : (terminal : ℕ) (wanted : Option (List ℕ)) → OfLink (begun app.begins terminal wanted)
+  pub never : OfLink (unused app)
+  pub begins : (model : Model) (terminal : ℕ) (wanted : Option (List ℕ)) → OfLink (begun app model terminal wanted)
   pub up : (pool : Answers) (link : Link) (message : ToHost) (rest : List ToHost) → link.up ≡ message ∷ rest → Kept app (view_of link) → OfLink link
       → OfLink (host_stepped (host_took pool link.host message) rest link)
   pub acts : (link : Link) → Kept app (view_of link) → OfLink link → OfLink (host_sent (acted app link.host) link)
@@ -42,7 +44,7 @@ pub record Steps (app : Application) (IsSuch : Event → Type 0) (OfLink : Link 
   pub loses : (link : Link) → OfLink link → OfLink (cut link)
   pub host_leaves : (link : Link) → OfLink link → OfLink (host_left link)
   pub term_leaves : (link : Link) → OfLink link → OfLink (term_left link)
-  pub fresh : OfDisplay (new_display app.begins)
+  pub fresh : (model : Model) → OfDisplay (new_display model app.begins)
   pub alone : (link : Link) → Kept app (view_of link) → OfLink link → OfDisplay (left_alone link.term.display)
   pub key_alone : (terminal : ℕ) (key : Key) (display : Display) → IsSuch (Event.Press terminal key) → OfDisplay display → OfDisplay (after_key key display)
 
@@ -125,14 +127,14 @@ module _ (given : Given) (app : Application) (is : IsApplication app) (IsSuch : 
   term_saw_holds world terminal (Place.Alone display) g h = h
 
   term_anew_holds : (world : World) (terminal : ℕ) (place : Place) → Holds world → Holds (term_anew app terminal place world)
-  term_anew_holds world terminal (Place.At number) h = parted_holds world terminal number (new_display app.begins) steps.fresh h
-  term_anew_holds world terminal (Place.Alone display) h = replaced world terminal (Place.Alone (new_display app.begins)) steps.fresh h
+  term_anew_holds world terminal (Place.At number) h = parted_holds world terminal number (new_display (world.link number).term.display.model app.begins) (steps.fresh (world.link number).term.display.model) h
+  term_anew_holds world terminal (Place.Alone display) h = replaced world terminal (Place.Alone (new_display display.model app.begins)) (steps.fresh display.model) h
 
   -- ---- connections
 
-  joined_holds : (world : World) (terminal : ℕ) (wanted : Option (List ℕ)) (free : Option ℕ) → Holds world → Holds (joined app terminal wanted free world)
-  joined_holds world terminal wanted None h = h
-  joined_holds world terminal wanted (Some number) h = moved world number terminal (begun app.begins terminal wanted) (Place.At number) (steps.begins terminal wanted) tt h
+  joined_holds : (world : World) (terminal : ℕ) (model : Model) (wanted : Option (List ℕ)) (free : Option ℕ) → Holds world → Holds (joined app terminal model wanted free world)
+  joined_holds world terminal model wanted None h = h
+  joined_holds world terminal model wanted (Some number) h = moved world number terminal (begun app model terminal wanted) (Place.At number) (steps.begins model terminal wanted) tt h
 
   -- ---- any event
 
@@ -149,7 +151,7 @@ module _ (given : Given) (app : Application) (is : IsApplication app) (IsSuch : 
   done_holds (Event.Lose number) world such g h = changed world number (cut (world.link number)) (steps.loses (world.link number) (h.links number)) h
   done_holds (Event.HostSees number) world such g h = changed world number (host_left (world.link number)) (steps.host_leaves (world.link number) (h.links number)) h
   done_holds (Event.TermSees terminal) world such g h = term_saw_holds world terminal (world.place terminal) g h
-  done_holds (Event.Connect terminal wanted) world such g h = joined_holds world terminal wanted (free_number world.link) h
+  done_holds (Event.Connect terminal wanted) world such g h = joined_holds world terminal (display_at world (world.place terminal)).model wanted (free_number world.link) h
   done_holds (Event.RestartTerm terminal) world such g h = term_anew_holds world terminal (world.place terminal) h
   done_holds Event.RestartHost world such g h = record { links = λ number. left_from_holds (world.link number) (h.links number); places = h.places }
 
@@ -166,7 +168,7 @@ module _ (given : Given) (app : Application) (is : IsApplication app) (IsSuch : 
       let here = All-head IsSuch event events such in
       run_holds events (happens app event world) are.1 (All-tail IsSuch event events such) (happens_good given app is event world are.0 g) (happens_holds event world here g h)
 
-  pub everywhere : (pool : List Entry) (terminals : ℕ) (events : List Event) → IsPool pool → AreEvents events → All IsSuch events → Holds (run app events (new_world app pool terminals))
-  everywhere pool terminals events lists are such =
-      run_holds events (new_world app pool terminals) are such (new_good given app is pool terminals lists)
-      (record { links = λ number. steps.never; places = λ terminal. steps.fresh })
+  pub everywhere : (pool : List Entry) (models : List Model) (events : List Event) → IsPool pool → AreEvents events → All IsSuch events → Holds (run app events (new_world app pool models))
+  everywhere pool models events lists are such =
+      run_holds events (new_world app pool models) are such (new_good given app is pool models lists)
+      (record { links = λ number. steps.never; places = λ terminal. steps.fresh (slice_index_or models terminal M2) })

@@ -1,5 +1,6 @@
 -- The data that comes up next has the form and the size that the host awaits.
 use Rattle.std.proofs.Common.{◌≡◌, ℕ, Bool, Option, List, [], ◌∷◌, ap, sym, subst, ◌∙◌}
+use Rattle.codes3270.specs.declared.size.Model.{Model}
 use Rattle.std.specs.Prelude.{⊤}
 use Rattle.codes3270.specs.Size.{Shape}
 use Rattle.datastream.specs.InboundText.{InboundParts}
@@ -31,16 +32,16 @@ comes form size lost queue [] parts rest under e first = absurd (nothing lost qu
 comes form size lost queue (message ∷ messages) parts rest under e first =
     subst (λ m. FirstHas form size (m ∷ messages)) (sym (front lost queue (ToHost.Data parts) rest message messages e under).0) first
 
-talk_has : (form : Form) (size : Shape) (wanted : Option (List ℕ)) (talking : Talking) → FirstHas form size (talk_up wanted talking)
-talk_has form size wanted Talking.Offering = tt
-talk_has form size wanted Talking.Accepting = tt
-talk_has form size wanted Talking.AskingType = tt
-talk_has form size wanted Talking.NamingType = tt
-talk_has form size wanted (Talking.Granting lu) = tt
-talk_has form size wanted (Talking.AskingFunctions lu) = tt
-talk_has form size wanted (Talking.Agreeing lu) = tt
-talk_has form size wanted (Talking.Rejecting reason) = tt
-talk_has form size wanted (Talking.Rejected reason) = tt
+talk_has : (form : Form) (size : Shape) (model : Model) (wanted : Option (List ℕ)) (talking : Talking) → FirstHas form size (talk_up model wanted talking)
+talk_has form size model wanted Talking.Offering = tt
+talk_has form size model wanted Talking.Accepting = tt
+talk_has form size model wanted Talking.AskingType = tt
+talk_has form size model wanted Talking.NamingType = tt
+talk_has form size model wanted (Talking.Granting lu) = tt
+talk_has form size model wanted (Talking.AskingFunctions lu) = tt
+talk_has form size model wanted (Talking.Agreeing lu) = tt
+talk_has form size model wanted (Talking.Rejecting reason) = tt
+talk_has form size model wanted (Talking.Rejected reason) = tt
 
 served_has : (scene : Scene) (serving : Serving) → ServingFact scene serving → FirstHas (form_awaited (pending_in serving)) scene.shape (served_up serving)
 served_has scene Serving.Deciding fact = tt
@@ -57,18 +58,18 @@ served_has scene (Serving.KeyBehind kind number command parts) fact = tt
 served_has scene (Serving.KeyNoted number command parts) fact = (fact.0.form, fact.0.size)
 served_has scene (Serving.KeyBefore number command parts) fact = (fact.0.form, fact.0.size)
 
-first_has : (scene : Scene) (wanted : Option (List ℕ)) (moment : Moment) → Fact wanted scene moment → FirstHas (form_awaited (pending_at moment)) scene.shape (up_at wanted moment)
-first_has scene wanted (Moment.Talks talking) fact = talk_has _ _ wanted talking
-first_has scene wanted (Moment.Begins lu number command paints over) fact = tt
-first_has scene wanted (Moment.Serves lu serving) fact = served_has scene serving fact
+first_has : (scene : Scene) (model : Model) (wanted : Option (List ℕ)) (moment : Moment) → Fact wanted scene moment → FirstHas (form_awaited (pending_at moment)) scene.shape (up_at model wanted moment)
+first_has scene model wanted (Moment.Talks talking) fact = talk_has _ _ model wanted talking
+first_has scene model wanted (Moment.Begins lu number command paints over) fact = tt
+first_has scene model wanted (Moment.Serves lu serving) fact = served_has scene serving fact
 
 awaited : (app : Application) (v : View) (parts : InboundParts) (rest : List ToHost) → Kept app v → v.up ≡ ToHost.Data parts ∷ rest → IsAwaitedBy v.host parts
 awaited app v parts rest k e =
-    let both = comes (form_awaited (pending_at k.moment)) v.host.shape v.lost v.up (up_at k.wanted k.moment) parts rest k.at.goes_up e (first_has (scene_of v) k.wanted k.moment k.fact) in
+    let both = comes (form_awaited (pending_at k.moment)) v.host.shape v.lost v.up (up_at v.model k.wanted k.moment) parts rest k.at.goes_up e (first_has (scene_of v) v.model k.wanted k.moment k.fact) in
     record { form = both.0 ∙ sym (ap form_awaited k.at.pending); size = both.1 }
 
 pub forms_awaited : Given → Always FormsAreAwaited
-forms_awaited given app pool terminals events is lists few are =
-    let world : World = run app events (new_world app pool terminals) in
-    let g = run_good given app is events (new_world app pool terminals) are (new_good given app is pool terminals lists) in
+forms_awaited given app pool models events is lists few are =
+    let world : World = run app events (new_world app pool models) in
+    let g = run_good given app is events (new_world app pool models) are (new_good given app is pool models lists) in
     λ number parts rest e. awaited app (view_of (world.link number)) parts rest (g.links number) e

@@ -1,5 +1,6 @@
 -- The headline follows from what is kept of each connection.
 use Rattle.std.proofs.Common.{◌≡◌, ℕ, Bool, true, false, ◌||◌, Option, Some, None, List, [], ◌∷◌, ◌++◌, refl, ap, sym, subst, ◌∙◌}
+use Rattle.codes3270.specs.declared.size.Model.{Model}
 use Rattle.std.specs.List.{list_any}
 use Rattle.codes3270.specs.declared.attention.Aid.{Aid}
 use Rattle.codes3270.specs.declared.attention.Aid.TheVariants.{NoAid, Enter as EnterAid, Clear as ClearAid, Pf as PfAid, Pa as PaAid}
@@ -38,23 +39,23 @@ use Rattle.world3270.proofs.Worlds.{GoodWorld, run_good, new_good}
 -- ---- who is bound to what
 
 -- where the terminal is bound to an LU, the host's end agreed on it
-agrees_at : (moment : Moment) (mine : List ℕ) → bound_to (term_state_at moment) ≡ Some mine → agreed_lu (host_talk_at moment).state ≡ Some mine
-agrees_at (Moment.Talks Talking.Offering) mine e = absurd (cc)
-agrees_at (Moment.Talks Talking.Accepting) mine e = absurd (cc)
-agrees_at (Moment.Talks Talking.AskingType) mine e = absurd (cc)
-agrees_at (Moment.Talks Talking.NamingType) mine e = absurd (cc)
-agrees_at (Moment.Talks (Talking.Granting lu)) mine e = absurd (cc)
-agrees_at (Moment.Talks (Talking.AskingFunctions lu)) mine e = absurd (cc)
-agrees_at (Moment.Talks (Talking.Agreeing lu)) mine e = absurd (cc)
-agrees_at (Moment.Talks (Talking.Rejecting reason)) mine e = absurd (cc)
-agrees_at (Moment.Talks (Talking.Rejected reason)) mine e = absurd (cc)
-agrees_at (Moment.Begins lu number command wanted over) mine e = absurd (cc)
-agrees_at (Moment.Serves lu serving) mine e = e
+agrees_at : (model : Model) (moment : Moment) (mine : List ℕ) → bound_to (term_state_at moment) ≡ Some mine → agreed_lu (host_talk_at model moment).state ≡ Some mine
+agrees_at model (Moment.Talks Talking.Offering) mine e = absurd (cc)
+agrees_at model (Moment.Talks Talking.Accepting) mine e = absurd (cc)
+agrees_at model (Moment.Talks Talking.AskingType) mine e = absurd (cc)
+agrees_at model (Moment.Talks Talking.NamingType) mine e = absurd (cc)
+agrees_at model (Moment.Talks (Talking.Granting lu)) mine e = absurd (cc)
+agrees_at model (Moment.Talks (Talking.AskingFunctions lu)) mine e = absurd (cc)
+agrees_at model (Moment.Talks (Talking.Agreeing lu)) mine e = absurd (cc)
+agrees_at model (Moment.Talks (Talking.Rejecting reason)) mine e = absurd (cc)
+agrees_at model (Moment.Talks (Talking.Rejected reason)) mine e = absurd (cc)
+agrees_at model (Moment.Begins lu number command wanted over) mine e = absurd (cc)
+agrees_at model (Moment.Serves lu serving) mine e = e
 
 bound_agrees : (app : Application) (v : View) (mine : List ℕ) → Kept app v → bound_to v.talk.talk.state ≡ Some mine → agreed_lu v.host.talk.state ≡ Some mine
 bound_agrees app v mine k e =
     ap (λ (t : Talk HostState). agreed_lu t.state) k.at.host_talk
-    ∙ agrees_at k.moment mine (sym (ap (λ (t : Term). bound_to t.talk.state) k.at.term_talk) ∙ e)
+    ∙ agrees_at v.model k.moment mine (sym (ap (λ (t : Term). bound_to t.talk.state) k.at.term_talk) ∙ e)
 
 -- an LU that was agreed on was granted
 agreed_granted : (state : HostState) (mine : List ℕ) → agreed_lu state ≡ Some mine → granted state ≡ Some mine
@@ -174,52 +175,52 @@ none_under : (lost : Bool) (queue messages : List ToHost) → UnderWay lost queu
 none_under lost queue messages way h = none_of is_refusal queue way.vanished (ap (list_any is_refusal) way.whole ∙ h)
 
 -- at no moment is a refusal under way
-none_at : (wanted : Option (List ℕ)) (moment : Moment) → list_any is_refusal (up_at wanted moment) ≡ false
-none_at wanted (Moment.Talks Talking.Offering) = refl
-none_at wanted (Moment.Talks Talking.Accepting) = refl
-none_at wanted (Moment.Talks Talking.AskingType) = refl
-none_at wanted (Moment.Talks Talking.NamingType) = refl
-none_at wanted (Moment.Talks (Talking.Granting lu)) = refl
-none_at wanted (Moment.Talks (Talking.AskingFunctions lu)) = refl
-none_at wanted (Moment.Talks (Talking.Agreeing lu)) = refl
-none_at wanted (Moment.Talks (Talking.Rejecting reason)) = refl
-none_at wanted (Moment.Talks (Talking.Rejected reason)) = refl
-none_at wanted (Moment.Begins lu number command wants over) = refl
-none_at wanted (Moment.Serves lu Serving.Deciding) = refl
-none_at wanted (Moment.Serves lu (Serving.Reading number)) = refl
-none_at wanted (Moment.Serves lu (Serving.Reported number parts)) = refl
-none_at wanted (Moment.Serves lu (Serving.NotedLate number command)) = refl
-none_at wanted (Moment.Serves lu (Serving.AnsweredLate number command)) = refl
-none_at wanted (Moment.Serves lu (Serving.Painting number command wants over)) = refl
-none_at wanted (Moment.Serves lu (Serving.Answering kind number command)) = refl
-none_at wanted (Moment.Serves lu Serving.Operating) = refl
-none_at wanted (Moment.Serves lu (Serving.Noting number command)) = refl
-none_at wanted (Moment.Serves lu (Serving.KeyAlone parts)) = refl
-none_at wanted (Moment.Serves lu (Serving.KeyBehind kind number command parts)) = refl
-none_at wanted (Moment.Serves lu (Serving.KeyNoted number command parts)) = refl
-none_at wanted (Moment.Serves lu (Serving.KeyBefore number command parts)) = refl
+none_at : (model : Model) (wanted : Option (List ℕ)) (moment : Moment) → list_any is_refusal (up_at model wanted moment) ≡ false
+none_at model wanted (Moment.Talks Talking.Offering) = refl
+none_at model wanted (Moment.Talks Talking.Accepting) = refl
+none_at model wanted (Moment.Talks Talking.AskingType) = refl
+none_at model wanted (Moment.Talks Talking.NamingType) = refl
+none_at model wanted (Moment.Talks (Talking.Granting lu)) = refl
+none_at model wanted (Moment.Talks (Talking.AskingFunctions lu)) = refl
+none_at model wanted (Moment.Talks (Talking.Agreeing lu)) = refl
+none_at model wanted (Moment.Talks (Talking.Rejecting reason)) = refl
+none_at model wanted (Moment.Talks (Talking.Rejected reason)) = refl
+none_at model wanted (Moment.Begins lu number command wants over) = refl
+none_at model wanted (Moment.Serves lu Serving.Deciding) = refl
+none_at model wanted (Moment.Serves lu (Serving.Reading number)) = refl
+none_at model wanted (Moment.Serves lu (Serving.Reported number parts)) = refl
+none_at model wanted (Moment.Serves lu (Serving.NotedLate number command)) = refl
+none_at model wanted (Moment.Serves lu (Serving.AnsweredLate number command)) = refl
+none_at model wanted (Moment.Serves lu (Serving.Painting number command wants over)) = refl
+none_at model wanted (Moment.Serves lu (Serving.Answering kind number command)) = refl
+none_at model wanted (Moment.Serves lu Serving.Operating) = refl
+none_at model wanted (Moment.Serves lu (Serving.Noting number command)) = refl
+none_at model wanted (Moment.Serves lu (Serving.KeyAlone parts)) = refl
+none_at model wanted (Moment.Serves lu (Serving.KeyBehind kind number command parts)) = refl
+none_at model wanted (Moment.Serves lu (Serving.KeyNoted number command parts)) = refl
+none_at model wanted (Moment.Serves lu (Serving.KeyBefore number command parts)) = refl
 
 none_refused : (app : Application) (v : View) → Kept app v → list_any is_refusal v.up ≡ false
-none_refused app v k = none_under v.lost v.up (up_at k.wanted k.moment) k.at.goes_up (none_at k.wanted k.moment)
+none_refused app v k = none_under v.lost v.up (up_at v.model k.wanted k.moment) k.at.goes_up (none_at v.model k.wanted k.moment)
 
 -- ---- the theorems
 
 pub headline : Given → Always HeadlineHolds
-headline given app pool terminals events is lists few are =
-    let world : World = run app events (new_world app pool terminals) in
-    let g = run_good given app is events (new_world app pool terminals) are (new_good given app is pool terminals lists) in
+headline given app pool models events is lists few are =
+    let world : World = run app events (new_world app pool models) in
+    let g = run_good given app is events (new_world app pool models) are (new_good given app is pool models lists) in
     record { one_session_each = one_session app world g; bound_is_granted = bound_granted app world g; agrees = λ number h. agrees given app (world.link number) (g.links number) h }
 
 pub nobody_refuses : Given → Always NobodyRefuses
-nobody_refuses given app pool terminals events is lists few are =
-    let world : World = run app events (new_world app pool terminals) in
-    let g = run_good given app is events (new_world app pool terminals) are (new_good given app is pool terminals lists) in
+nobody_refuses given app pool models events is lists few are =
+    let world : World = run app events (new_world app pool models) in
+    let g = run_good given app is events (new_world app pool models) are (new_good given app is pool models lists) in
     record { none_said = g.positive; none_refused = λ number. none_refused app (view_of (world.link number)) (g.links number); none_closed = g.uncaused }
 
 pub acts_on_the_key : Given → Always ActsOnTheKey
-acts_on_the_key given app pool terminals events is lists few are =
-    let world : World = run app events (new_world app pool terminals) in
-    let g = run_good given app is events (new_world app pool terminals) are (new_good given app is pool terminals lists) in
+acts_on_the_key given app pool models events is lists few are =
+    let world : World = run app events (new_world app pool models) in
+    let g = run_good given app is events (new_world app pool models) are (new_good given app is pool models lists) in
     λ number h. (knows_turn app (world.link number) (g.links number) h).turn_reason
 
 sent_closed : (aid : Aid) (buffered : Bool) (s : Shadow) → SentFields aid → IsOpenBy aid buffered s → NothingIsOpen s
@@ -235,15 +236,15 @@ closed_by_key (turn_reasons.Key pressed buffered) aid s is sent o = sent_closed 
 closed_by_key turn_reasons.Refusal aid s is sent o = absurd is
 
 pub leaves_nothing_open : Given → Always LeavesNothingOpen
-leaves_nothing_open given app pool terminals events is lists few are =
-    let world : World = run app events (new_world app pool terminals) in
-    let g = run_good given app is events (new_world app pool terminals) are (new_good given app is pool terminals lists) in
+leaves_nothing_open given app pool models events is lists few are =
+    let world : World = run app events (new_world app pool models) in
+    let g = run_good given app is events (new_world app pool models) are (new_good given app is pool models lists) in
     λ number h sent.
     let known = knows_turn app (world.link number) (g.links number) h in
     closed_by_key (world.link number).host.turn_reason (world.link number).term.display.screen.aid (world.link number).host.shadow known.turn_reason sent known.closed
 
 pub knows_the_cleared : Given → Always KnowsTheCleared
-knows_the_cleared given app pool terminals events is lists few are =
-    let world : World = run app events (new_world app pool terminals) in
-    let g = run_good given app is events (new_world app pool terminals) are (new_good given app is pool terminals lists) in
+knows_the_cleared given app pool models events is lists few are =
+    let world : World = run app events (new_world app pool models) in
+    let g = run_good given app is events (new_world app pool models) are (new_good given app is pool models lists) in
     λ number h. (knows_turn app (world.link number) (g.links number) h).cleared

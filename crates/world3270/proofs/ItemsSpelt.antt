@@ -1,8 +1,9 @@
 -- What the host sends in its turn, and notes, are spelt: the item of each stands for it, and may come.
 use Rattle.std.proofs.Common.{◌≡◌, ◌≤◌, ◌+◌, ◌*◌, ℕ, true, Some, List, [], ◌++◌, length, refl, ap, sym, subst, arith, inr, IfSome}
+use Rattle.host_core.specs.Application.{IsShape}
 use Rattle.std.specs.Prelude.{⊤, All}
 use Rattle.codes3270.proofs.RoundTrips.{wcc_read_back}
-use Rattle.codes3270.specs.Size.{Shape, cells_in, model_2, most_cells}
+use Rattle.codes3270.specs.Size.{Shape, cells_in, most_cells, most_columns}
 use Rattle.datastream.proofs.Commands.{command_proper}
 use Rattle.datastream.proofs.Written.{orders_written}
 use Rattle.datastream.specs.Grammar.{CommandParts, IsCommand, write, other, IsProper}
@@ -24,12 +25,12 @@ use Rattle.world3270.specs.Sendable.{PaintsAScreen, IsSpelt}
 use Rattle.world3270.specs.Stands.{StandsDown}
 use Rattle.world3270.specs.StandsEnds.{PaintStands}
 
--- what fits where it is sent: a paint what is believed, and it and a note a model 2
+-- what fits where it is sent: a paint what is believed, and a note a screen of some size
 abbrev pub Suits : ToTerminal → Type 0
 Suits (ToTerminal.TalksDown saying) = ⊥
-Suits (ToTerminal.Paint number wanted believed) = (is_paintable believed wanted ≡ true) × (wanted.size ≡ model_2)
+Suits (ToTerminal.Paint number wanted believed) = is_paintable believed wanted ≡ true
 Suits (ToTerminal.ReadBuffer number) = ⊤
-Suits (ToTerminal.Note number command) = IsNoteOf model_2 command
+Suits (ToTerminal.Note number command) = (size : Shape) × IsShape size × (size.columns ≤ most_columns) × IsNoteOf size command
 
 -- what is known of a command under way
 pub record IsSound (message : ToTerminal) : Type 0 where
@@ -54,16 +55,17 @@ record_length header body = omega arith
 paint_fits : (whole bytes cells : ℕ) → whole ≡ 5 + bytes → bytes ≤ 9 + 3 * cells → cells ≤ most_cells → whole ≤ record_limit
 paint_fits whole bytes cells is few size = omega arith
 
-note_spelt : (command : CommandParts) (text : List ℕ) → command ≡ note_command model_2 text → All (IsProper (cells_in command.size)) command.orders → IsCommand model_2 model_2 command (written command)
-note_spelt command text is proper =
-    subst (λ (c : CommandParts). IsCommand model_2 model_2 c (written c)) (sym is)
+note_spelt : (size alternate : Shape) (command : CommandParts) (text : List ℕ) → cells_in size ≤ most_cells → command ≡ note_command size text
+    → All (IsProper (cells_in command.size)) command.orders → IsCommand command.size alternate command (written command)
+note_spelt size alternate command text few is proper =
+    subst (λ (c : CommandParts). IsCommand c.size alternate c (written c)) (sym is)
     (write _ _ _ refl (inr refl) refl (ap (λ w. Some w) (sym (wcc_read_back quiet)))
-    (orders_written (cells_in model_2) (omega arith) (note_orders model_2 text) (subst (λ (c : CommandParts). All (IsProper (cells_in c.size)) c.orders) is proper)) refl)
+    (orders_written (cells_in size) few (note_orders size text) (subst (λ (c : CommandParts). All (IsProper (cells_in c.size)) c.orders) is proper)) refl)
 
-note_comes : (number : ℕ) (command : CommandParts) (text : List ℕ) → command ≡ note_command model_2 text
+note_comes : (size : Shape) (number : ℕ) (command : CommandParts) (text : List ℕ) → size.columns ≤ most_columns → command ≡ note_command size text
     → length (command_record always_response number command) ≤ record_limit
-note_comes number command text is =
-    let fits = note_record_fits number text (command_record always_response number (note_command model_2 text)) refl in
+note_comes size number command text narrow is =
+    let fits = note_record_fits size number text (command_record always_response number (note_command size text)) narrow refl in
     subst (λ (c : CommandParts). length (command_record always_response number c) ≤ record_limit) (sym is) (omega arith)
 
 pub spells : PaintStands → PaintIsBounded → (message : ToTerminal) → Suits message → IsSound message → Spells message
@@ -73,7 +75,7 @@ spells stands bounded (ToTerminal.Paint number wanted believed) suits sound =
     record {
       stands = stands number wanted believed (spelling (command_header always_response number) ++ body) body sound.screen.size
           (begins always_response number body (omega arith) sound.number)
-          (subst (λ (size : Shape). IsCommand size size (paint (cells_in wanted.size) believed wanted) body) suits.1 sound.spelt) suits.0;
+          sound.spelt suits;
       comes = paint_fits (length (spelling (command_header always_response number) ++ body)) (length body) (length wanted.cells)
           (record_length (command_header always_response number) body) (bounded (cells_in wanted.size) believed wanted (omega (arith, sound.screen.size))) (omega (arith, sound.screen.size, sound.screen.few));
     }
@@ -83,7 +85,7 @@ spells stands bounded (ToTerminal.ReadBuffer number) suits sound = record {
     body = read_buffer_bytes;
     is_record = refl;
     begins = begins error_response number read_buffer_bytes (omega arith) sound.number;
-    spelt = other _ [] refl (inr refl) refl refl refl refl;
+    spelt = λ now alternate. other _ [] refl (inr refl) refl refl refl refl;
   };
   comes = omega arith;
 }
@@ -93,7 +95,7 @@ spells stands bounded (ToTerminal.Note number command) suits sound = record {
     body = written command;
     is_record = refl;
     begins = begins always_response number (written command) (omega arith) sound.number;
-    spelt = note_spelt command suits.text suits.is (command_proper command sound.spelt);
+    spelt = λ alternate. note_spelt suits.0 alternate command suits.3.text suits.1.addresses suits.3.is (command_proper command sound.spelt);
   };
-  comes = note_comes number command suits.text suits.is;
+  comes = note_comes suits.0 number command suits.3.text suits.2 suits.3.is;
 }

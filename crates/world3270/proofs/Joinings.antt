@@ -1,9 +1,9 @@
 -- Where a terminal connects the world over bytes stands for the one over messages in which it does; and so at the begin.
-use Rattle.std.proofs.Common.{◌≡◌, ◌⊎◌, inl, inr, ◌<◌, ◌≤◌, ◌+◌, not, ℕ, zero, suc, Bool, true, false, Option, None, Some, List, [], length, replicate, slice_index_or, refl, ap, sym, subst, ◌∙◌, arith, if◌then◌else◌}
+use Rattle.std.proofs.Common.{◌≡◌, ◌⊎◌, inl, inr, ◌<◌, ◌≤◌, ◌+◌, not, ℕ, zero, suc, Bool, true, false, Option, None, Some, List, [], length, replicate, slice_index_or, refl, ap, sym, subst, ◌∙◌, arith, if◌then◌else◌, map, ◌∷◌}
 use Rattle.std.specs.List.{position_from}
 use Rattle.std.proofs.lemmas.Bool.{cases_lt}
 use Rattle.std.proofs.lemmas.Iterator.Adapters.{position_from-zero}
-use Rattle.std.proofs.lemmas.List.{get_or_past, get_or-replicate, length-replicate, length-set}
+use Rattle.std.proofs.lemmas.List.{get_or_past, get_or-replicate, length-replicate, length-set, length-map}
 use Rattle.codes3270.specs.Size.{model_2}
 use Rattle.codes3270.specs.declared.size.Model.{Model}
 use Rattle.codes3270.specs.declared.size.Model.TheVariants.{M2}
@@ -41,15 +41,15 @@ found_below (suc count) number found world is = by_test (is_held number world) i
 
 -- ---- a terminal connects
 
-module _ (number terminal : ℕ) (wanted : Option (List ℕ)) (old : ByteWorld) where
+module _ (model : Model) (number terminal : ℕ) (wanted : Option (List ℕ)) (old : ByteWorld) where
   abbrev pub connected : ByteWorld
-  connected = with_transits number begun_transits (with_slot terminal (attached_slot (model_at terminal old) wanted number) (with_host (with_connection number opened old.host) old))
+  connected = with_transits number begun_transits (with_slot terminal (attached_slot (model_at terminal old) wanted number) (with_host (with_connection number (opened old.host.panels) old.host) old))
 
   -- the connection that begins
-  begun_link : BeginStands → transits_at number connected ≡ begun_transits → connection_at number connected.host ≡ opened → slot_at terminal connected ≡ attached_slot (model_at terminal old) wanted number → model_at terminal old ≡ M2
-      → LinkStands (link_with (Some terminal) number connected) (begun model_2 terminal wanted)
-  begun_link begins transits connection slot model =
-      like_stands (begun_bytes terminal wanted) (link_with (Some terminal) number connected) (begun model_2 terminal wanted)
+  begun_link : BeginStands → transits_at number connected ≡ begun_transits → connection_at number connected.host ≡ opened old.host.panels → slot_at terminal connected ≡ attached_slot (model_at terminal old) wanted number → model_at terminal old ≡ model
+      → LinkStands (link_with (Some terminal) number connected) (begun (application_of old.host.panels) model terminal wanted)
+  begun_link begins transits connection slot is =
+      like_stands (begun_bytes old.host.panels model terminal wanted) (link_with (Some terminal) number connected) (begun (application_of old.host.panels) model terminal wanted)
       (record {
         lost = ap (λ (w : Transits). not (is_live w.down)) transits;
         host_here = ap (λ (l : Connection). is_there l.service) connection;
@@ -57,9 +57,9 @@ module _ (number terminal : ℕ) (wanted : Option (List ℕ)) (old : ByteWorld) 
         down = ap (λ (w : Transits). under_way w.down (host_out number connected)) transits ∙ ap (λ (l : Connection). l.out) connection;
         up = ap (λ (w : Transits). under_way w.up (out_of (Some terminal) connected)) transits ∙ ap (λ (s : TerminalSlot). s.tracked.terminal.out) slot;
         host = λ e. (ap (λ (l : Connection). conn_of l.service) connection, ap (λ (l : Connection). rest_of l.service) connection);
-        tracked = λ who e. ap (λ (s : TerminalSlot). with_out [] s.tracked) slot ∙ ap (λ (m : Model). newly_tracked m wanted) model;
+        tracked = λ who e. ap (λ (s : TerminalSlot). with_out [] s.tracked) slot ∙ ap (λ (m : Model). newly_tracked m wanted) is;
       })
-      (begins terminal wanted)
+      (begins old.host.panels model terminal wanted)
 
   begun_flow : transits_at number connected ≡ begun_transits → AreTransits (Some terminal) number connected
   begun_flow transits = record {
@@ -69,27 +69,27 @@ module _ (number terminal : ℕ) (wanted : Option (List ℕ)) (old : ByteWorld) 
   }
 
   pub connected_stands : (was : World) → BeginStands → EndsAgree was → WorldStands old was → number < length old.links → terminal < length old.slots
-      → (slot_at terminal old).at ≡ None
-      → EndsAgree (record was { link = with_at number (begun model_2 terminal wanted) was.link; place = with_at terminal (Place.At number) was.place })
-      → WorldStands connected (record was { link = with_at number (begun model_2 terminal wanted) was.link; place = with_at terminal (Place.At number) was.place })
-  connected_stands was begins agree stands below there_is alone agrees =
-      let now : World = record was { link = with_at number (begun model_2 terminal wanted) was.link; place = with_at terminal (Place.At number) was.place } in
-      let hosted : ByteWorld = with_host (with_connection number opened old.host) old in
+      → (slot_at terminal old).at ≡ None → model_at terminal old ≡ model
+      → EndsAgree (record was { link = with_at number (begun (application_of old.host.panels) model terminal wanted) was.link; place = with_at terminal (Place.At number) was.place })
+      → WorldStands connected (record was { link = with_at number (begun (application_of old.host.panels) model terminal wanted) was.link; place = with_at terminal (Place.At number) was.place })
+  connected_stands was begins agree stands below there_is alone modelled agrees =
+      let now : World = record was { link = with_at number (begun (application_of old.host.panels) model terminal wanted) was.link; place = with_at terminal (Place.At number) was.place } in
+      let hosted : ByteWorld = with_host (with_connection number (opened old.host.panels) old.host) old in
       let attached : ByteWorld = with_slot terminal (attached_slot (model_at terminal old) wanted number) hosted in
       let within : number < length old.host.connections = subst (λ (n : ℕ). number < n) (stands.transits ∙ sym stands.connections) below in
       let transits : transits_at number connected ≡ begun_transits = transits_same number begun_transits attached below in
-      let connection : connection_at number connected.host ≡ opened = connection_same number opened old.host within in
+      let connection : connection_at number connected.host ≡ opened old.host.panels = connection_same number (opened old.host.panels) old.host within in
       let slot : slot_at terminal connected ≡ attached_slot (model_at terminal old) wanted number = slot_same terminal (attached_slot (model_at terminal old) wanted number) hosted there_is in
-      let is : now.link number ≡ begun model_2 terminal wanted = with_same number (begun model_2 terminal wanted) was.link in
+      let is : now.link number ≡ begun (application_of old.host.panels) model terminal wanted = with_same number (begun (application_of old.host.panels) model terminal wanted) was.link in
       let goes : now.place terminal ≡ Place.At number = with_same terminal (Place.At number) was.place in
       changed_stands number terminal old connected was now
       (record {
-        connections = λ other differs. connection_other number other opened old.host differs;
+        connections = λ other differs. connection_other number other (opened old.host.panels) old.host differs;
         transits = λ other differs. transits_other number other begun_transits attached differs;
         slots = λ other differs. slot_other terminal other (attached_slot (model_at terminal old) wanted number) hosted differs;
-        links = λ other differs. with_other number other (begun model_2 terminal wanted) was.link differs;
+        links = λ other differs. with_other number other (begun (application_of old.host.panels) model terminal wanted) was.link differs;
         places = λ other differs. with_other terminal other (Place.At number) was.place differs;
-        connection_count = length-set old.host.connections number opened;
+        connection_count = length-set old.host.connections number (opened old.host.panels);
         way_count = length-set old.links number begun_transits;
         slot_count = length-set old.slots terminal (attached_slot (model_at terminal old) wanted number);
         terminals = refl;
@@ -99,20 +99,19 @@ module _ (number terminal : ℕ) (wanted : Option (List ℕ)) (old : ByteWorld) 
         none_closed = subst (λ (l : Connection). IsNotClosed l.service) (sym connection) tt;
         settled = subst (λ (l : Connection). IsSettled l) (sym connection) (λ free. absurd (cc));
         flow = subst (λ (l : Link). AreTransits l.term_here number connected) (sym is) (begun_flow transits);
-        link = subst (λ (l : Link). LinkStands (link_with l.term_here number connected) l) (sym is) (begun_link begins transits connection slot (model_is terminal old was agree stands));
+        link = subst (λ (l : Link). LinkStands (link_with l.term_here number connected) l) (sym is) (begun_link begins transits connection slot modelled);
         place = subst (λ (p : Place). IsAt (slot_at terminal connected) p) (sym goes) (ap (λ (s : TerminalSlot). s.at) slot);
       })
       agree stands agrees
 
 -- ---- a terminal that begins anew
 
-new_is_alone : IsAt (new_slot M2) (Place.Alone (new_display model_2))
-new_is_alone = (refl, record { detached = refl; silent = refl; shape = refl; screen = refl; keyboard = refl; last_restored = refl; erased = refl })
+new_is_alone : (model : Model) → IsAt (new_slot model) (Place.Alone (new_display model model_2))
+new_is_alone model = (refl, record { detached = refl; silent = refl; screen = refl; keyboard = refl; last_restored = refl; erased = refl })
 
--- whichever terminal it is, since each is a model 2
-pub begins_alone : (terminal : ℕ) (old : ByteWorld) (was : World) → EndsAgree was → WorldStands old was → IsAt (new_slot (model_at terminal old)) (Place.Alone (new_display model_2))
-begins_alone terminal old was agree stands =
-    subst (λ (m : Model). IsAt (new_slot m) (Place.Alone (new_display model_2))) (sym (model_is terminal old was agree stands)) new_is_alone
+-- with the model that it had
+pub begins_alone : (terminal : ℕ) (old : ByteWorld) (model : Model) → model_at terminal old ≡ model → IsAt (new_slot (model_at terminal old)) (Place.Alone (new_display model model_2))
+begins_alone terminal old model is = subst (λ (m : Model). IsAt (new_slot m) (Place.Alone (new_display model model_2))) (sym is) (new_is_alone model)
 
 -- ---- one of equal ones
 
@@ -125,16 +124,22 @@ get_or_equal {X} count number x = by_order (cases_lt number count)
 
 -- ---- at the begin
 
-none_from : (number count start : ℕ) → position_from (λ slot. is_attached_to number slot.at) start (replicate count (new_slot M2)) ≡ None
-none_from number zero start = refl
-none_from number (suc count) start = none_from number count (start + 1)
+none_from : (number : ℕ) (models : List Model) (start : ℕ) → position_from (λ slot. is_attached_to number slot.at) start (map new_slot models) ≡ None
+none_from number [] start = refl
+none_from number (model ∷ models) start = none_from number models (start + 1)
 
-module _ (empty : NothingStands all_items StandsUp) (panels : Panels) (pool : List Entry) (terminals : ℕ) where
+-- the slot of a terminal is a new one of its model
+slot_of_model : (models : List Model) (terminal : ℕ) → slice_index_or (map new_slot models) terminal (new_slot M2) ≡ new_slot (slice_index_or models terminal M2)
+slot_of_model [] terminal = refl
+slot_of_model (model ∷ models) zero = refl
+slot_of_model (model ∷ models) (suc terminal) = slot_of_model models terminal
+
+module _ (empty : NothingStands all_items StandsUp) (panels : Panels) (pool : List Entry) (models : List Model) where
   abbrev begins : ByteWorld
-  begins = new_byte_world panels pool terminals
+  begins = new_byte_world panels pool models
 
   nobody : (number : ℕ) → terminal_at number begins.slots ≡ None
-  nobody number = position_from-zero (λ slot. is_attached_to number slot.at) (replicate terminals (new_slot M2)) ∙ none_from number terminals 0
+  nobody number = position_from-zero (λ slot. is_attached_to number slot.at) (map new_slot models) ∙ none_from number models 0
 
   connection_begun : (number : ℕ) → connection_at number begins.host ≡ unused
   connection_begun number = get_or_equal most_connections number unused
@@ -150,7 +155,7 @@ module _ (empty : NothingStands all_items StandsUp) (panels : Panels) (pool : Li
     up = subst (λ (w : Transits). IsFlow false [] w.up) (sym (transits_begun number)) refl;
   }
 
-  link_begun : (number : ℕ) → LinkStands (link_with None number begins) (unused_link model_2)
+  link_begun : (number : ℕ) → LinkStands (link_with None number begins) (unused_link (application_of panels))
   link_begun number = record {
     lost = ap (λ (w : Transits). not (is_live w.down)) (transits_begun number);
     host_here = ap (λ (l : Connection). is_there l.service) (connection_begun number);
@@ -161,15 +166,16 @@ module _ (empty : NothingStands all_items StandsUp) (panels : Panels) (pool : Li
     term = λ terminal e. absurd (cc);
   }
 
-  pub begin_stands : WorldStands begins (new_world (application_of panels) pool terminals)
+  pub begin_stands : WorldStands begins (new_world (application_of panels) pool models)
   begin_stands = record {
     connections = length-replicate most_connections unused;
     transits = length-replicate most_connections unused_transits;
-    terminals = length-replicate terminals (new_slot M2);
+    terminals = length-map models new_slot;
     pool = refl;
     none_closed = λ number. subst (λ (l : Connection). IsNotClosed l.service) (sym (connection_begun number)) tt;
     settled = λ number. subst (λ (l : Connection). IsSettled l) (sym (connection_begun number)) (λ free. refl);
     flows = λ number. subst (λ (h : Option ℕ). AreTransits h number begins) (sym (nobody number)) (flow_begun number);
-    links = λ number. subst (λ (h : Option ℕ). LinkStands (link_with h number begins) (unused_link model_2)) (sym (nobody number)) (link_begun number);
-    places = λ terminal. subst (λ (s : TerminalSlot). IsAt s (Place.Alone (new_display model_2))) (sym (get_or_equal terminals terminal (new_slot M2))) new_is_alone;
+    links = λ number. subst (λ (h : Option ℕ). LinkStands (link_with h number begins) (unused_link (application_of panels))) (sym (nobody number)) (link_begun number);
+    places = λ terminal. subst (λ (s : TerminalSlot). IsAt s (Place.Alone (new_display (slice_index_or models terminal M2) model_2))) (sym (slot_of_model models terminal))
+        (new_is_alone (slice_index_or models terminal M2));
   }

@@ -40,9 +40,9 @@ use Rattle.host_core.specs.NoteLaws.{HasMessageRow, TakesNotes}
 use Rattle.world3270.specs.Given.{Given}
 use Rattle.world3270.specs.Headline.{SentFields}
 use Rattle.world3270.specs.Link.{Link, sent, term_stepped}
-use Rattle.world3270.specs.Moments.{Serving, Moment, UnderWay, IsAt, turn_at, pending_at, down_at, up_at}
+use Rattle.world3270.specs.Moments.{Serving, Moment, UnderWay, IsAt, turn_at, pending_at, down_at, up_at, served_down, served_up}
 use Rattle.world3270.specs.TurnReasons.{IsCleared, IsOpenBy}
-use Rattle.world3270.specs.Stages.{Scene, scene_of, once_taken, FactsAreExact, Operates, Sees, IsPressed, WillSee, Fact, Kept}
+use Rattle.world3270.specs.Stages.{Scene, scene_of, once_taken, FactsAreExact, Operates, Sees, IsPressed, WillSee, Fact, Kept, Sizes}
 use Rattle.world3270.specs.Terminal.{Display, is_bound, bound_to, data_of, erases_if, outcome_of, key_came}
 use Rattle.world3270.specs.View.{View, view_of}
 use Rattle.world3270.proofs.Down.{ok_map}
@@ -258,7 +258,7 @@ will_see given erased shape size shadow left screen aid is whole exact knows clo
 -- ---- by what the key is answered
 
 module _ (given : Given) (app : Application) (link : Link) (key : Key) (k : Kept app (view_of link)) (lu : List ℕ) (from : Serving) (shadow : Shadow)
-    (at : IsAt (view_of link) k.wanted (Moment.Serves lu from)) (f : Operates shadow (scene_of (view_of link))) where
+    (at : IsAt (view_of link) k.wanted (Moment.Serves lu from)) (same : link.term.display.shape ≡ link.host.shape) (f : Operates shadow (scene_of (view_of link))) where
   abbrev v : View
   v = view_of link
 
@@ -270,11 +270,11 @@ module _ (given : Given) (app : Application) (link : Link) (key : Key) (k : Kept
     turn = at.turn;
     pending = at.pending;
     goes_down = at.goes_down;
-    goes_up = subst (UnderWay v.lost (sent v.lost v.up [])) (append-nil (up_at k.wanted (Moment.Serves lu from))) (more v.lost v.up (up_at k.wanted (Moment.Serves lu from)) [] at.goes_up);
+    goes_up = subst (UnderWay v.lost (sent v.lost v.up [])) (append-nil (served_up from)) (more v.lost v.up (served_up from) [] at.goes_up);
   }
 
   sends_at : (to : Serving) (parts : InboundParts) (screen : Screen) (lock : Lock) (erased : Bool) → turn_at (Moment.Serves lu to) ≡ turn_at (Moment.Serves lu from) → pending_at (Moment.Serves lu to) ≡ pending_at (Moment.Serves lu from)
-      → down_at (Moment.Serves lu to) ≡ down_at (Moment.Serves lu from) → up_at k.wanted (Moment.Serves lu from) ++ ToHost.Data parts ∷ [] ≡ up_at k.wanted (Moment.Serves lu to)
+      → served_down to ≡ served_down from → served_up from ++ ToHost.Data parts ∷ [] ≡ served_up to
       → IsAt (seen_as v (sent v.lost v.up (ToHost.Data parts ∷ [])) screen lock erased) k.wanted (Moment.Serves lu to)
   sends_at to parts screen lock erased turn pending down up = record {
     host_talk = at.host_talk;
@@ -282,7 +282,7 @@ module _ (given : Given) (app : Application) (link : Link) (key : Key) (k : Kept
     turn = at.turn ∙ sym turn;
     pending = at.pending ∙ sym pending;
     goes_down = subst (UnderWay v.lost v.down) (sym down) at.goes_down;
-    goes_up = subst (UnderWay v.lost (sent v.lost v.up (ToHost.Data parts ∷ []))) up (more v.lost v.up (up_at k.wanted (Moment.Serves lu from)) (ToHost.Data parts ∷ []) at.goes_up);
+    goes_up = subst (UnderWay v.lost (sent v.lost v.up (ToHost.Data parts ∷ []))) up (more v.lost v.up (served_up from) (ToHost.Data parts ∷ []) at.goes_up);
   }
 
   abbrev scene_now : Screen → Lock → Bool → Scene
@@ -297,37 +297,37 @@ module _ (given : Given) (app : Application) (link : Link) (key : Key) (k : Kept
     at_to : (parts : InboundParts) (screen : Screen) (lock : Lock) (erased : Bool) → IsAt (seen_as v (sent v.lost v.up (ToHost.Data parts ∷ [])) screen lock erased) k.wanted (Moment.Serves lu (to parts))
 
   -- a key that sends nothing
-  stays : Typing → (screen : Screen) (lock : Lock) (erased : Bool) → length screen.cells ≡ cells_in v.host.shape → screen.cursor < cells_in v.host.shape → (lock ≡ Wait → ⊥) → Held erased f.shown.cells screen.cells
+  stays : Typing → (screen : Screen) (lock : Lock) (erased : Bool) → length screen.cells ≡ cells_in v.shape → screen.cursor < cells_in v.shape → (lock ≡ Wait → ⊥) → Held erased f.shown.cells screen.cells
       → Kept app (seen_as v (sent v.lost v.up []) screen lock erased)
   stays typing screen lock erased whole cursor free held = record {
-    shape = record { begins = k.shape.begins; same = k.shape.same };
     whole = whole;
     cursor = cursor;
     unreturned = λ _. kept_of given.notes.still_protected erased v.last_restored.cells f.shown.cells screen.cells held f.noted;
     exact = k.exact;
     wanted = k.wanted;
     moment = Moment.Serves lu from;
+    sizes = record { host = k.sizes.host; screen = k.sizes.screen; same = λ steady. same };
     at = stays_at screen lock erased;
     fact = typing.stay screen lock erased (record { shown = f.shown; lock = free; exact = f.exact; meets = f.meets; closed = f.closed; knows = f.knows; held = held; messages = f.messages; noted = f.noted });
   }
 
   -- a key that sends
-  sends : Typing → (screen : Screen) (lock : Lock) (erased : Bool) (aid : Aid) → length screen.cells ≡ cells_in v.host.shape → screen.cursor < cells_in v.host.shape → lock ≡ Wait → screen.aid ≡ aid → (aid ≡ NoAid → ⊥)
+  sends : Typing → (screen : Screen) (lock : Lock) (erased : Bool) (aid : Aid) → length screen.cells ≡ cells_in v.shape → screen.cursor < cells_in v.shape → lock ≡ Wait → screen.aid ≡ aid → (aid ≡ NoAid → ⊥)
       → KeepsSent erased aid f.shown.cells screen.cells → Kept app (seen_as v (sent v.lost v.up (ToHost.Data (modified_data Modified v.shape screen) ∷ [])) screen lock erased)
   sends typing screen lock erased aid whole cursor waits is some keeps =
       let parts : InboundParts = modified_data Modified v.shape screen in
       record {
-        shape = record { begins = k.shape.begins; same = k.shape.same };
         whole = whole;
         cursor = cursor;
         unreturned = λ fields. kept_of given.notes.still_protected erased v.last_restored.cells f.shown.cells screen.cells (held_fields erased f.shown.cells screen.cells aid keeps (subst SentFields is fields)) f.noted;
         exact = k.exact;
         wanted = k.wanted;
         moment = Moment.Serves lu (typing.to parts);
+        sizes = record { host = k.sizes.host; screen = k.sizes.screen; same = λ steady. same };
         at = typing.at_to parts screen lock erased;
         fact = typing.press parts screen lock erased
-            (record { lock = waits; form = key_form v.shape screen; size = key_size v.shape screen ∙ k.shape.same; pressed = key_aid v.shape screen; some = λ none. some (sym is ∙ none) })
-            (will_see given erased v.host.shape v.shape shadow f.shown screen aid is whole f.exact f.knows f.closed f.meets keeps)
+            (record { lock = waits; form = key_form v.shape screen; size = key_size v.shape screen ∙ same; pressed = key_aid v.shape screen; some = λ none. some (sym is ∙ none) })
+            (will_see given erased v.host.shape v.shape shadow f.shown screen aid is (whole ∙ ap (λ (s : Shape). cells_in s) same) f.exact f.knows f.closed f.meets keeps)
             (takes_notes given v.host.shape erased f.shown.cells screen.cells aid keeps f.messages);
       }
 
@@ -339,7 +339,7 @@ module _ (given : Given) (app : Application) (link : Link) (key : Key) (k : Kept
   bound : is_bound link.term ≡ true
   bound = ap (λ (t : Term). is_some (bound_to t.talk.state)) at.term_talk
 
-  by_answer : Typing → (outcome : Outcome) (answer : Pressed) → length outcome.screen.cells ≡ cells_in v.host.shape → outcome.screen.cursor < cells_in v.host.shape → ActsBy answer outcome
+  by_answer : Typing → (outcome : Outcome) (answer : Pressed) → length outcome.screen.cells ≡ cells_in v.shape → outcome.screen.cursor < cells_in v.shape → ActsBy answer outcome
       → Keeps v.erased key answer f.shown.cells outcome.screen.cells → Kept app (said outcome answer)
   by_answer typing outcome Done whole cursor a keeps =
       subst (λ says. Kept app (seen_as v (sent v.lost v.up says) outcome.screen outcome.keyboard.lock (v.erased || erases key))) (sym (quiet_done (is_bound link.term) v.shape outcome.screen))
@@ -365,46 +365,46 @@ module _ (given : Given) (app : Application) (link : Link) (key : Key) (k : Kept
 -- ---- any key, at any moment
 
 pub keys : Given → (app : Application) (link : Link) (key : Key) → Kept app (view_of link) → Kept app (view_of (key_view key link))
-keys given app link key k = by_moment k.moment k.at k.fact
+keys given app link key k = by_moment k.moment k.sizes k.at k.fact
   where
     wait : link.term.display.keyboard.lock ≡ Wait → Kept app (view_of (key_view key link))
     wait e = subst (Kept app) (sym (key_waits key link e)) k
 
-    by_serving : (lu : List ℕ) (serving : Serving) → IsAt (view_of link) k.wanted (Moment.Serves lu serving) → Fact k.wanted (scene_of (view_of link)) (Moment.Serves lu serving) → Kept app (view_of (key_view key link))
-    by_serving lu (Serving.Answering kind number command) at f =
+    by_serving : (lu : List ℕ) (serving : Serving) → Sizes app (view_of link) (Moment.Serves lu serving) → IsAt (view_of link) k.wanted (Moment.Serves lu serving) → Fact k.wanted (scene_of (view_of link)) (Moment.Serves lu serving) → Kept app (view_of (key_view key link))
+    by_serving lu (Serving.Answering kind number command) s at f =
         let shadow : Shadow = once_taken link.host.shape command link.host.shadow in
-        types given app link key k lu (Serving.Answering kind number command) shadow at f (record {
+        types given app link key k lu (Serving.Answering kind number command) shadow at (s.same refl) f (record {
           to = λ parts. Serving.KeyBehind kind number command parts;
           stay = λ screen lock erased operates. operates;
           press = λ parts screen lock erased pressed sees takes. (pressed, sees, takes, f.exact);
-          at_to = λ parts screen lock erased. sends_at given app link key k lu (Serving.Answering kind number command) shadow at f (Serving.KeyBehind kind number command parts) parts screen lock erased refl refl refl refl;
+          at_to = λ parts screen lock erased. sends_at given app link key k lu (Serving.Answering kind number command) shadow at (s.same refl) f (Serving.KeyBehind kind number command parts) parts screen lock erased refl refl refl refl;
         })
-    by_serving lu Serving.Operating at f =
-        types given app link key k lu Serving.Operating link.host.shadow at f (record {
+    by_serving lu Serving.Operating s at f =
+        types given app link key k lu Serving.Operating link.host.shadow at (s.same refl) f (record {
           to = λ parts. Serving.KeyAlone parts;
           stay = λ screen lock erased operates. operates;
           press = λ parts screen lock erased pressed sees takes. (pressed, sees, takes);
-          at_to = λ parts screen lock erased. sends_at given app link key k lu Serving.Operating link.host.shadow at f (Serving.KeyAlone parts) parts screen lock erased refl refl refl refl;
+          at_to = λ parts screen lock erased. sends_at given app link key k lu Serving.Operating link.host.shadow at (s.same refl) f (Serving.KeyAlone parts) parts screen lock erased refl refl refl refl;
         })
-    by_serving lu (Serving.Noting number command) at f =
-        types given app link key k lu (Serving.Noting number command) link.host.shadow at f.0 (record {
+    by_serving lu (Serving.Noting number command) s at f =
+        types given app link key k lu (Serving.Noting number command) link.host.shadow at (s.same refl) f.0 (record {
           to = λ parts. Serving.KeyNoted number command parts;
           stay = λ screen lock erased operates. (operates, f.1);
           press = λ parts screen lock erased pressed sees takes. (pressed, sees, record { note = f.1; takes = takes });
-          at_to = λ parts screen lock erased. sends_at given app link key k lu (Serving.Noting number command) link.host.shadow at f.0 (Serving.KeyNoted number command parts) parts screen lock erased refl refl refl refl;
+          at_to = λ parts screen lock erased. sends_at given app link key k lu (Serving.Noting number command) link.host.shadow at (s.same refl) f.0 (Serving.KeyNoted number command parts) parts screen lock erased refl refl refl refl;
         })
-    by_serving lu Serving.Deciding at f = wait f.lock
-    by_serving lu (Serving.Reading number) at f = wait f.decides.lock
-    by_serving lu (Serving.Reported number parts) at f = wait f.0.decides.lock
-    by_serving lu (Serving.NotedLate number command) at f = wait f.0.lock
-    by_serving lu (Serving.AnsweredLate number command) at f = wait f.lock
-    by_serving lu (Serving.Painting number command wants over) at f = wait f.lock
-    by_serving lu (Serving.KeyAlone parts) at f = wait f.0.lock
-    by_serving lu (Serving.KeyBehind kind number command parts) at f = wait f.0.lock
-    by_serving lu (Serving.KeyNoted number command parts) at f = wait f.0.lock
-    by_serving lu (Serving.KeyBefore number command parts) at f = wait f.0.lock
+    by_serving lu Serving.Deciding s at f = wait f.lock
+    by_serving lu (Serving.Reading number) s at f = wait f.decides.lock
+    by_serving lu (Serving.Reported number parts) s at f = wait f.0.decides.lock
+    by_serving lu (Serving.NotedLate number command) s at f = wait f.0.lock
+    by_serving lu (Serving.AnsweredLate number command) s at f = wait f.lock
+    by_serving lu (Serving.Painting number command wants over) s at f = wait f.lock
+    by_serving lu (Serving.KeyAlone parts) s at f = wait f.0.lock
+    by_serving lu (Serving.KeyBehind kind number command parts) s at f = wait f.0.lock
+    by_serving lu (Serving.KeyNoted number command parts) s at f = wait f.0.lock
+    by_serving lu (Serving.KeyBefore number command parts) s at f = wait f.0.lock
 
-    by_moment : (moment : Moment) → IsAt (view_of link) k.wanted moment → Fact k.wanted (scene_of (view_of link)) moment → Kept app (view_of (key_view key link))
-    by_moment (Moment.Talks talking) at f = wait f.0.lock
-    by_moment (Moment.Begins lu number command wants over) at f = wait f.lock
-    by_moment (Moment.Serves lu serving) at f = by_serving lu serving at f
+    by_moment : (moment : Moment) → Sizes app (view_of link) moment → IsAt (view_of link) k.wanted moment → Fact k.wanted (scene_of (view_of link)) moment → Kept app (view_of (key_view key link))
+    by_moment (Moment.Talks talking) s at f = wait f.0.lock
+    by_moment (Moment.Begins lu number command wants over) s at f = wait f.lock
+    by_moment (Moment.Serves lu serving) s at f = by_serving lu serving s at f

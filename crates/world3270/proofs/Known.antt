@@ -1,5 +1,6 @@
 -- What is known of one world over messages that a list of events leads to, and what one step makes of it.
-use Rattle.std.proofs.Common.{◌≡◌, Bool, true, List, [], ◌∷◌, ◌++◌, ap, sym, subst, ◌∙◌, if◌then◌else◌}
+use Rattle.std.proofs.Common.{◌≡◌, Bool, true, List, [], ◌∷◌, ◌++◌, ap, sym, subst, ◌∙◌, if◌then◌else◌, refl, ℕ}
+use Rattle.panels.specs.Panel.{Panels}
 use Rattle.std.proofs.lemmas.List.Elements.{All-append, All-cons, All-nil}
 use Rattle.std.specs.Prelude.{All}
 use Rattle.host_core.specs.Application.{IsApplication, AsksForScreens, application_of}
@@ -15,7 +16,7 @@ use Rattle.world3270.specs.Places.{EndsAgree, UpIsHeld}
 use Rattle.world3270.specs.Refines.{Begin, IsBegin, Reached, IsReal, GoesOn, after}
 use Rattle.world3270.specs.Sendable.{IsTyped, ScreensAreSendable, PaintsAreScreens, PaintsAreSpelt}
 use Rattle.world3270.specs.Standing.{WorldStands}
-use Rattle.world3270.specs.StandsLinks.{WhatComesMayCome}
+use Rattle.world3270.specs.StandsLinks.{WhatComesMayCome, HasTheSizes, MayComeAll, NoneCloses}
 use Rattle.world3270.specs.World.{World, Event, IsEvent, AreEvents, new_world}
 use Rattle.world3270.specs.declared.event.Event.{Event as ByteEvent}
 use Rattle.world3270.specs.declared.event.Stepped.{Stepped}
@@ -30,7 +31,7 @@ pub record Facts (world : World) : Type 0 where
   pub up_held : UpIsHeld world
   pub forms : FormsAreAwaited world
   pub numbers : NumbersFit world
-  pub may : WhatComesMayCome world
+  pub may : (number : ℕ) → let link = world.link number in MayComeAll link.term link.down × NoneCloses link.term link.down
   pub sendable : ScreensAreSendable world
   pub paints : PaintsAreScreens world
   pub spelt : PaintsAreSpelt world
@@ -41,21 +42,25 @@ is_application known begin is = known.application begin.panels is.panels.otherwi
 asks_for_screens : KnownWorlds → (begin : Begin) → IsBegin begin → AsksForScreens (application_of begin.panels)
 asks_for_screens known begin is = known.screens begin.panels is.panels.laid_out is.panels.characters
 
+-- panels have the sizes of the 3278's models
+the_sizes : (panels : Panels) → HasTheSizes (application_of panels)
+the_sizes panels = record { begins = refl; alternate = λ model. refl }
+
 pub facts : KnownWorlds → (begin : Begin) → IsBegin begin → (events : List Event) → AreEvents events → All IsTyped events → Facts (after begin events)
 facts known begin is events are typed =
     let app = is_application known begin is in
     let asks = asks_for_screens known begin is in
     record {
-      headline = known.headline (application_of begin.panels) begin.pool begin.terminals events app is.pool is.few are;
-      nobody_refuses = known.nobody_refuses (application_of begin.panels) begin.pool begin.terminals events app is.pool is.few are;
-      agree = known.agree (application_of begin.panels) begin.pool begin.terminals events app is.pool is.few are;
-      up_held = known.up_held (application_of begin.panels) begin.pool begin.terminals events app is.pool is.few are;
-      forms = known.forms (application_of begin.panels) begin.pool begin.terminals events app is.pool is.few are;
-      numbers = known.numbers (application_of begin.panels) begin.pool begin.terminals events app is.pool is.few are;
-      may = known.may (application_of begin.panels) begin.pool begin.terminals events app is.pool is.few are;
-      sendable = known.sendable (application_of begin.panels) begin.pool begin.terminals events app asks is.pool is.few are typed;
-      paints = known.paints (application_of begin.panels) begin.pool begin.terminals events app asks is.pool is.few are typed;
-      spelt = known.spelt (application_of begin.panels) begin.pool begin.terminals events app asks is.pool is.few are typed;
+      headline = known.headline (application_of begin.panels) begin.pool begin.models events app is.pool is.few are;
+      nobody_refuses = known.nobody_refuses (application_of begin.panels) begin.pool begin.models events app is.pool is.few are;
+      agree = known.agree (application_of begin.panels) begin.pool begin.models events app is.pool is.few are;
+      up_held = known.up_held (application_of begin.panels) begin.pool begin.models events app is.pool is.few are;
+      forms = known.forms (application_of begin.panels) begin.pool begin.models events app is.pool is.few are;
+      numbers = known.numbers (application_of begin.panels) begin.pool begin.models events app is.pool is.few are;
+      may = known.may (application_of begin.panels) begin.pool begin.models events app is.pool is.few are (the_sizes begin.panels);
+      sendable = known.sendable (application_of begin.panels) begin.pool begin.models events app asks is.pool is.few are typed;
+      paints = known.paints (application_of begin.panels) begin.pool begin.models events app asks is.pool is.few are typed;
+      spelt = known.spelt (application_of begin.panels) begin.pool begin.models events app asks is.pool is.few are typed;
     }
 
 -- ---- one step
@@ -67,7 +72,7 @@ Goes event = (begin : Begin) (events : List Event) (old : ByteWorld) (answer : S
     → GoesOn begin events event old answer new
 
 pub after_more : (begin : Begin) (events more : List Event) → after begin (events ++ more) ≡ run (application_of begin.panels) more (after begin events)
-after_more begin events more = run-append (application_of begin.panels) events more (new_world (application_of begin.panels) begin.pool begin.terminals)
+after_more begin events more = run-append (application_of begin.panels) events more (new_world (application_of begin.panels) begin.pool begin.models)
 
 pub are_more : (events more : List Event) → AreEvents events → AreEvents more → AreEvents (events ++ more)
 are_more [] more are others = others

@@ -14,7 +14,7 @@ use Rattle.world3270.specs.Placed.{free_number, has_place, is_terminal, may_conn
 use Rattle.world3270.specs.Refines.{Begin, IsBegin, Reached, GoesOn, after, once}
 use Rattle.world3270.specs.Unbroken.{EndsStay, NobodyCloses}
 use Rattle.world3270.specs.Terminal.{Display, after_key}
-use Rattle.world3270.specs.World.{Place, World, Event, with_at}
+use Rattle.world3270.specs.World.{Place, World, Event, with_at, display_at}
 use Rattle.world3270.specs.declared.event.Event.{Event as ByteEvent}
 use Rattle.world3270.specs.declared.event.Event.TheVariants as event
 use Rattle.world3270.specs.declared.event.Stepped.{Stepped}
@@ -96,7 +96,7 @@ connect_host : (app : Application) (terminal : ℕ) (wanted : Option (List ℕ))
 connect_host app terminal wanted number world is =
     if_placed (HostIs number) (has_place app (Event.Connect terminal wanted) world) (done app (Event.Connect terminal wanted) world) world is (by_free (free_number world.link))
   where
-    by_free : (free : Option ℕ) → HostIs number (joined app terminal wanted free world)
+    by_free : (free : Option ℕ) → HostIs number (joined app terminal (display_at world (world.place terminal)).model wanted free world)
     by_free None = is
     by_free (Some at) = one_kept IsHere at _ world.link (λ (h : IsHere (world.link at)). refl) number is
 
@@ -162,7 +162,7 @@ anew_terminal app at terminal number differs world is =
 connect_terminal : (app : Application) (at : ℕ) (wanted : Option (List ℕ)) (terminal number : ℕ) → TerminalKept app (Event.Connect at wanted) terminal number
 connect_terminal app at wanted terminal number world is = by_has (has_place app (Event.Connect at wanted) world) refl
   where
-    by_place : (place : Place) → world.place at ≡ place → may_connect world place ≡ true → (free : Option ℕ) → SitsAt terminal number (joined app at wanted free world)
+    by_place : (place : Place) → world.place at ≡ place → may_connect world place ≡ true → (free : Option ℕ) → SitsAt terminal number (joined app at (display_at world (world.place at)).model wanted free world)
     by_place (Place.At link) e may free = absurd (cc)
     by_place (Place.Alone display) e may None = is
     by_place (Place.Alone display) e may (Some link) =

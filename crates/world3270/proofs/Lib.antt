@@ -23,6 +23,7 @@ pub mod StandsFits
 pub mod Stands
 pub mod StandsLinks
 pub mod StandsScreens
+pub mod StandsSizes
 pub mod StandsComing
 pub mod Places
 pub mod Others

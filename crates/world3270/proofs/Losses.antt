@@ -1,5 +1,6 @@
 -- A lost connection takes nothing new.
 use Rattle.std.proofs.Common.{◌≡◌, ◌==◌, ◌++◌, ℕ, Bool, true, false, Option, None, Some, List, [], ◌∷◌, refl, sym, subst, if◌then◌else◌}
+use Rattle.codes3270.specs.declared.size.Model.{Model}
 use Rattle.std.proofs.lemmas.Bool.{eqb-true}
 use Rattle.keyboard.specs.declared.key.Key.{Key}
 use Rattle.lu_pool.specs.Asking.{answer_to}
@@ -15,7 +16,7 @@ use Rattle.world3270.specs.Link.{Link, begun, cut, sent, host_left, host_left_if
 use Rattle.world3270.specs.Losses.{IsRest, NothingNew, LostTakesNothing}
 use Rattle.world3270.specs.Placed.{has_place, free_number}
 use Rattle.world3270.specs.Terminal.{TermStep, key_came, took as term_took}
-use Rattle.world3270.specs.World.{Place, World, Event, with_at}
+use Rattle.world3270.specs.World.{Place, World, Event, with_at, display_at}
 use Rattle.world3270.proofs.Others.{closed_link}
 
 abbrev Fades : Link → Link → Type 0
@@ -97,9 +98,9 @@ term_anew_fades app world terminal number (Place.At at) = leaves world at number
 term_anew_fades app world terminal number (Place.Alone display) = as_it_is (world.link number)
 
 -- a connection that begins isn't lost
-joined_fades : (app : Application) (world : World) (terminal number : ℕ) (wanted : Option (List ℕ)) (free : Option ℕ) → Fades (world.link number) ((joined app terminal wanted free world).link number)
-joined_fades app world terminal number wanted None = as_it_is (world.link number)
-joined_fades app world terminal number wanted (Some found) = at_number world.link found number (begun app.begins terminal wanted) (λ before after. absurd (cc))
+joined_fades : (app : Application) (world : World) (terminal number : ℕ) (model : Model) (wanted : Option (List ℕ)) (free : Option ℕ) → Fades (world.link number) ((joined app terminal model wanted free world).link number)
+joined_fades app world terminal number model wanted None = as_it_is (world.link number)
+joined_fades app world terminal number model wanted (Some found) = at_number world.link found number (begun app model terminal wanted) (λ before after. absurd (cc))
 
 host_anew_fades : (link : Link) → Fades link (host_left_from link)
 host_anew_fades link = by_here link.host_here
@@ -121,7 +122,7 @@ done_fades app (Event.Note at text) world number =
 done_fades app (Event.Lose at) world number = at_number world.link at number (cut (world.link at)) (λ before after. record { down = whole _; up = whole _ })
 done_fades app (Event.HostSees at) world number = at_number world.link at number (host_left (world.link at)) (λ before after. record { down = whole _; up = whole _ })
 done_fades app (Event.TermSees terminal) world number = term_saw_fades world terminal number (world.place terminal)
-done_fades app (Event.Connect terminal wanted) world number = joined_fades app world terminal number wanted (free_number world.link)
+done_fades app (Event.Connect terminal wanted) world number = joined_fades app world terminal number (display_at world (world.place terminal)).model wanted (free_number world.link)
 done_fades app (Event.RestartTerm terminal) world number = term_anew_fades app world terminal number (world.place terminal)
 done_fades app Event.RestartHost world number = host_anew_fades (world.link number)
 

@@ -125,7 +125,7 @@ notes_if text link false n = tt
 steps : (app : Application) → Steps app (λ event. ⊤) AreNumbered (λ display. ⊤)
 steps app = record {
   never = record { next = omega arith; pending = tt; down = All-nil FitsDown; up = All-nil FitsUp };
-  begins = λ terminal wanted. record { next = omega arith; pending = tt; down = All-cons FitsDown _ [] tt (All-nil FitsDown); up = All-nil FitsUp };
+  begins = λ model terminal wanted. record { next = omega arith; pending = tt; down = All-cons FitsDown _ [] tt (All-nil FitsDown); up = All-nil FitsUp };
   up = λ pool link message rest e k n.
       let step : HostStep = host_took pool link.host message in
       let fits = host_fits pool link.host message (record { next = n.next; pending = n.pending }) in
@@ -157,11 +157,11 @@ steps app = record {
   loses = λ link n. record { next = n.next; pending = n.pending; down = n.down; up = n.up };
   host_leaves = λ link n. record { next = n.next; pending = n.pending; down = n.down; up = n.up };
   term_leaves = λ link n. record { next = n.next; pending = n.pending; down = n.down; up = n.up };
-  fresh = tt;
+  fresh = λ model. tt;
   alone = λ link k n. tt;
   key_alone = λ terminal key display such is. tt;
 }
 
 pub numbers_fit : Given → Always NumbersFit
-numbers_fit given app pool terminals events is lists few are =
-    (everywhere given app is (λ event. ⊤) AreNumbered (λ display. ⊤) (steps app) pool terminals events lists are (λ k d below. tt)).links
+numbers_fit given app pool models events is lists few are =
+    (everywhere given app is (λ event. ⊤) AreNumbered (λ display. ⊤) (steps app) pool models events lists are (λ k d below. tt)).links

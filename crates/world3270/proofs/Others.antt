@@ -1,5 +1,6 @@
 -- What an event leaves as it is.
 use Rattle.std.proofs.Common.{◌≡◌, ◌↔◌, ◌==◌, ℕ, Bool, true, false, Option, None, Some, Result, Ok, Err, List, [], ◌∷◌, refl, ap, sym, subst, ◌∙◌, if◌then◌else◌}
+use Rattle.codes3270.specs.declared.size.Model.{Model}
 use Rattle.std.proofs.lemmas.Bool.{and_parts}
 use Rattle.std.proofs.lemmas.Slice.Eq.{bytes_eq-Decides}
 use Rattle.std.specs.Str.{bytes_eq}
@@ -44,7 +45,7 @@ use Rattle.world3270.specs.Link.{Link, begun, cut, host_left, host_stepped, host
 use Rattle.world3270.specs.Placed.{has_place, free_number, may_connect, is_terminal}
 use Rattle.world3270.specs.Places.{is_at, is_found, takes_number, concerns, LinksStay, HoldersStay, PoolIsSound}
 use Rattle.world3270.specs.Terminal.{TermStep, key_came as term_key_came, took as term_took}
-use Rattle.world3270.specs.World.{Place, World, Event, new_world, with_at}
+use Rattle.world3270.specs.World.{Place, World, Event, new_world, with_at, display_at}
 use Rattle.world3270.proofs.OneOfMany.{differs, with_other}
 use Rattle.world3270.proofs.Worlds.{granted_other, new_good, run_good}
 
@@ -82,19 +83,19 @@ term_saw_link : (world : World) (terminal number : ℕ) (place : Place) → is_a
 term_saw_link world terminal number (Place.At at) e = with_other at number (term_left (world.link at)) world.link (differs number at e)
 term_saw_link world terminal number (Place.Alone display) e = refl
 
-joined_link : (app : Application) (world : World) (terminal number : ℕ) (wanted : Option (List ℕ)) (free : Option ℕ) → is_found number free ≡ false → (joined app terminal wanted free world).link number ≡ world.link number
-joined_link app world terminal number wanted None e = refl
-joined_link app world terminal number wanted (Some found) e = with_other found number (begun app.begins terminal wanted) world.link (differs number found e)
+joined_link : (app : Application) (world : World) (terminal number : ℕ) (model : Model) (wanted : Option (List ℕ)) (free : Option ℕ) → is_found number free ≡ false → (joined app terminal model wanted free world).link number ≡ world.link number
+joined_link app world terminal number model wanted None e = refl
+joined_link app world terminal number model wanted (Some found) e = with_other found number (begun app model terminal wanted) world.link (differs number found e)
 
 term_anew_link : (app : Application) (world : World) (terminal number : ℕ) (place : Place) → is_at number place ≡ false → (term_anew app terminal place world).link number ≡ world.link number
 term_anew_link app world terminal number (Place.At at) e = with_other at number (term_left (world.link at)) world.link (differs number at e)
 term_anew_link app world terminal number (Place.Alone display) e = refl
 
 -- a terminal that is at a connection doesn't connect
-found_or_at : (app : Application) (world : World) (terminal number : ℕ) (wanted : Option (List ℕ)) (place : Place) → may_connect world place ≡ true → takes_number number (free_number world.link) place ≡ false
-    → (joined app terminal wanted (free_number world.link) world).link number ≡ world.link number
-found_or_at app world terminal number wanted (Place.At at) may e = absurd (cc)
-found_or_at app world terminal number wanted (Place.Alone display) may e = joined_link app world terminal number wanted (free_number world.link) e
+found_or_at : (app : Application) (world : World) (terminal number : ℕ) (model : Model) (wanted : Option (List ℕ)) (place : Place) → may_connect world place ≡ true → takes_number number (free_number world.link) place ≡ false
+    → (joined app terminal model wanted (free_number world.link) world).link number ≡ world.link number
+found_or_at app world terminal number model wanted (Place.At at) may e = absurd (cc)
+found_or_at app world terminal number model wanted (Place.Alone display) may e = joined_link app world terminal number model wanted (free_number world.link) e
 
 done_link : (app : Application) (event : Event) (world : World) (number : ℕ) → has_place app event world ≡ true → concerns event world number ≡ false → (done app event world).link number ≡ world.link number
 done_link app (Event.Press terminal key) world number here e = key_went_link world terminal number key (world.place terminal) e
@@ -106,7 +107,7 @@ done_link app (Event.Lose at) world number here e = with_other at number (cut (w
 done_link app (Event.HostSees at) world number here e = with_other at number (host_left (world.link at)) world.link (differs number at e)
 done_link app (Event.TermSees terminal) world number here e = term_saw_link world terminal number (world.place terminal) e
 done_link app (Event.Connect terminal wanted) world number here e =
-    found_or_at app world terminal number wanted (world.place terminal) (and_parts (is_terminal world terminal) (may_connect world (world.place terminal)) here).1 e
+    found_or_at app world terminal number (display_at world (world.place terminal)).model wanted (world.place terminal) (and_parts (is_terminal world terminal) (may_connect world (world.place terminal)) here).1 e
 done_link app (Event.RestartTerm terminal) world number here e = term_anew_link app world terminal number (world.place terminal) e
 done_link app Event.RestartHost world number here e = absurd (cc)
 
@@ -298,9 +299,9 @@ term_saw_pool : (world : World) (terminal : ℕ) (place : Place) → (term_saw t
 term_saw_pool world terminal (Place.At at) = refl
 term_saw_pool world terminal (Place.Alone display) = refl
 
-joined_pool : (app : Application) (world : World) (terminal : ℕ) (wanted : Option (List ℕ)) (free : Option ℕ) → (joined app terminal wanted free world).pool ≡ world.pool
-joined_pool app world terminal wanted None = refl
-joined_pool app world terminal wanted (Some number) = refl
+joined_pool : (app : Application) (world : World) (terminal : ℕ) (model : Model) (wanted : Option (List ℕ)) (free : Option ℕ) → (joined app terminal model wanted free world).pool ≡ world.pool
+joined_pool app world terminal model wanted None = refl
+joined_pool app world terminal model wanted (Some number) = refl
 
 term_anew_pool : (app : Application) (world : World) (terminal : ℕ) (place : Place) → (term_anew app terminal place world).pool ≡ world.pool
 term_anew_pool app world terminal (Place.At at) = refl
@@ -324,7 +325,7 @@ done_holds given app (Event.Lose at) world number lu sound e = same_holder world
 done_holds given app (Event.HostSees at) world number lu sound e =
     (given.pool.others_keep world.pool at number lu (differs number at e), λ held. (back_was given world.pool at number lu held).1)
 done_holds given app (Event.TermSees terminal) world number lu sound e = same_holder world.pool _ number lu (term_saw_pool world terminal (world.place terminal))
-done_holds given app (Event.Connect terminal wanted) world number lu sound e = same_holder world.pool _ number lu (joined_pool app world terminal wanted (free_number world.link))
+done_holds given app (Event.Connect terminal wanted) world number lu sound e = same_holder world.pool _ number lu (joined_pool app world terminal (display_at world (world.place terminal)).model wanted (free_number world.link))
 done_holds given app (Event.RestartTerm terminal) world number lu sound e = same_holder world.pool _ number lu (term_anew_pool app world terminal (world.place terminal))
 done_holds given app Event.RestartHost world number lu sound e = absurd (cc)
 
@@ -336,5 +337,5 @@ holders_stay given app event world number lu sound e = by_test (has_place app ev
     by_test false = same_holder world.pool world.pool number lu refl
 
 pub pool_is_sound : Given → Always PoolIsSound
-pool_is_sound given app pool terminals events is lists few are =
-    (run_good given app is events (new_world app pool terminals) are (new_good given app is pool terminals lists)).sound
+pool_is_sound given app pool models events is lists few are =
+    (run_good given app is events (new_world app pool models) are (new_good given app is pool models lists)).sound

@@ -1,5 +1,6 @@
 -- Both ends agree, after every event.
 use Rattle.std.proofs.Common.{◌≡◌, ◌↔◌, ◌==◌, ◌||◌, not, find, ℕ, Bool, true, false, Option, None, Some, List, [], ◌∷◌, refl, sym, subst, ◌∙◌, if◌then◌else◌}
+use Rattle.codes3270.specs.declared.size.Model.{Model}
 use Rattle.std.proofs.lemmas.Bool.{eqb-true, and_parts}
 use Rattle.std.specs.List.{range_with_len}
 use Rattle.keyboard.specs.declared.key.Key.{Key}
@@ -18,7 +19,7 @@ use Rattle.world3270.specs.Placed.{has_place, free_number, may_connect, is_termi
 use Rattle.world3270.specs.Places.{EndsAgree}
 use Rattle.world3270.specs.Terminal.{Display, TermStep, new_display, after_key, key_came, took as term_took}
 use Rattle.std.specs.Prelude.{is_some}
-use Rattle.world3270.specs.World.{Place, World, Event, new_world, link_count, with_at, with_link}
+use Rattle.world3270.specs.World.{Place, World, Event, new_world, link_count, with_at, with_link, display_at}
 use Rattle.world3270.proofs.OneOfMany.{differs}
 
 abbrev Agree : (ℕ → Link) → (ℕ → Place) → Type 0
@@ -160,8 +161,8 @@ term_saw_agrees world terminal (Place.At number) e a = parted_agrees world termi
 term_saw_agrees world terminal (Place.Alone display) e a = a
 
 term_anew_agrees : (app : Application) (world : World) (terminal : ℕ) (place : Place) → world.place terminal ≡ place → EndsAgree world → EndsAgree (term_anew app terminal place world)
-term_anew_agrees app world terminal (Place.At number) e a = parted_agrees world terminal number (new_display app.begins) e a
-term_anew_agrees app world terminal (Place.Alone display) e a = alone_changed world.link world.place terminal display (new_display app.begins) e a
+term_anew_agrees app world terminal (Place.At number) e a = parted_agrees world terminal number (new_display (world.link number).term.display.model app.begins) e a
+term_anew_agrees app world terminal (Place.Alone display) e a = alone_changed world.link world.place terminal display (new_display display.model app.begins) e a
 
 -- ---- connections
 
@@ -179,18 +180,18 @@ nobody_there true held e = absurd (cc)
 nobody_there false None e = refl
 nobody_there false (Some terminal) e = absurd (cc)
 
-joined_agrees : (app : Application) (world : World) (terminal : ℕ) (wanted : Option (List ℕ)) (number : Option ℕ) (display : Display) → free_number world.link ≡ number → world.place terminal ≡ Place.Alone display
-    → EndsAgree world → EndsAgree (joined app terminal wanted number world)
-joined_agrees app world terminal wanted None display e is a = a
-joined_agrees app world terminal wanted (Some number) display e is a =
+joined_agrees : (app : Application) (world : World) (terminal : ℕ) (model : Model) (wanted : Option (List ℕ)) (number : Option ℕ) (display : Display) → free_number world.link ≡ number → world.place terminal ≡ Place.Alone display
+    → EndsAgree world → EndsAgree (joined app terminal model wanted number world)
+joined_agrees app world terminal model wanted None display e is a = a
+joined_agrees app world terminal model wanted (Some number) display e is a =
     let free = found_passes (λ n. is_free (world.link n)) (range_with_len 0 link_count) number e in
-    moved world.link world.place terminal number (begun app.begins terminal wanted) (Place.At number) a
-    (joins world.link world.place terminal number (begun app.begins terminal wanted) display is (nobody_there (world.link number).host_here (world.link number).term_here free) refl a)
+    moved world.link world.place terminal number (begun app model terminal wanted) (Place.At number) a
+    (joins world.link world.place terminal number (begun app model terminal wanted) display is (nobody_there (world.link number).host_here (world.link number).term_here free) refl a)
 
-joins_agrees : (app : Application) (world : World) (terminal : ℕ) (wanted : Option (List ℕ)) (place : Place) → may_connect world place ≡ true → world.place terminal ≡ place → EndsAgree world
-    → EndsAgree (joined app terminal wanted (free_number world.link) world)
-joins_agrees app world terminal wanted (Place.At number) may e a = absurd (cc)
-joins_agrees app world terminal wanted (Place.Alone display) may e a = joined_agrees app world terminal wanted (free_number world.link) display refl e a
+joins_agrees : (app : Application) (world : World) (terminal : ℕ) (model : Model) (wanted : Option (List ℕ)) (place : Place) → may_connect world place ≡ true → world.place terminal ≡ place → EndsAgree world
+    → EndsAgree (joined app terminal model wanted (free_number world.link) world)
+joins_agrees app world terminal model wanted (Place.At number) may e a = absurd (cc)
+joins_agrees app world terminal model wanted (Place.Alone display) may e a = joined_agrees app world terminal model wanted (free_number world.link) display refl e a
 
 -- ---- any event
 
@@ -204,7 +205,7 @@ done_agrees app (Event.Lose number) world here a = link_changed world.link world
 done_agrees app (Event.HostSees number) world here a = link_changed world.link world.place number (host_left (world.link number)) refl a
 done_agrees app (Event.TermSees terminal) world here a = term_saw_agrees world terminal (world.place terminal) refl a
 done_agrees app (Event.Connect terminal wanted) world here a =
-    joins_agrees app world terminal wanted (world.place terminal) (and_parts (is_terminal world terminal) (may_connect world (world.place terminal)) here).1 refl a
+    joins_agrees app world terminal (display_at world (world.place terminal)).model wanted (world.place terminal) (and_parts (is_terminal world terminal) (may_connect world (world.place terminal)) here).1 refl a
 done_agrees app (Event.RestartTerm terminal) world here a = term_anew_agrees app world terminal (world.place terminal) refl a
 done_agrees app Event.RestartHost world here a = host_anew_agrees world a
 
@@ -220,4 +221,4 @@ run_agrees app [] world a = a
 run_agrees app (event ∷ events) world a = run_agrees app events (happens app event world) (happens_agrees app event world a)
 
 pub ends_agree : Always EndsAgree
-ends_agree app pool terminals events is lists few are = run_agrees app events (new_world app pool terminals) (λ terminal number. (λ e. absurd (cc), λ e. absurd (cc)))
+ends_agree app pool models events is lists few are = run_agrees app events (new_world app pool models) (λ terminal number. (λ e. absurd (cc), λ e. absurd (cc)))

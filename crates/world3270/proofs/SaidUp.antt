@@ -1,5 +1,6 @@
 -- What a terminal says of LUs is their names, after any list of events.
 use Rattle.std.proofs.Common.{◌≡◌, ℕ, Bool, true, false, Option, None, Some, List, [], ◌∷◌, ◌++◌, map, refl, subst, if◌then◌else◌}
+use Rattle.codes3270.specs.declared.size.Model.{Model}
 use Rattle.std.specs.List.{AllByRecursion}
 use Rattle.keyboard.specs.declared.key.Key.{Key}
 use Rattle.keyboard.specs.declared.key.Pressed.{Pressed}
@@ -24,7 +25,7 @@ use Rattle.world3270.specs.Link.{Link, sent as sent_on, host_left, host_left_if,
 use Rattle.world3270.specs.Placed.{has_place, free_number}
 use Rattle.world3270.specs.StandsEnds.{NamesWanted}
 use Rattle.world3270.specs.Terminal.{TermEnd, TermStep, is_bound, once_bound, outcome_of, data_of, key_came, took as term_took}
-use Rattle.world3270.specs.World.{Place, World, Event, IsEvent, AreEvents, new_world, with_at}
+use Rattle.world3270.specs.World.{Place, World, Event, IsEvent, AreEvents, new_world, with_at, display_at}
 use Rattle.world3270.proofs.HostItems.{IsSaidUp}
 use Rattle.world3270.proofs.OneOfMany.{all_with}
 use Rattle.world3270.proofs.StandsFits.{Fits, answer_fits}
@@ -184,10 +185,10 @@ anew_named : (app : Application) (world : World) (terminal : ℕ) (place : Place
 anew_named app world terminal (Place.At number) h = parted_named world number h
 anew_named app world terminal (Place.Alone display) h = h
 
-joined_named : (app : Application) (world : World) (terminal : ℕ) (wanted : Option (List ℕ)) (free : Option ℕ) → IsLuIfSome wanted → AreNamed world.link
-    → AreNamed (joined app terminal wanted free world).link
-joined_named app world terminal wanted None is h = h
-joined_named app world terminal wanted (Some number) is h = changed number (begun app.begins terminal wanted) world.link (record { wanted = is; up = tt }) h
+joined_named : (app : Application) (world : World) (terminal : ℕ) (model : Model) (wanted : Option (List ℕ)) (free : Option ℕ) → IsLuIfSome wanted → AreNamed world.link
+    → AreNamed (joined app terminal model wanted free world).link
+joined_named app world terminal model wanted None is h = h
+joined_named app world terminal model wanted (Some number) is h = changed number (begun app model terminal wanted) world.link (record { wanted = is; up = tt }) h
 
 done_named : (app : Application) (event : Event) (world : World) → IsEvent event → AreNamed world.link → AreNamed (done app event world).link
 done_named app (Event.Press terminal key) world is h = key_named world terminal key (world.place terminal) h
@@ -204,7 +205,7 @@ done_named app (Event.Lose number) world is h =
 done_named app (Event.HostSees number) world is h =
     changed number (host_left (world.link number)) world.link (record { wanted = (h number).wanted; up = (h number).up }) h
 done_named app (Event.TermSees terminal) world is h = saw_named world terminal (world.place terminal) h
-done_named app (Event.Connect terminal wanted) world is h = joined_named app world terminal wanted (free_number world.link) is h
+done_named app (Event.Connect terminal wanted) world is h = joined_named app world terminal (display_at world (world.place terminal)).model wanted (free_number world.link) is h
 done_named app (Event.RestartTerm terminal) world is h = anew_named app world terminal (world.place terminal) h
 done_named app Event.RestartHost world is h = λ number. left_named (world.link number) (h number)
 
@@ -220,7 +221,7 @@ run_named app [] world are h = h
 run_named app (event ∷ events) world are h = run_named app events (happens app event world) are.1 (happens_named app event world are.0 h)
 
 -- Whatever comes up is said so, in any world that a list of events leads to.
-pub all_said_up : (app : Application) (pool : List Entry) (terminals : ℕ) (events : List Event) → AreEvents events
-    → (number : ℕ) → AllByRecursion IsSaidUp ((run app events (new_world app pool terminals)).link number).up
-all_said_up app pool terminals events are number =
-    (run_named app events (new_world app pool terminals) are (λ other. record { wanted = tt; up = tt }) number).up
+pub all_said_up : (app : Application) (pool : List Entry) (models : List Model) (events : List Event) → AreEvents events
+    → (number : ℕ) → AllByRecursion IsSaidUp ((run app events (new_world app pool models)).link number).up
+all_said_up app pool models events are number =
+    (run_named app events (new_world app pool models) are (λ other. record { wanted = tt; up = tt }) number).up

@@ -1,5 +1,10 @@
 -- Screens keep their shape and can be sent, what is painted is a screen, and values are characters, after every event.
-use Rattle.std.proofs.Common.{◌≡◌, ◌<◌, ◌≤◌, ◌==◌, ◌&&◌, ◌++◌, ◌-◌, ◌+◌, not, ℕ, zero, suc, arith, Bool, true, false, Option, None, Some, List, [], ◌∷◌, length, replicate, refl, ap, sym, subst, ◌∙◌, inr, IfSome, IsTrue, if◌then◌else◌}
+use Rattle.std.proofs.Common.{◌≡◌, ◌<◌, ◌≤◌, ◌==◌, ◌&&◌, ◌++◌, ◌-◌, ◌+◌, not, ℕ, zero, suc, arith, Bool, true, false, Option, None, Some, List, [], ◌∷◌, length, replicate, refl, ap, sym, subst, ◌∙◌, inr, IfSome, IsTrue, if◌then◌else◌, inl}
+use Rattle.world3270.proofs.Queues.{front, nothing}
+use Rattle.world3270.specs.Moments.{Moment, Serving, Talking, UnderWay, down_at, served_down, talk_down}
+use Rattle.world3270.specs.Always.{AlwaysOf}
+use Rattle.codes3270.specs.declared.size.Model.TheVariants.{M2}
+use Rattle.codes3270.specs.declared.size.Model.{Model}
 use Rattle.std.specs.Prelude.{⊤, option_and_then}
 use Rattle.std.specs.List.{All, list_all}
 use Rattle.std.specs.Ordering.{nat_cmp}
@@ -15,7 +20,7 @@ use Rattle.codes3270.specs.declared.attribute.Cell.{Cell}
 use Rattle.codes3270.specs.declared.attribute.Cell.TheVariants.{Char as CharCell, Attr as AttrCell}
 use Rattle.datastream.specs.Fields.{Field, fields, fields_from}
 use Rattle.datastream.proofs.Texts.{All-ring}
-use Rattle.datastream.specs.Grammar.{IsSpelt as IsSpeltCommand, IsProper as IsProperOrder}
+use Rattle.datastream.specs.Grammar.{IsSpelt as IsSpeltCommand, IsProper as IsProperOrder, CommandParts}
 use Rattle.datastream.specs.Inbound.{without_nulls, read_modified, read_buffer}
 use Rattle.datastream.specs.InboundFields.{IsStorableCell, IsSendable, SentIsRead}
 use Rattle.datastream.specs.Screen.{Screen, blank_screen, is_char, ring}
@@ -51,29 +56,29 @@ use Rattle.host_core.specs.declared.turn.Turn.{Turn}
 use Rattle.host_core.specs.declared.turn.Turn.TheVariants as whose
 use Rattle.host_core.specs.declared.turn_reason.TurnReason.{TurnReason}
 use Rattle.host_core.specs.declared.turn_reason.TurnReason.TheVariants as turn_reasons
-use Rattle.host_core.specs.Session.{Conn, Pending, is_agreed}
+use Rattle.host_core.specs.Session.{Conn, Pending, is_agreed, model_in}
 use Rattle.host_core.specs.Takes.{HostStep, took as host_took}
 use Rattle.world3270.specs.Given.{Given}
 use Rattle.world3270.specs.Happens.{run}
 use Rattle.world3270.specs.Link.{Link, host_left_if, host_sent}
-use Rattle.world3270.specs.Sendable.{display_at, HasShape, ScreensKeepTheirShape, IsTyped, AlwaysTyped, ScreensAreSendable, CanBeSpelt, DataCanBeSpelt, PaintsAScreen, PaintsAreScreens, IsSpelt, PaintsAreSpelt, ValuesAreTexts}
-use Rattle.world3270.specs.Stages.{Kept}
+use Rattle.world3270.specs.Sendable.{IsTyped, AlwaysTyped, ScreensAreSendable, CanBeSpelt, DataCanBeSpelt, PaintsAScreen, PaintsAreScreens, IsSpelt, PaintsAreSpelt, ValuesAreTexts, HasASize, ScreensHaveASize}
+use Rattle.world3270.specs.Stages.{Kept, Scene, ServingFact, resizes_at, resizes_in, scene_of, Fact as MomentFact}
 use Rattle.world3270.specs.Terminal.{Display, new_display, TermEnd, TermStep, is_bound, data_of, paint_came, note_came, read_came, once_bound, took as term_took, outcome_of, after_key}
 use Rattle.world3270.specs.View.{View, view_of}
 use Rattle.lu_pool.specs.Pool.{IsPool}
 use Rattle.lu_pool.specs.declared.entry.Entry.{Entry}
-use Rattle.world3270.specs.World.{Place, World, Event, IsEvent, AreEvents, new_world}
-use Rattle.world3270.proofs.Down.{painted-length}
+use Rattle.world3270.specs.World.{Place, World, Event, IsEvent, AreEvents, new_world, display_at}
+use Rattle.world3270.proofs.Down.{painted-length, shape_of_model}
 use Rattle.world3270.proofs.Everywhere.{Steps, InPlace, Everywhere, everywhere}
 use Rattle.world3270.proofs.Headline.{knows_at}
 use Rattle.world3270.proofs.HostSteps.{just_talks}
 use Rattle.world3270.proofs.Numbers.{sent_all}
 use Rattle.world3270.proofs.Worlds.{run_good, new_good}
 
--- ---- the shape alone
+-- ---- the size alone
 
-blank_length : (shape : Shape) → length (new_display shape).screen.cells ≡ cells_in shape
-blank_length shape = length-replicate (cells_in shape) (CharCell 0)
+blank_length : (model : Model) (shape : Shape) → length (new_display model shape).screen.cells ≡ cells_in shape
+blank_length model shape = length-replicate (cells_in shape) (CharCell 0)
 
 -- a screen of one row at least has a first cell
 first_cell : (shape : Shape) → IsShape shape → 0 < cells_in shape
@@ -82,27 +87,19 @@ first_cell shape is = some (cells_in shape) shape.columns is.columns is.row
     some : (cells columns : ℕ) → 1 < columns → columns ≤ cells → 0 < cells
     some cells columns many row = omega arith
 
--- the connection's terminal has the shape that connections begin with
-begins_with : (app : Application) (v : View) → Kept app v → cells_in v.host.shape ≡ cells_in app.begins
-begins_with app v k = ap cells_in k.shape.begins
+link_size : (app : Application) (link : Link) → Kept app (view_of link) → HasASize app link.term.display
+link_size app link k = record { size = k.sizes.screen; whole = k.whole; cursor = k.cursor }
 
-link_shape : (app : Application) (link : Link) → Kept app (view_of link) → HasShape app.begins link.term.display
-link_shape app link k = record {
-  shape_is = k.shape.same ∙ k.shape.begins;
-  whole = k.whole ∙ begins_with app (view_of link) k;
-  cursor = subst (λ cells. link.term.display.screen.cursor < cells) (begins_with app (view_of link) k) k.cursor;
-}
-
-key_shape : Given → (shape : Shape) (key : Key) (display : Display) → HasShape shape display → HasShape shape (after_key key display)
-key_shape given shape key display h =
+key_size : Given → (app : Application) (key : Key) (display : Display) → HasASize app display → HasASize app (after_key key display)
+key_size given app key display h =
     let screen : Screen = display.screen in
     let on = given.keys.on_screen display.shape.columns key display.keyboard screen (subst (λ cells. screen.cursor < cells) (sym h.whole) h.cursor) in
-    record { shape_is = h.shape_is; whole = on.0 ∙ h.whole; cursor = subst (λ cells. (outcome_of key display).screen.cursor < cells) h.whole on.1 }
+    record { size = h.size; whole = on.0 ∙ h.whole; cursor = subst (λ cells. (outcome_of key display).screen.cursor < cells) h.whole on.1 }
 
-shape_steps : Given → (app : Application) → IsApplication app → Steps app (λ event. ⊤) (λ link. ⊤) (λ display. HasShape app.begins display)
-shape_steps given app is = record {
+size_steps : Given → (app : Application) → IsApplication app → Steps app (λ event. ⊤) (λ link. ⊤) (λ display. HasASize app display)
+size_steps given app is = record {
   never = tt;
-  begins = λ terminal wanted. tt;
+  begins = λ model terminal wanted. tt;
   up = λ pool link message rest e k h. tt;
   acts = λ link k h. tt;
   notes = λ number text link such k h. tt;
@@ -111,22 +108,85 @@ shape_steps given app is = record {
   loses = λ link h. tt;
   host_leaves = λ link h. tt;
   term_leaves = λ link h. tt;
-  fresh = record { shape_is = refl; whole = blank_length app.begins; cursor = first_cell app.begins is.shape };
-  alone = λ link k h. let its = link_shape app link k in record { shape_is = its.shape_is; whole = its.whole; cursor = its.cursor };
-  key_alone = λ terminal key display such h. key_shape given app.begins key display h;
+  fresh = λ model. record { size = inl refl; whole = blank_length model app.begins; cursor = first_cell app.begins is.begins };
+  alone = λ link k h. let its = link_size app link k in record { size = its.size; whole = its.whole; cursor = its.cursor };
+  key_alone = λ terminal key display such h. key_size given app key display h;
 }
 
-shape_in_place : (app : Application) (world : World) (place : Place) → ((number : ℕ) → Kept app (view_of (world.link number))) → InPlace (λ display. HasShape app.begins display) place
-    → HasShape app.begins (display_at world place)
-shape_in_place app world (Place.At number) kept is = link_shape app (world.link number) (kept number)
-shape_in_place app world (Place.Alone display) kept is = is
+size_in_place : (app : Application) (world : World) (place : Place) → ((number : ℕ) → Kept app (view_of (world.link number))) → InPlace (λ display. HasASize app display) place
+    → HasASize app (display_at world place)
+size_in_place app world (Place.At number) kept is = link_size app (world.link number) (kept number)
+size_in_place app world (Place.Alone display) kept is = is
 
-pub screens_keep_their_shape : Given → ScreensKeepTheirShape
-screens_keep_their_shape given app pool terminals events is lists few are terminal =
-    let world : World = run app events (new_world app pool terminals) in
-    let g = run_good given app is events (new_world app pool terminals) are (new_good given app is pool terminals lists) in
-    let all = everywhere given app is (λ event. ⊤) (λ link. ⊤) (λ display. HasShape app.begins display) (shape_steps given app is) pool terminals events lists are (λ k d below. tt) in
-    shape_in_place app world (world.place terminal) g.links (all.places terminal)
+pub screens_have_a_size : Given → AlwaysOf ScreensHaveASize
+screens_have_a_size given app pool models events is lists few are terminal =
+    let world : World = run app events (new_world app pool models) in
+    let g = run_good given app is events (new_world app pool models) are (new_good given app is pool models lists) in
+    let all = everywhere given app is (λ event. ⊤) (λ link. ⊤) (λ display. HasASize app display) (size_steps given app is) pool models events lists are (λ k d below. tt) in
+    size_in_place app world (world.place terminal) g.links (all.places terminal)
+
+-- ---- a note that comes down
+
+-- a note that is the first message is of this size, and no paint is under way
+abbrev FirstFits : Shape → Bool → List ToTerminal → Type 0
+FirstFits size resizes [] = ⊤
+FirstFits size resizes (ToTerminal.TalksDown saying ∷ messages) = ⊤
+FirstFits size resizes (ToTerminal.Paint number wanted over ∷ messages) = ⊤
+FirstFits size resizes (ToTerminal.ReadBuffer number ∷ messages) = ⊤
+FirstFits size resizes (ToTerminal.Note number command ∷ messages) = (command.size ≡ size) × (resizes ≡ false)
+
+talk_fits : (size : Shape) (model : Model) (talking : Talking) → FirstFits size false (talk_down model talking)
+talk_fits size model Talking.Offering = tt
+talk_fits size model Talking.Accepting = tt
+talk_fits size model Talking.AskingType = tt
+talk_fits size model Talking.NamingType = tt
+talk_fits size model (Talking.Granting lu) = tt
+talk_fits size model (Talking.AskingFunctions lu) = tt
+talk_fits size model (Talking.Agreeing lu) = tt
+talk_fits size model (Talking.Rejecting reason) = tt
+talk_fits size model (Talking.Rejected reason) = tt
+
+served_fits : (scene : Scene) (serving : Serving) → ServingFact scene serving → FirstFits scene.shape (resizes_in serving) (served_down serving)
+served_fits scene Serving.Deciding fact = tt
+served_fits scene (Serving.Reading number) fact = tt
+served_fits scene (Serving.Reported number parts) fact = tt
+served_fits scene (Serving.NotedLate number command) fact = (ap (λ (c : CommandParts). c.size) fact.1.note.is, refl)
+served_fits scene (Serving.AnsweredLate number command) fact = tt
+served_fits scene (Serving.Painting number command wanted over) fact = tt
+served_fits scene (Serving.Answering kind number command) fact = tt
+served_fits scene Serving.Operating fact = tt
+served_fits scene (Serving.Noting number command) fact = (ap (λ (c : CommandParts). c.size) fact.1.is, refl)
+served_fits scene (Serving.KeyAlone parts) fact = tt
+served_fits scene (Serving.KeyBehind kind number command parts) fact = tt
+served_fits scene (Serving.KeyNoted number command parts) fact = (ap (λ (c : CommandParts). c.size) fact.2.note.is, refl)
+served_fits scene (Serving.KeyBefore number command parts) fact = tt
+
+first_fits : (scene : Scene) (model : Model) (wanted : Option (List ℕ)) (moment : Moment) → MomentFact wanted scene moment → FirstFits scene.shape (resizes_at moment) (down_at model moment)
+first_fits scene model wanted (Moment.Talks talking) fact = talk_fits scene.shape model talking
+first_fits scene model wanted (Moment.Begins lu number command paints over) fact = tt
+first_fits scene model wanted (Moment.Serves lu serving) fact = served_fits scene serving fact
+
+comes_fitting : (size : Shape) (resizes : Bool) (lost : Bool) (queue messages : List ToTerminal) (number : ℕ) (command : CommandParts) (rest : List ToTerminal)
+    → UnderWay lost queue messages → queue ≡ ToTerminal.Note number command ∷ rest → FirstFits size resizes messages → (command.size ≡ size) × (resizes ≡ false)
+comes_fitting size resizes lost queue [] number command rest under e first = absurd (nothing lost queue (ToTerminal.Note number command) rest e under)
+comes_fitting size resizes lost queue (message ∷ messages) number command rest under e first =
+    subst (λ m. FirstFits size resizes (m ∷ messages)) (sym (front lost queue (ToTerminal.Note number command) rest message messages e under).0) first
+
+-- the note was written for the screen that it finds
+abbrev NoteFits : Shape → ToTerminal → Type 0
+NoteFits shape (ToTerminal.TalksDown saying) = ⊤
+NoteFits shape (ToTerminal.Paint number wanted over) = ⊤
+NoteFits shape (ToTerminal.ReadBuffer number) = ⊤
+NoteFits shape (ToTerminal.Note number command) = command.size ≡ shape
+
+note_fits : (app : Application) (link : Link) (message : ToTerminal) (rest : List ToTerminal) → link.down ≡ message ∷ rest → Kept app (view_of link) → NoteFits link.term.display.shape message
+note_fits app link (ToTerminal.TalksDown saying) rest e k = tt
+note_fits app link (ToTerminal.Paint number wanted over) rest e k = tt
+note_fits app link (ToTerminal.ReadBuffer number) rest e k = tt
+note_fits app link (ToTerminal.Note number command) rest e k =
+    let v : View = view_of link in
+    let both = comes_fitting v.host.shape (resizes_at k.moment) v.lost v.down (down_at v.model k.moment) number command rest k.at.goes_down e (first_fits (scene_of v) v.model k.wanted k.moment k.fact) in
+    both.0 ∙ sym (k.sizes.same both.1)
 
 -- ---- what is told
 
@@ -233,19 +293,19 @@ wanted_is app conn panel message true values asks texts = by_fit (fits conn.shad
     by_fit false = asks panel values message false texts
 
 -- a paint of a screen of the profile, or a note that some bytes spell
-abbrev IsWritten : Shape → ToTerminal → Type 0
-IsWritten shape (ToTerminal.TalksDown saying) = ⊤
-IsWritten shape (ToTerminal.Paint number wanted over) = IsScreen wanted
-IsWritten shape (ToTerminal.ReadBuffer number) = ⊤
-IsWritten shape (ToTerminal.Note number command) = IsProperNote command × IsSpeltCommand command × (command.size ≡ shape)
+abbrev IsWritten : ToTerminal → Type 0
+IsWritten (ToTerminal.TalksDown saying) = ⊤
+IsWritten (ToTerminal.Paint number wanted over) = IsScreen wanted
+IsWritten (ToTerminal.ReadBuffer number) = ⊤
+IsWritten (ToTerminal.Note number command) = IsProperNote command × IsSpeltCommand command
 
-record SendsTexts (shape : Shape) (sending : Sent) : Type 0 where
-  message : IsWritten shape sending.message
+record SendsTexts (sending : Sent) : Type 0 where
+  message : IsWritten sending.message
   values : AreTexts sending.conn.values
 
-done_texts : (shape : Shape) (app : Application) (conn : Conn) (act : Act) → AsksForScreens app → AreTexts conn.values → ActsOnTexts act → SendsTexts shape (done app conn act)
-done_texts shape app conn Act.Read asks texts is = record { message = tt; values = texts }
-done_texts shape app conn (Act.Show panel message keep values) asks texts is = record { message = wanted_is app conn panel message keep values asks is; values = is }
+done_texts : (app : Application) (conn : Conn) (act : Act) → AsksForScreens app → AreTexts conn.values → ActsOnTexts act → SendsTexts (done app conn act)
+done_texts app conn Act.Read asks texts is = record { message = tt; values = texts }
+done_texts app conn (Act.Show panel message keep values) asks texts is = record { message = wanted_is app conn (app.shown (model_in conn) panel) message keep values asks is; values = is }
 
 -- a blank screen takes any note
 blank_chars : (cells : ℕ) → list_all is_char (replicate cells (CharCell 0)) ≡ true
@@ -255,12 +315,12 @@ blank_chars (suc cells) = blank_chars cells
 note_spelt : Given → (shape : Shape) (text : List ℕ) → IsShape shape → IsNoteText text → IsSpeltCommand (note_command shape text)
 note_spelt given shape text is note =
     let blank : Screen = blank_screen (cells_in shape) in
-    let over = given.notes.overwrites shape (note_command shape text) blank is (record { text = text; is_text = note; is = refl }) (blank_length shape) (TakesNotes.unformatted (blank_chars (cells_in shape))) in
+    let over = given.notes.overwrites shape (note_command shape text) blank is (record { text = text; is_text = note; is = refl }) (blank_length M2 shape) (TakesNotes.unformatted (blank_chars (cells_in shape))) in
     over.spelt
 
-note_texts : Given → (shape : Shape) (text : List ℕ) (conn : Conn) → conn.shape ≡ shape → IsShape conn.shape → IsNoteText text → AreTexts conn.values → SendsTexts shape (noted_as text conn)
-note_texts given shape text conn same is note texts = record {
-  message = (given.notes.are_notes conn.shape (note_command conn.shape text) is (record { text = text; is_text = note; is = refl }), note_spelt given conn.shape text is note, same);
+note_texts : Given → (text : List ℕ) (conn : Conn) → IsShape conn.shape → IsNoteText text → AreTexts conn.values → SendsTexts (noted_as text conn)
+note_texts given text conn is note texts = record {
+  message = (given.notes.are_notes conn.shape (note_command conn.shape text) is (record { text = text; is_text = note; is = refl }), note_spelt given conn.shape text is note);
   values = texts;
 }
 
@@ -308,19 +368,19 @@ once_bound_sends : (bound : Bool) (end : TermEnd) (step : TermStep) → IsSendab
 once_bound_sends true end step is sends = sends
 once_bound_sends false end step is sends = record { screen = is; spelt = All-nil CanBeSpelt }
 
-term_sends : SentIsRead → Given → (end : TermEnd) (message : ToTerminal) → IsWritten end.display.shape message → length end.display.screen.cells ≡ cells_in end.display.shape → IsSendable end.display.screen → StepSends (term_took end message)
-term_sends read given end (ToTerminal.TalksDown saying) written whole is = record { screen = is; spelt = All-map CanBeSpelt ToHost.TalksUp _ (λ k d below. tt) }
-term_sends read given end (ToTerminal.Paint number wanted over) written whole is =
+term_sends : SentIsRead → Given → (end : TermEnd) (message : ToTerminal) → IsWritten message → NoteFits end.display.shape message → length end.display.screen.cells ≡ cells_in end.display.shape → IsSendable end.display.screen → StepSends (term_took end message)
+term_sends read given end (ToTerminal.TalksDown saying) written fits whole is = record { screen = is; spelt = All-map CanBeSpelt ToHost.TalksUp _ (λ k d below. tt) }
+term_sends read given end (ToTerminal.Paint number wanted over) written fits whole is =
     once_bound_sends (is_bound end) end (paint_came number wanted end) is
     (record { screen = painted_sendable wanted end.display.screen written is; spelt = All-cons CanBeSpelt (ToHost.Response number Verdict.Positive) [] tt (All-nil CanBeSpelt) })
-term_sends read given end (ToTerminal.ReadBuffer number) written whole is =
+term_sends read given end (ToTerminal.ReadBuffer number) written fits whole is =
     once_bound_sends (is_bound end) end (read_came end) is
     (record { screen = is; spelt = All-cons CanBeSpelt _ [] (read_buffer end.display.screen, read.buffer end.display.shape end.display.screen whole is) (All-nil CanBeSpelt) })
-term_sends read given end (ToTerminal.Note number command) written whole is =
+term_sends read given end (ToTerminal.Note number command) written fits whole is =
     once_bound_sends (is_bound end) end (note_came number command end) is
     (record {
       screen = given.notes.note_sendable command end.display.screen written.0.note
-          (subst (λ (n : ℕ). All (IsProperOrder n) command.orders) (ap cells_in written.2 ∙ sym whole) written.0.proper) is;
+          (subst (λ (n : ℕ). All (IsProperOrder n) command.orders) (ap cells_in fits ∙ sym whole) written.0.proper) is;
       spelt = All-cons CanBeSpelt (ToHost.Response number Verdict.Positive) [] tt (All-nil CanBeSpelt);
     })
 
@@ -334,47 +394,47 @@ key_sends read false (Refused why) shape screen whole is = All-nil CanBeSpelt
 
 -- ---- connections
 
-pub record CanSend (shape : Shape) (link : Link) : Type 0 where
+pub record CanSend (link : Link) : Type 0 where
   pub screen : IsSendable link.term.display.screen
   pub spelt : All CanBeSpelt link.up
-  pub writes : All (IsWritten shape) link.down
+  pub writes : All IsWritten link.down
   pub values : AreTexts link.host.values
 
-left_if : (shape : Shape) (cause : Option Cause) (link : Link) → CanSend shape link → CanSend shape (host_left_if cause link)
-left_if shape None link c = c
-left_if shape (Some cause) link c = record { screen = c.screen; spelt = c.spelt; writes = c.writes; values = c.values }
+left_if : (cause : Option Cause) (link : Link) → CanSend link → CanSend (host_left_if cause link)
+left_if None link c = c
+left_if (Some cause) link c = record { screen = c.screen; spelt = c.spelt; writes = c.writes; values = c.values }
 
-sends : (shape : Shape) (link : Link) (sending : Option Sent) → CanSend shape link → IfSome sending (SendsTexts shape) → CanSend shape (host_sent sending link)
-sends shape link None c is = c
-sends shape link (Some sending) c is = record {
+sends : (link : Link) (sending : Option Sent) → CanSend link → IfSome sending SendsTexts → CanSend (host_sent sending link)
+sends link None c is = c
+sends link (Some sending) c is = record {
   screen = c.screen;
   spelt = c.spelt;
-  writes = sent_all (IsWritten shape) link.lost link.down (sending.message ∷ []) c.writes (All-cons (IsWritten shape) sending.message [] is.message (All-nil (IsWritten shape)));
+  writes = sent_all IsWritten link.lost link.down (sending.message ∷ []) c.writes (All-cons IsWritten sending.message [] is.message (All-nil IsWritten));
   values = is.values;
 }
 
 -- where the host may act, the screen meets what it believes, and so what it learns is characters
-acts_by : (app : Application) → AsksForScreens app → (link : Link) (turn : Turn) (pending : Pending) (agreed : Bool) → Kept app (view_of link) → CanSend app.begins link
-    → link.host.turn ≡ turn → link.host.pending ≡ pending → IfSome (if may_act turn pending agreed then Some (done app link.host (act_on app link.host link.host.turn_reason)) else None) (SendsTexts app.begins)
+acts_by : (app : Application) → AsksForScreens app → (link : Link) (turn : Turn) (pending : Pending) (agreed : Bool) → Kept app (view_of link) → CanSend link
+    → link.host.turn ≡ turn → link.host.pending ≡ pending → IfSome (if may_act turn pending agreed then Some (done app link.host (act_on app link.host link.host.turn_reason)) else None) SendsTexts
 acts_by app asks link whose.Host Pending.Nothing true k c turns pends =
     let known = knows_at app (view_of link) k turns pends in
     let texts = learned_texts link.host.shadow link.term.display.screen (app.fields link.host.panel) link.host.values known.meets c.screen.storable c.values in
-    done_texts app.begins app link.host (act_on app link.host link.host.turn_reason) asks c.values (act_texts app link.host link.host.turn_reason c.values texts)
+    done_texts app link.host (act_on app link.host link.host.turn_reason) asks c.values (act_texts app link.host link.host.turn_reason c.values texts)
 acts_by app asks link whose.Host Pending.Nothing false k c turns pends = tt
 acts_by app asks link whose.Host (Pending.Writing number command) agreed k c turns pends = tt
 acts_by app asks link whose.Host (Pending.Reading number) agreed k c turns pends = tt
 acts_by app asks link whose.Host (Pending.Noting number command) agreed k c turns pends = tt
 acts_by app asks link whose.Terminal pending agreed k c turns pends = tt
 
-notes_if : Given → (shape : Shape) (text : List ℕ) (link : Link) (b : Bool) → link.host.shape ≡ shape → IsShape link.host.shape → IsNoteText text → CanSend shape link
-    → IfSome (if b then Some (noted_as text link.host) else None) (SendsTexts shape)
-notes_if given shape text link true same is note c = note_texts given shape text link.host same is note c.values
-notes_if given shape text link false same is note c = tt
+notes_if : Given → (text : List ℕ) (link : Link) (b : Bool) → IsShape link.host.shape → IsNoteText text → CanSend link
+    → IfSome (if b then Some (noted_as text link.host) else None) SendsTexts
+notes_if given text link true is note c = note_texts given text link.host is note c.values
+notes_if given text link false is note c = tt
 
-blank_sendable : (shape : Shape) → IsShape shape → IsSendable (new_display shape).screen
-blank_sendable shape is = record {
-  few = subst (λ (n : ℕ). n ≤ most_cells) (sym (blank_length shape)) is.addresses;
-  cursor = subst (λ (n : ℕ). 0 < n) (sym (blank_length shape)) (first_cell shape is);
+blank_sendable : (model : Model) (shape : Shape) → IsShape shape → IsSendable (new_display model shape).screen
+blank_sendable model shape is = record {
+  few = subst (λ (n : ℕ). n ≤ most_cells) (sym (blank_length model shape)) is.addresses;
+  cursor = subst (λ (n : ℕ). 0 < n) (sym (blank_length model shape)) (first_cell shape is);
   aid = tt;
   storable = All-replicate IsStorableCell (cells_in shape) (CharCell 0) refl;
 }
@@ -388,114 +448,107 @@ all_typed [] are typed = All-nil IsTypedEvent
 all_typed (event ∷ events) are typed =
     All-cons IsTypedEvent event events (are.0, All-head IsTyped event events typed) (all_typed events are.1 (All-tail IsTyped event events typed))
 
--- the terminal's screen has as many cells as its shape
-whole_at : (app : Application) (link : Link) → Kept app (view_of link) → length link.term.display.screen.cells ≡ cells_in link.term.display.shape
-whole_at app link k = k.whole ∙ sym (ap cells_in k.shape.same)
-
-host_shape : (app : Application) (link : Link) → IsApplication app → Kept app (view_of link) → IsShape link.host.shape
-host_shape app link is k = subst IsShape (sym k.shape.begins) is.shape
-
-steps : SentIsRead → Given → (app : Application) → IsApplication app → AsksForScreens app → Steps app IsTypedEvent (CanSend app.begins) (λ display. IsSendable display.screen)
+steps : SentIsRead → Given → (app : Application) → IsApplication app → AsksForScreens app → Steps app IsTypedEvent CanSend (λ display. IsSendable display.screen)
 steps read given app is asks = record {
-  never = record { screen = blank_sendable app.begins is.shape; spelt = All-nil CanBeSpelt; writes = All-nil (IsWritten app.begins); values = All-nil AreCharacters };
-  begins = λ terminal wanted. record { screen = blank_sendable app.begins is.shape; spelt = All-nil CanBeSpelt; writes = All-cons (IsWritten app.begins) _ [] tt (All-nil (IsWritten app.begins)); values = All-nil AreCharacters };
+  never = record { screen = blank_sendable M2 app.begins is.begins; spelt = All-nil CanBeSpelt; writes = All-nil IsWritten; values = All-nil AreCharacters };
+  begins = λ model terminal wanted. record { screen = blank_sendable model app.begins is.begins; spelt = All-nil CanBeSpelt; writes = All-cons IsWritten _ [] tt (All-nil IsWritten); values = All-nil AreCharacters };
   up = λ pool link message rest e k c.
       let step : HostStep = host_took pool link.host message in
       let just = just_talks pool link.host message in
-      left_if app.begins step.closes _ (record {
+      left_if step.closes _ (record {
         screen = c.screen;
         spelt = All-tail CanBeSpelt message rest (subst (All CanBeSpelt) e c.spelt);
-        writes = sent_all (IsWritten app.begins) link.lost link.down step.sends c.writes (subst (All (IsWritten app.begins)) (sym just.says) (All-map (IsWritten app.begins) ToTerminal.TalksDown just.talk (λ k d below. tt)));
+        writes = sent_all IsWritten link.lost link.down step.sends c.writes (subst (All IsWritten) (sym just.says) (All-map IsWritten ToTerminal.TalksDown just.talk (λ k d below. tt)));
         values = subst AreTexts (sym just.values) c.values;
       });
-  acts = λ link k c. sends app.begins link (acted app link.host) c (acts_by app asks link link.host.turn link.host.pending (is_agreed link.host.talk.state) k c refl refl);
+  acts = λ link k c. sends link (acted app link.host) c (acts_by app asks link link.host.turn link.host.pending (is_agreed link.host.talk.state) k c refl refl);
   notes = λ number text link such k c.
-      sends app.begins link (noted text link.host) c (notes_if given app.begins text link (may_note link.host.turn link.host.pending (is_agreed link.host.talk.state)) k.shape.begins (host_shape app link is k) such.0 c);
+      sends link (noted text link.host) c (notes_if given text link (may_note link.host.turn link.host.pending (is_agreed link.host.talk.state)) (shape_of_model app link.term.display.model link.host.shape is k.sizes.host) such.0 c);
   down = λ link message rest e k c.
-      let down : All (IsWritten app.begins) (message ∷ rest) = subst (All (IsWritten app.begins)) e c.writes in
-      let says = term_sends read given link.term message (subst (λ (shape : Shape). IsWritten shape message) (sym (k.shape.same ∙ k.shape.begins)) (All-head (IsWritten app.begins) message rest down)) (whole_at app link k) c.screen in
+      let down : All IsWritten (message ∷ rest) = subst (All IsWritten) e c.writes in
+      let says = term_sends read given link.term message (All-head IsWritten message rest down) (note_fits app link message rest e k) k.whole c.screen in
       record {
         screen = says.screen;
         spelt = sent_all CanBeSpelt link.lost link.up (term_took link.term message).sends c.spelt says.spelt;
-        writes = All-tail (IsWritten app.begins) message rest down;
+        writes = All-tail IsWritten message rest down;
         values = c.values;
       };
   key = λ terminal key link such k c.
       let display : Display = link.term.display in
       let outcome = outcome_of key display in
       let still = given.keys.sendable display.shape.columns key display.keyboard display.screen such.1 c.screen in
-      let whole = whole_at app link k in
       let on = given.keys.on_screen display.shape.columns key display.keyboard display.screen c.screen.cursor in
       record {
         screen = still;
         spelt = sent_all CanBeSpelt link.lost link.up (data_of (is_bound link.term) outcome.answer display.shape outcome.screen) c.spelt
-            (key_sends read (is_bound link.term) outcome.answer display.shape outcome.screen (on.0 ∙ whole) still);
+            (key_sends read (is_bound link.term) outcome.answer display.shape outcome.screen (on.0 ∙ k.whole) still);
         writes = c.writes;
         values = c.values;
       };
   loses = λ link c. record { screen = c.screen; spelt = c.spelt; writes = c.writes; values = c.values };
   host_leaves = λ link c. record { screen = c.screen; spelt = c.spelt; writes = c.writes; values = c.values };
   term_leaves = λ link c. record { screen = c.screen; spelt = c.spelt; writes = c.writes; values = c.values };
-  fresh = blank_sendable app.begins is.shape;
+  fresh = λ model. blank_sendable model app.begins is.begins;
   alone = λ link k c. c.screen;
   key_alone = λ terminal key display such still. given.keys.sendable display.shape.columns key display.keyboard display.screen such.1 still;
 }
 
 -- ---- the theorems
 
-in_place : (shape : Shape) (world : World) (place : Place) → ((number : ℕ) → CanSend shape (world.link number)) → InPlace (λ display. IsSendable display.screen) place → IsSendable (display_at world place).screen
-in_place shape world (Place.At number) can is = (can number).screen
-in_place shape world (Place.Alone display) can is = is
+in_place : (world : World) (place : Place) → ((number : ℕ) → CanSend (world.link number)) → InPlace (λ display. IsSendable display.screen) place → IsSendable (display_at world place).screen
+in_place world (Place.At number) can is = (can number).screen
+in_place world (Place.Alone display) can is = is
 
 -- of each connection and each display
-all_can : SentIsRead → Given → (app : Application) (pool : List Entry) (terminals : ℕ) (events : List Event)
-    → IsApplication app → AsksForScreens app → IsPool pool → terminals ≤ 16 → AreEvents events → All IsTyped events
-    → let world = run app events (new_world app pool terminals) in Everywhere (CanSend app.begins) (λ display. IsSendable display.screen) world.link world.place
-all_can read given app pool terminals events is asks lists few are typed =
-    everywhere given app is IsTypedEvent (CanSend app.begins) (λ display. IsSendable display.screen) (steps read given app is asks) pool terminals events lists are (all_typed events are typed)
+all_can : SentIsRead → Given → (app : Application) (pool : List Entry) (models : List Model) (events : List Event)
+    → IsApplication app → AsksForScreens app → IsPool pool → length models ≤ 16 → AreEvents events → All IsTyped events
+    → let world = run app events (new_world app pool models) in Everywhere CanSend (λ display. IsSendable display.screen) world.link world.place
+all_can read given app pool models events is asks lists few are typed =
+    everywhere given app is IsTypedEvent CanSend (λ display. IsSendable display.screen) (steps read given app is asks) pool models events lists are (all_typed events are typed)
 
 pub screens_are_sendable : SentIsRead → Given → AlwaysTyped ScreensAreSendable
-screens_are_sendable read given app pool terminals events is asks lists few are typed terminal =
-    let world : World = run app events (new_world app pool terminals) in
-    let all = all_can read given app pool terminals events is asks lists few are typed in
-    let keeps = screens_keep_their_shape given app pool terminals events is lists few are terminal in
+screens_are_sendable read given app pool models events is asks lists few are typed terminal =
+    let world : World = run app events (new_world app pool models) in
+    let all = all_can read given app pool models events is asks lists few are typed in
+    let keeps = screens_have_a_size given app pool models events is lists few are terminal in
     record {
-      sendable = in_place app.begins world (world.place terminal) all.links (all.places terminal);
-      whole = keeps.whole ∙ sym (ap (λ (shape : Shape). cells_in shape) keeps.shape_is);
+      sendable = in_place world (world.place terminal) all.links (all.places terminal);
+      whole = keeps.whole;
     }
 
 pub data_can_be_spelt : SentIsRead → Given → AlwaysTyped DataCanBeSpelt
-data_can_be_spelt read given app pool terminals events is asks lists few are typed number =
-    ((all_can read given app pool terminals events is asks lists few are typed).links number).spelt
+data_can_be_spelt read given app pool models events is asks lists few are typed number =
+    ((all_can read given app pool models events is asks lists few are typed).links number).spelt
 
 -- what holds of each message that is written holds of all of them
-each_written : (shape : Shape) (P : ToTerminal → Type 0) → ((message : ToTerminal) → IsWritten shape message → P message) → (messages : List ToTerminal) → All (IsWritten shape) messages → All P messages
-each_written shape P has [] each = All-nil P
-each_written shape P has (message ∷ messages) each =
-    All-cons P message messages (has message (All-head (IsWritten shape) message messages each)) (each_written shape P has messages (All-tail (IsWritten shape) message messages each))
+each_written : (P : ToTerminal → Type 0) → ((message : ToTerminal) → IsWritten message → P message) → (messages : List ToTerminal) → All IsWritten messages → All P messages
+each_written P has [] each = All-nil P
+each_written P has (message ∷ messages) each =
+    All-cons P message messages (has message (All-head IsWritten message messages each)) (each_written P has messages (All-tail IsWritten message messages each))
 
-paints_a_screen : (shape : Shape) (message : ToTerminal) → IsWritten shape message → PaintsAScreen message
-paints_a_screen shape (ToTerminal.TalksDown saying) written = tt
-paints_a_screen shape (ToTerminal.Paint number wanted over) written = written
-paints_a_screen shape (ToTerminal.ReadBuffer number) written = tt
-paints_a_screen shape (ToTerminal.Note number command) written = tt
+paints_a_screen : (message : ToTerminal) → IsWritten message → PaintsAScreen message
+paints_a_screen (ToTerminal.TalksDown saying) written = tt
+paints_a_screen (ToTerminal.Paint number wanted over) written = written
+paints_a_screen (ToTerminal.ReadBuffer number) written = tt
+paints_a_screen (ToTerminal.Note number command) written = tt
 
 pub paints_are_screens : SentIsRead → Given → AlwaysTyped PaintsAreScreens
-paints_are_screens read given app pool terminals events is asks lists few are typed number =
-    let all = all_can read given app pool terminals events is asks lists few are typed in
-    each_written app.begins PaintsAScreen (paints_a_screen app.begins) ((run app events (new_world app pool terminals)).link number).down (all.links number).writes
+paints_are_screens read given app pool models events is asks lists few are typed number =
+    let all = all_can read given app pool models events is asks lists few are typed in
+    each_written PaintsAScreen paints_a_screen ((run app events (new_world app pool models)).link number).down (all.links number).writes
 
-message_spelt : PaintIsSpelt → (shape : Shape) (message : ToTerminal) → IsWritten shape message → IsSpelt message
-message_spelt law shape (ToTerminal.TalksDown saying) written = tt
-message_spelt law shape (ToTerminal.Paint number wanted over) written = law wanted.size wanted.size over wanted written (inr refl) (λ writes. refl)
-message_spelt law shape (ToTerminal.ReadBuffer number) written = tt
-message_spelt law shape (ToTerminal.Note number command) written = written.1
+message_spelt : PaintIsSpelt → (message : ToTerminal) → IsWritten message → IsSpelt message
+message_spelt law (ToTerminal.TalksDown saying) written = tt
+message_spelt law (ToTerminal.Paint number wanted over) written =
+    λ now alternate sized writes. law now alternate over wanted written sized writes
+message_spelt law (ToTerminal.ReadBuffer number) written = tt
+message_spelt law (ToTerminal.Note number command) written = written.1
 
 pub paints_are_spelt : SentIsRead → Given → AlwaysTyped PaintsAreSpelt
-paints_are_spelt read given app pool terminals events is asks lists few are typed number =
-    let all = all_can read given app pool terminals events is asks lists few are typed in
-    each_written app.begins IsSpelt (message_spelt given.belief.spelt app.begins) ((run app events (new_world app pool terminals)).link number).down (all.links number).writes
+paints_are_spelt read given app pool models events is asks lists few are typed number =
+    let all = all_can read given app pool models events is asks lists few are typed in
+    each_written IsSpelt (message_spelt given.belief.spelt) ((run app events (new_world app pool models)).link number).down (all.links number).writes
 
 pub values_are_texts : SentIsRead → Given → AlwaysTyped ValuesAreTexts
-values_are_texts read given app pool terminals events is asks lists few are typed number =
-    ((all_can read given app pool terminals events is asks lists few are typed).links number).values
+values_are_texts read given app pool models events is asks lists few are typed number =
+    ((all_can read given app pool models events is asks lists few are typed).links number).values

@@ -1,5 +1,7 @@
 -- Bytes that stand for messages: each end makes of them what it makes of the messages.
-use Rattle.std.proofs.Common.{◌≡◌, ◌≤◌, ◌&&◌, ◌||◌, not, cond, if◌then◌else◌, ℕ, Bool, true, false, Option, None, List, [], ◌∷◌, ◌++◌, length, map, refl, ap, sym, subst, ◌∙◌, arith}
+use Rattle.std.proofs.Common.{◌≡◌, ◌≤◌, ◌&&◌, ◌||◌, not, cond, if◌then◌else◌, ℕ, Bool, true, false, Option, None, List, [], ◌∷◌, ◌++◌, length, map, refl, ap, sym, subst, ◌∙◌, arith, Some, ◌==◌}
+use Rattle.world3270.proofs.StandsSizes.{read_as_written}
+use Rattle.shadow.specs.Sized.{MeetsIsOfSize}
 use Rattle.std.proofs.lemmas.Grind.{flat_map-append}
 use Rattle.std.proofs.lemmas.Bool.{and_parts, eqb-true}
 use Rattle.std.proofs.lemmas.List.Elements.{filter-append}
@@ -26,9 +28,9 @@ use Rattle.keyboard.specs.State.{Keyboard, freed}
 use Rattle.keyboard.specs.declared.key.Pressed.{Pressed}
 use Rattle.keyboard.specs.declared.key.Pressed.TheVariants.{Done, Refused, Send}
 use Rattle.presentation.specs.Applied.{asked_by, asked_by_code}
-use Rattle.shadow.specs.Belief.{Shadow}
+use Rattle.shadow.specs.Belief.{Shadow, Belief, cells_believed, cells_of_fields}
 use Rattle.shadow.specs.Laws.{WantedIsPainted}
-use Rattle.shadow.specs.Paint.{paint, writes_over, is_base_size, erase_code}
+use Rattle.shadow.specs.Paint.{paint, writes_over, is_base_size, erase_code, paint_code}
 use Rattle.shadow.specs.Pairs.{Pairwise}
 use Rattle.telnet_wire.specs.Items.{WireItem, Record, Opt as OptItem, item_tokens, CanCome, sent_bytes}
 use Rattle.telnet_wire.specs.Laws.{NothingIsRest, ReadingNothing, DeliveriesCompose, DeliveryGoesOn, ItemIsRead, ItemsAreRead}
@@ -59,12 +61,11 @@ use Rattle.host_core.specs.KeepAlive.{no_operation}
 use Rattle.host_core.specs.Messages.{ToTerminal, ToHost, Verdict}
 use Rattle.term_core.proofs.Lengths.{read_buffer_fits, read_modified_fits}
 use Rattle.world3270.proofs.StandsFits.{talk_comes}
-use Rattle.world3270.proofs.StandsScreens.{size_is}
 use Rattle.world3270.specs.Sendable.{CanBeSent}
 use Rattle.host_core.specs.Says.{command_header, read_buffer_command}
-use Rattle.world3270.specs.Stands.{IsPaint, IsRead, IsNoted, StandsDown, StandsUp, IsEnd, all_items, is_nop, without_nops}
-use Rattle.world3270.specs.TrackedTerminals.{History, ByteEnd, ByteStep, of_model_2, restored_by}
-use Rattle.world3270.specs.StandsEnds.{PaintStands, IsSaid, NamesWanted, IsOpen, IsBelieved, ItemComes, TermTakes, is_painted, NopHasNoEffect, WritesAreMarked, TermPresses}
+use Rattle.world3270.specs.Stands.{IsPaint, IsRead, IsNoted, StandsDown, StandsUp, IsEnd, all_items, is_nop, without_nops, sized}
+use Rattle.world3270.specs.TrackedTerminals.{History, ByteEnd, ByteStep, restored_by}
+use Rattle.world3270.specs.StandsEnds.{PaintStands, IsSaid, NamesWanted, IsOpen, ItemComes, TermTakes, is_painted, NopHasNoEffect, WritesAreMarked, TermPresses, MayBePainted, MayBeNoted}
 use Rattle.world3270.specs.StandsLinks.{NothingStands, StandsCompose, StandsGoOn, BeginStands}
 use Rattle.world3270.specs.Terminal.{Display, TermEnd, TermStep, bound_to, is_bound, quiet, replied, paint_came, note_came, read_came, once_bound, took, erases_if, outcome_of, data_of}
 use Rattle.std.specs.Prelude.{is_some}
@@ -86,6 +87,23 @@ paint_writes size believed wanted = by_over (writes_over size believed)
     by_over true = refl
     by_over false = by_base (is_base_size wanted.size)
 
+-- a paint is a Write only if what is believed has the wanted size
+written_over : (n : ℕ) (believed : Shadow) (wanted : WantedScreen) → paint_code n believed wanted ≡ Write → cells_believed believed ≡ Some n
+written_over n believed wanted writes = by_belief believed writes
+  where
+    by_base : (b : Bool) → (if b then EraseWrite else EraseWriteAlternate) ≡ Write → ⊥
+    by_base true e = cc
+    by_base false e = cc
+
+    by_size : (beliefs : List Belief) (b : Bool) → (cells_of_fields beliefs == n) ≡ b → (if b then Write else erase_code wanted.size) ≡ Write → Some (cells_of_fields beliefs) ≡ Some n
+    by_size beliefs true e is = ap (λ (cells : ℕ). Some cells) (eqb-true (cells_of_fields beliefs) n e)
+    by_size beliefs false e is = absurd (by_base (is_base_size wanted.size) is)
+
+    by_belief : (shadow : Shadow) → paint_code n shadow wanted ≡ Write → cells_believed shadow ≡ Some n
+    by_belief Shadow.NothingKnown is = absurd (by_base (is_base_size wanted.size) is)
+    by_belief (Shadow.Unformatted known) is = absurd (by_base (is_base_size wanted.size) is)
+    by_belief (Shadow.Formatted beliefs) is = by_size beliefs (cells_of_fields beliefs == n) refl is
+
 pub paint_stands : WantedIsPainted → PaintStands
 paint_stands painted number wanted believed bytes body whole begins spelt fit = record {
   bytes = bytes;
@@ -97,6 +115,7 @@ paint_stands painted number wanted believed bytes body whole begins spelt fit = 
   paints = record {
     size = refl;
     writes = paint_writes (cells_in wanted.size) believed wanted;
+    over = written_over (cells_in wanted.size) believed wanted;
     paints = λ screen meets. painted believed wanted screen whole fit meets;
   };
 }
@@ -104,9 +123,8 @@ paint_stands painted number wanted believed bytes body whole begins spelt fit = 
 -- ---- an end, but for its history
 
 record IsSide (talk : Term) (station : Station) (end : TermEnd) : Type 0 where
-  shape_is : end.display.shape ≡ model_2
   talk_is : talk ≡ end.talk
-  screen_is : station.screen ≡ of_model_2 end.display.screen
+  screen_is : station.screen ≡ sized end.display
   keyboard_is : station.keyboard ≡ end.display.keyboard
 
 record SameItem (after : Term) (new : Station) (says : List WireItem) (closes : Option Cause) (marks : Bool) (step : TermStep) : Type 0 where
@@ -117,7 +135,7 @@ record SameItem (after : Term) (new : Station) (says : List WireItem) (closes : 
   wrote : new.took_write ≡ marks
 
 side_of : (bytes : ByteEnd) (end : TermEnd) → IsEnd bytes end → IsSide bytes.talk (before_byte bytes.station) end
-side_of bytes end is = record { shape_is = is.shape_is; talk_is = is.talk_is; screen_is = is.screen_is; keyboard_is = is.keyboard_is }
+side_of bytes end is = record { talk_is = is.talk_is; screen_is = is.screen_is; keyboard_is = is.keyboard_is }
 
 -- ---- the talk
 
@@ -146,7 +164,6 @@ replied_same : (end : TermEnd) (talk next : Term) (old new : Station) (answer : 
     → SameItem next new sent closes false (replied end p)
 replied_same end talk next old new answer p sent closes is unmarked model wanted gives said ends same fit = record {
   is_end = record {
-    shape_is = is.shape_is;
     talk_is = term_same next (record end.talk { talk = p.0 }) (model ∙ ap (λ (t : Term). t.model) is.talk_is) (wanted ∙ ap (λ (t : Term). t.wanted) is.talk_is) (ap (λ (q : Talk TermState × Reply). q.0) gives);
     screen_is = ap (λ (s : Station). s.screen) same ∙ is.screen_is;
     keyboard_is = ap (λ (s : Station). s.keyboard) same ∙ is.keyboard_is;
@@ -199,7 +216,6 @@ dropped talk next old new item end sent closes is unmarked no_talk stays talks =
     let answer : talks.0.reply ≡ reply.Nothing = ap (λ (q : Talk TermState × Reply). q.1) gives in
     record {
       is_end = record {
-        shape_is = is.shape_is;
         talk_is = term_same next talk talks.0.takes.model talks.0.takes.wanted (ap (λ (q : Talk TermState × Reply). q.0) gives) ∙ is.talk_is;
         screen_is = ap (λ (s : Station). s.screen) talks.1 ∙ is.screen_is;
         keyboard_is = ap (λ (s : Station). s.keyboard) talks.1 ∙ is.keyboard_is;
@@ -294,7 +310,7 @@ and_false : (b : Bool) → (b && false) ≡ false
 and_false true = refl
 and_false false = refl
 
-module _ (one_header : OneHeader) (fault_or_header : FaultIsNoHeader) where
+module _ (sizes : MeetsIsOfSize) (one_header : OneHeader) (fault_or_header : FaultIsNoHeader) where
   obeys : (old new : Station) (bytes body : List ℕ) (sent : List WireItem) (closes : Option Cause) (header : Header) (command : CommandParts)
       → header.kind ≡ Data3270 → Begins bytes header body → SpellsCommand old command body → TakesRecord old bytes sent closes new
       → Obeys old new sent closes header command
@@ -314,16 +330,17 @@ module _ (one_header : OneHeader) (fault_or_header : FaultIsNoHeader) where
         becomes = c ∙ ap (λ (x : CommandParts). obeyed x old) commands;
       }
 
-  -- what is spelt for a model 2 is spelt for its terminal
-  spelt_for : (old : Station) (screen : Screen) (command : CommandParts) (body : List ℕ) → old.screen ≡ of_model_2 screen → IsCommand model_2 model_2 command body → SpellsCommand old command body
-  spelt_for old screen command body is spelt = subst (λ (s : SizedScreen). IsCommand s.size (alternate_of s.model) command body) (sym is) spelt
+  -- what is spelt for its sizes is spelt for the terminal
+  spelt_for : (old : Station) (display : Display) (command : CommandParts) (body : List ℕ) → old.screen ≡ sized display → IsCommand display.shape (alternate_of display.model) command body
+      → SpellsCommand old command body
+  spelt_for old display command body is spelt = subst (λ (s : SizedScreen). IsCommand s.size (alternate_of s.model) command body) (sym is) spelt
 
-  -- the screen after a command is a model 2's
-  applied_so : (old : Station) (screen : Screen) (command : CommandParts) (body : List ℕ) → old.screen ≡ of_model_2 screen → IsCommand model_2 model_2 command body
-      → screen_applied command old.screen ≡ of_model_2 (after_command command screen)
-  applied_so old screen command body is spelt =
+  -- the screen after a command has the command's size
+  applied_so : (old : Station) (display : Display) (command : CommandParts) (size : Shape) → old.screen ≡ sized display → command.size ≡ size
+      → screen_applied command old.screen ≡ record { model = display.model; size = size; screen = after_command command display.screen }
+  applied_so old display command size is same =
       ap (λ (s : SizedScreen). screen_applied command s) is
-      ∙ ap (λ (size : Shape). record { model = M2; size = size; screen = after_command command screen }) (size_is command body spelt)
+      ∙ ap (λ (n : Shape). record { model = display.model; size = n; screen = after_command command display.screen }) same
 
   -- ---- a paint
 
@@ -337,19 +354,18 @@ module _ (one_header : OneHeader) (fault_or_header : FaultIsNoHeader) where
   no_data EraseAllUnprotected screen h = absurd (cc)
 
   painted_same : (number : ℕ) (wanted : WantedScreen) (believed : Shadow) (talk next : Term) (old new : Station) (end : TermEnd) (sent : List WireItem) (closes : Option Cause)
-      (item : WireItem) (p : IsPaint item number wanted believed) → IsBelieved believed end → IsSide talk old end
+      (item : WireItem) (p : IsPaint item number wanted believed) → MayBePainted wanted believed end → CanBeSent end.display.shape end.display.screen → IsSide talk old end
       → TakesRecord old p.bytes sent closes new → next ≡ talk → SameItem next new sent closes true (paint_came number wanted end)
-  painted_same number wanted believed talk next old new end sent closes item p b is taken same =
-      let spelt = spelt_for old end.display.screen p.command p.body is.screen_is p.spelt in
+  painted_same number wanted believed talk next old new end sent closes item p b r is taken same =
+      let spelt = spelt_for old end.display p.command p.body is.screen_is (read_as_written sizes number wanted believed item end p b r) in
       let done = obeys old new p.bytes p.body sent closes (command_header always_response number) p.command refl p.begins spelt taken in
       let parts = and_parts (is_write p.command.code) (asked_by p.command).restore p.paints.writes in
       let silent = no_data p.command.code (after_command p.command old.screen.screen) parts.0 in
       record {
         is_end = record {
-          shape_is = is.shape_is;
           talk_is = same ∙ is.talk_is;
-          screen_is = ap (λ (s : Station). s.screen) done.becomes ∙ applied_so old end.display.screen p.command p.body is.screen_is p.spelt
-              ∙ ap of_model_2 (p.paints.paints end.display.screen b.meets);
+          screen_is = ap (λ (s : Station). s.screen) done.becomes ∙ applied_so old end.display p.command wanted.size is.screen_is p.paints.size
+              ∙ ap (λ (s : Screen). record { model = end.display.model; size = wanted.size; screen = s }) (p.paints.paints end.display.screen b.meets);
           keyboard_is = ap (λ (s : Station). s.keyboard) done.becomes ∙ ap (λ (r : Bool). freed_if r old.keyboard) parts.1 ∙ ap freed is.keyboard_is;
         };
         said = subst (λ (items : List WireItem). Pairwise StandsUp items (ToHost.Response number Verdict.Positive ∷ []))
@@ -369,15 +385,15 @@ module _ (one_header : OneHeader) (fault_or_header : FaultIsNoHeader) where
       → TakesRecord old p.bytes sent closes new → next ≡ talk → SameItem next new sent closes false (read_came end)
   read_same reads number talk next old new end sent closes item p r is taken same =
       let screen_is : old.screen.screen ≡ end.display.screen = ap (λ (s : SizedScreen). s.screen) is.screen_is in
-      let spelt = spelt_for old end.display.screen (read_buffer_command model_2) p.body is.screen_is p.spelt in
-      let done = obeys old new p.bytes p.body sent closes (command_header error_response number) (read_buffer_command model_2) refl p.begins spelt taken in
+      let read : CommandParts = read_buffer_command end.display.shape in
+      let spelt = spelt_for old end.display read p.body is.screen_is (p.spelt end.display.shape (alternate_of end.display.model)) in
+      let done = obeys old new p.bytes p.body sent closes (command_header error_response number) read refl p.begins spelt taken in
       let inbound : IsInbound (buffer_data end.display.shape end.display.screen) (read_buffer old.screen.screen) =
       subst (λ (s : Screen). IsInbound (buffer_data end.display.shape end.display.screen) (read_buffer s)) (sym screen_is) (reads.buffer end.display.shape end.display.screen r.whole r.sendable) in
       record {
         is_end = record {
-          shape_is = is.shape_is;
           talk_is = same ∙ is.talk_is;
-          screen_is = ap (λ (s : Station). s.screen) done.becomes ∙ applied_so old end.display.screen (read_buffer_command model_2) p.body is.screen_is p.spelt;
+          screen_is = ap (λ (s : Station). s.screen) done.becomes ∙ applied_so old end.display read end.display.shape is.screen_is refl;
           keyboard_is = ap (λ (s : Station). s.keyboard) done.becomes ∙ is.keyboard_is;
         };
         said = subst (λ (items : List WireItem). Pairwise StandsUp items (ToHost.Data (buffer_data end.display.shape end.display.screen) ∷ []))
@@ -391,18 +407,19 @@ module _ (one_header : OneHeader) (fault_or_header : FaultIsNoHeader) where
   -- ---- a note
 
   noted_same : (number : ℕ) (command : CommandParts) (talk next : Term) (old new : Station) (end : TermEnd) (sent : List WireItem) (closes : Option Cause)
-      (item : WireItem) (p : IsNoted item number command) → IsNote command → IsSide talk old end
+      (item : WireItem) (p : IsNoted item number command) → MayBeNoted command end → IsSide talk old end
       → TakesRecord old p.bytes sent closes new → next ≡ talk → SameItem next new sent closes false (note_came number command end)
-  noted_same number command talk next old new end sent closes item p note is taken same =
-      let spelt = spelt_for old end.display.screen command p.body is.screen_is p.spelt in
+  noted_same number command talk next old new end sent closes item p may is taken same =
+      let note : IsNote command = may.note in
+      let spelt = spelt_for old end.display command p.body is.screen_is
+      (subst (λ (now : Shape). IsCommand now (alternate_of end.display.model) command p.body) may.size (p.spelt (alternate_of end.display.model))) in
       let done = obeys old new p.bytes p.body sent closes (command_header always_response number) command refl p.begins spelt taken in
       let restores : (asked_by command).restore ≡ false = note_restores command note in
       let silent : data_read command.code (after_command command old.screen.screen) ≡ None = ap (λ (c : CommandCode). data_read c (after_command command old.screen.screen)) note.code in
       record {
         is_end = record {
-          shape_is = is.shape_is;
           talk_is = same ∙ is.talk_is;
-          screen_is = ap (λ (s : Station). s.screen) done.becomes ∙ applied_so old end.display.screen command p.body is.screen_is p.spelt;
+          screen_is = ap (λ (s : Station). s.screen) done.becomes ∙ applied_so old end.display command end.display.shape is.screen_is may.size;
           keyboard_is = ap (λ (s : Station). s.keyboard) done.becomes ∙ ap (λ (r : Bool). freed_if r old.keyboard) restores ∙ is.keyboard_is;
         };
         said = subst (λ (items : List WireItem). Pairwise StandsUp items (ToHost.Response number Verdict.Positive ∷ []))
@@ -427,7 +444,7 @@ module _ (one_header : OneHeader) (fault_or_header : FaultIsNoHeader) where
       subst (λ (b : Bool). SameItem step.end.talk step.end.station step.says step.closes b (once_bound (is_bound end) (paint_came number wanted end) end)) (and_true (is_bound end))
       (record_comes old.talk step.end.talk (before_byte old.station) step.end.station comes.stands.bytes end step.says step.closes (paint_came number wanted end) true
       comes.may.is_open (side_of old end comes.is_end) refl
-      (painted_same number wanted believed old.talk step.end.talk (before_byte old.station) step.end.station end step.says step.closes item comes.stands comes.may (side_of old end comes.is_end))
+      (painted_same number wanted believed old.talk step.end.talk (before_byte old.station) step.end.station end step.says step.closes item comes.stands comes.may comes.sendable (side_of old end comes.is_end))
       (subst (λ (i : WireItem). TakesItem old.talk (before_byte old.station) i step.says step.closes step.end.talk step.end.station) comes.stands.is_record comes.takes.takes))
   same_item reads (ToTerminal.ReadBuffer number) item old end step comes =
       subst (λ (b : Bool). SameItem step.end.talk step.end.station step.says step.closes b (once_bound (is_bound end) (read_came end) end)) (and_false (is_bound end))
@@ -438,8 +455,8 @@ module _ (one_header : OneHeader) (fault_or_header : FaultIsNoHeader) where
   same_item reads (ToTerminal.Note number command) item old end step comes =
       subst (λ (b : Bool). SameItem step.end.talk step.end.station step.says step.closes b (once_bound (is_bound end) (note_came number command end) end)) (and_false (is_bound end))
       (record_comes old.talk step.end.talk (before_byte old.station) step.end.station comes.stands.bytes end step.says step.closes (note_came number command end) false
-      comes.may.0 (side_of old end comes.is_end) refl
-      (noted_same number command old.talk step.end.talk (before_byte old.station) step.end.station end step.says step.closes item comes.stands comes.may.1 (side_of old end comes.is_end))
+      comes.may.is_open (side_of old end comes.is_end) refl
+      (noted_same number command old.talk step.end.talk (before_byte old.station) step.end.station end step.says step.closes item comes.stands comes.may (side_of old end comes.is_end))
       (subst (λ (i : WireItem). TakesItem old.talk (before_byte old.station) i step.says step.closes step.end.talk step.end.station) comes.stands.is_record comes.takes.takes))
 
   pub writes_are_marked : SentIsRead → WritesAreMarked
@@ -454,7 +471,6 @@ module _ (one_header : OneHeader) (fault_or_header : FaultIsNoHeader) where
       (ap (λ (s : SizedScreen). s.screen) same.is_end.screen_is) (leaves message end) in
       record {
         is_end = record {
-          shape_is = same.is_end.shape_is;
           talk_is = same.is_end.talk_is;
           screen_is = same.is_end.screen_is;
           keyboard_is = same.is_end.keyboard_is;
@@ -500,7 +516,6 @@ nop_has_no_effect old end step is_open is taken =
     record {
       same = record {
         is_end = record {
-          shape_is = same.is_end.shape_is;
           talk_is = same.is_end.talk_is;
           screen_is = same.is_end.screen_is;
           keyboard_is = same.is_end.keyboard_is;
@@ -558,16 +573,14 @@ term_presses ascend listed whole reads key old rest end holds sendable =
     ap (λ l. core_is_bound (phase_of l)) holds.attached ∙ same_bound holds.talk.talk.state ∙ ap (λ (t : Term). is_some (bound_to t.talk.state)) is.talk_is in
     let outcome : key_outcome key station ≡ outcome_of key end.display =
     ap (λ (k : Keyboard). pressed station.screen.size.columns key k station.screen.screen) is.keyboard_is
-    ∙ ap (λ (s : SizedScreen). pressed s.size.columns key end.display.keyboard s.screen) is.screen_is
-    ∙ ap (λ (s : Shape). pressed s.columns key end.display.keyboard end.display.screen) (sym is.shape_is) in
+    ∙ ap (λ (s : SizedScreen). pressed s.size.columns key end.display.keyboard s.screen) is.screen_is in
     record {
       holds = record {
         talk = holds.talk;
         attached = holds.attached;
         is_end = record {
-          shape_is = is.shape_is;
           talk_is = is.talk_is;
-          screen_is = ap (λ (s : SizedScreen). record s { screen = (key_outcome key station).screen }) is.screen_is ∙ ap (λ (o : Outcome). of_model_2 o.screen) outcome;
+          screen_is = ap (λ (s : SizedScreen). record s { screen = (key_outcome key station).screen }) is.screen_is ∙ ap (λ (o : Outcome). record (sized end.display) { screen = o.screen }) outcome;
           keyboard_is = ap (λ (o : Outcome). o.keyboard) outcome;
           last_restored_is = is.last_restored_is;
           erased_is = ap (λ (b : Bool). b || erases_if (key_outcome key station).answer key) is.erased_is
@@ -674,7 +687,7 @@ stands_go_on spoken Stands piecewise goes_on rest mid bytes behind items message
 -- ---- a connection at its begin
 
 pub begin_stands : ItemIsRead → NothingIsRest → NothingStands all_items StandsUp → BeginStands
-begin_stands written is_rest empty terminal wanted = record {
+begin_stands written is_rest empty panels model terminal wanted = record {
   lost = refl;
   host_here = refl;
   term_here = refl;
@@ -684,9 +697,9 @@ begin_stands written is_rest empty terminal wanted = record {
   term = λ which here. record {
     rest = nothing;
     holds = record {
-      talk = term_start M2 wanted;
+      talk = term_start model wanted;
       attached = refl;
-      is_end = record { shape_is = refl; talk_is = refl; screen_is = refl; keyboard_is = refl; last_restored_is = refl; erased_is = refl };
+      is_end = record { talk_is = refl; screen_is = refl; keyboard_is = refl; last_restored_is = refl; erased_is = refl };
     };
     silent = refl;
     down = record { is_rest = is_rest record_limit; items = OptItem Do 40 ∷ []; delivers = written record_limit (OptItem Do 40) tt; each = (refl, tt) };

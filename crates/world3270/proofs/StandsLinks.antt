@@ -288,7 +288,7 @@ module _ (takes : TermTakes) (keeps : TakesKeepSendable) (nop : NopHasNoEffect) 
       let next : Link = stayed (took link.term message) others link in
       came_more message others link old mid new behind says whole opened.0 same.said same.fit out
       (comes mid to next (record { talk = after; attached = at ∙ ap (link_after to after) (same.closed ∙ opened.0); is_end = same.is_end })
-      down all.2 opened.1 (keeps message item link.term each.0 all.1 is.shape_is can) more)
+      down all.2 opened.1 (keeps message item link.term each.0 all.1 can) more)
   item_comes false item (message ∷ other ∷ more) others link talk after old mid new to front behind says closes comes is_it whole each down may none can is taken at out rest = absurd each.1
 
   -- what the terminal takes with a byte, as the end takes it
@@ -316,7 +316,6 @@ module _ (takes : TermTakes) (keeps : TakesKeepSendable) (nop : NopHasNoEffect) 
         talk = holds.talk;
         attached = ap (λ (t : Terminal). t.link) is_mid ∙ ap (λ (t : Term). Attached to t) (sym parts.1);
         is_end = record {
-          shape_is = is.shape_is;
           talk_is = is.talk_is;
           screen_is = ap (λ (t : Terminal). t.station.screen) is_mid ∙ is.screen_is;
           keyboard_is = ap (λ (t : Terminal). t.station.keyboard) is_mid ∙ is.keyboard_is;

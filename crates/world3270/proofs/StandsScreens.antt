@@ -1,10 +1,12 @@
 -- A screen that can be sent stays one, whatever a command does to it.
 use Rattle.std.proofs.Common.{◌≡◌, ◌<◌, ◌≤◌, ◌+◌, ◌%◌, ℕ, Bool, true, false, Option, None, Some, List, [], ◌∷◌, length, arith, refl, ap, sym, subst, ◌∙◌, if◌then◌else◌, drop, map, position, replicate}
+use Rattle.world3270.proofs.StandsSizes.{cells_written_on, has_cells, has_few_cells, read_as_written}
+use Rattle.shadow.specs.Sized.{MeetsIsOfSize}
 use Rattle.std.specs.List.{All, prefix_len}
 use Rattle.std.proofs.lemmas.List.Elements.{All-head, All-tail, All-replicate}
 use Rattle.std.proofs.lemmas.List.{length-map, length-replicate, length-set}
 use Rattle.std.proofs.Math.Nat.{mod-lt}
-use Rattle.codes3270.specs.Size.{Shape, cells_in, model_2, most_cells}
+use Rattle.codes3270.specs.Size.{Shape, cells_in, most_cells, alternate_of}
 use Rattle.codes3270.specs.declared.attribute.Cell.{Cell}
 use Rattle.codes3270.specs.declared.attribute.Cell.TheVariants.{Char, Attr}
 use Rattle.codes3270.specs.declared.attention.Aid.TheVariants.{NoAid}
@@ -29,8 +31,8 @@ use Rattle.shadow.specs.Belief.{Shadow}
 use Rattle.shadow.specs.Painted.{plainly_painted}
 use Rattle.telnet_wire.specs.Items.{WireItem}
 use Rattle.world3270.specs.Sendable.{CanBeSent}
-use Rattle.world3270.specs.Stands.{IsPaint}
-use Rattle.world3270.specs.StandsEnds.{IsBelieved, TakesKeepSendable}
+use Rattle.world3270.specs.Stands.{IsPaint, IsNoted}
+use Rattle.world3270.specs.StandsEnds.{TakesKeepSendable, MayBeNoted, MayBePainted}
 use Rattle.world3270.specs.Terminal.{TermEnd, TermStep, is_bound, paint_came, note_came, read_came, once_bound}
 
 -- ---- orders
@@ -124,63 +126,61 @@ write_keeps size (Some wcc) orders screen all is =
     (orders_keep size orders (record { screen = prepared wcc screen; address = screen.cursor; after_data = false }) all
     (record { screen = prepared_if wcc.reset size screen is; address = subst (λ (n : ℕ). screen.cursor < n) is.cells is.sendable.cursor })).screen
 
-clear_keeps : (size : ℕ) (screen : Screen) → Keeps size screen → Keeps size (cleared size screen)
-clear_keeps size screen is =
+-- an erase makes them so many, whatever they were
+erase_keeps : (size : ℕ) (screen : Screen) → 0 < size → size ≤ most_cells → IsSendable screen → Keeps size (cleared size screen)
+erase_keeps size screen some few is =
     let long : length (replicate size (Char 0)) ≡ size = length-replicate size (Char 0) in
     record {
       sendable = record {
-        few = subst (λ (n : ℕ). n ≤ most_cells) (is.cells ∙ sym long) is.sendable.few;
-        cursor = subst (λ (n : ℕ). 0 < n) (sym long) (some_cells size screen is);
-        aid = is.sendable.aid;
+        few = subst (λ (n : ℕ). n ≤ most_cells) (sym long) few;
+        cursor = subst (λ (n : ℕ). 0 < n) (sym long) some;
+        aid = is.aid;
         storable = All-replicate IsStorableCell size (Char 0) refl;
       };
       cells = long;
     }
 
--- a write leaves a screen that can be sent
-code_keeps : (size : ℕ) (code : CommandCode) (wcc : Option Wcc) (orders : List Order) (screen : Screen) → is_write code ≡ true → All (IsProper size) orders → Keeps size screen
-    → Keeps size (after_code code size wcc orders screen)
-code_keeps size Write wcc orders screen writes all is = write_keeps size wcc orders screen all is
-code_keeps size EraseWrite wcc orders screen writes all is = write_keeps size wcc orders (cleared size screen) all (clear_keeps size screen is)
-code_keeps size EraseWriteAlternate wcc orders screen writes all is = write_keeps size wcc orders (cleared size screen) all (clear_keeps size screen is)
-code_keeps size ReadBuffer wcc orders screen writes all is = is
-code_keeps size ReadModified wcc orders screen writes all is = is
-code_keeps size ReadModifiedAll wcc orders screen writes all is = is
-code_keeps size EraseAllUnprotected wcc orders screen writes all is = absurd (cc)
+-- a write leaves a screen that can be sent: an erase of its size, and a Write the size that it finds
+code_keeps : (size : ℕ) (code : CommandCode) (wcc : Option Wcc) (orders : List Order) (screen : Screen) → is_write code ≡ true → All (IsProper size) orders → 0 < size → size ≤ most_cells
+    → IsSendable screen → (code ≡ Write → length screen.cells ≡ size) → Keeps size (after_code code size wcc orders screen)
+code_keeps size Write wcc orders screen writes all some few is same = write_keeps size wcc orders screen all (record { sendable = is; cells = same refl })
+code_keeps size EraseWrite wcc orders screen writes all some few is same = write_keeps size wcc orders (cleared size screen) all (erase_keeps size screen some few is)
+code_keeps size EraseWriteAlternate wcc orders screen writes all some few is same = write_keeps size wcc orders (cleared size screen) all (erase_keeps size screen some few is)
+code_keeps size ReadBuffer wcc orders screen writes all some few is same = absurd (cc)
+code_keeps size ReadModified wcc orders screen writes all some few is same = absurd (cc)
+code_keeps size ReadModifiedAll wcc orders screen writes all some few is same = absurd (cc)
+code_keeps size EraseAllUnprotected wcc orders screen writes all some few is same = absurd (cc)
 
--- ---- a command to a model 2
-
-same_after : (code : CommandCode) → size_after code model_2 model_2 ≡ model_2
-same_after Write = refl
-same_after EraseWrite = refl
-same_after EraseWriteAlternate = refl
-same_after ReadBuffer = refl
-same_after ReadModified = refl
-same_after ReadModifiedAll = refl
-same_after EraseAllUnprotected = refl
-
--- whatever its code, it leaves the size
-pub size_is : (command : CommandParts) (body : List ℕ) → IsCommand model_2 model_2 command body → command.size ≡ model_2
-size_is command body (IsCommand.write byte wcc text is_one stands sized read are is) = sized ∙ same_after command.code
-size_is command body (IsCommand.other byte ignored is_none stands sized none few is) = sized ∙ same_after command.code
-
-command_keeps : (command : CommandParts) (body : List ℕ) (screen : Screen) → IsCommand model_2 model_2 command body → is_write command.code ≡ true → CanBeSent model_2 screen
-    → CanBeSent model_2 (after_command command screen)
-command_keeps command body screen spelt writes is =
-    let base : cells_in command.size ≡ cells_in model_2 = ap (λ (size : Shape). cells_in size) (size_is command body spelt) in
-    let kept =
-    code_keeps (cells_in command.size) command.code command.wcc command.orders screen writes (command_proper command (model_2, model_2, body, spelt))
-    (record { sendable = is.sendable; cells = is.whole ∙ sym base }) in
-    record { sendable = kept.sendable; whole = kept.cells ∙ base }
+command_keeps : (now alternate : Shape) (command : CommandParts) (body : List ℕ) (screen : Screen) → IsCommand now alternate command body → is_write command.code ≡ true
+    → 0 < cells_in command.size → cells_in command.size ≤ most_cells → IsSendable screen → (command.code ≡ Write → length screen.cells ≡ cells_in command.size)
+    → CanBeSent command.size (after_command command screen)
+command_keeps now alternate command body screen spelt writes some few is same =
+    let kept = code_keeps (cells_in command.size) command.code command.wcc command.orders screen writes (command_proper command (now, alternate, body, spelt)) some few is same in
+    record { sendable = kept.sendable; whole = kept.cells }
 
 -- ---- a paint
 
-paint_keeps : (number : ℕ) (wanted : WantedScreen) (believed : Shadow) (item : WireItem) (end : TermEnd) (p : IsPaint item number wanted believed)
-    → IsBelieved believed end → CanBeSent model_2 end.display.screen → CanBeSent model_2 (plainly_painted wanted end.display.screen)
-paint_keeps number wanted believed item end p b is =
+paint_keeps : MeetsIsOfSize → (number : ℕ) (wanted : WantedScreen) (believed : Shadow) (item : WireItem) (end : TermEnd) (p : IsPaint item number wanted believed)
+    → MayBePainted wanted believed end → CanBeSent end.display.shape end.display.screen → CanBeSent wanted.size (plainly_painted wanted end.display.screen)
+paint_keeps sized number wanted believed item end p b is =
     let writes = (and_parts (is_write p.command.code) (asked_by p.command).restore p.paints.writes).0 in
-    subst (λ (s : Screen). CanBeSent model_2 s) (p.paints.paints end.display.screen b.meets)
-    (command_keeps p.command p.body end.display.screen p.spelt writes is)
+    let some : 0 < cells_in p.command.size = subst (λ (s : Shape). 0 < cells_in s) (sym p.paints.size) (has_cells end.display.model wanted.size b.size) in
+    let few : cells_in p.command.size ≤ most_cells = subst (λ (s : Shape). cells_in s ≤ most_cells) (sym p.paints.size) (has_few_cells end.display.model wanted.size b.size) in
+    subst (λ (s : Screen). CanBeSent wanted.size s) (p.paints.paints end.display.screen b.meets)
+    (subst (λ (size : Shape). CanBeSent size (after_command p.command end.display.screen)) p.paints.size
+    (command_keeps end.display.shape (alternate_of end.display.model) p.command p.body end.display.screen (read_as_written sized number wanted believed item end p b is) writes some few is.sendable
+    (cells_written_on sized number wanted believed item end p b is)))
+
+-- a note on a screen of its size
+note_keeps : (command : CommandParts) (number : ℕ) (item : WireItem) (end : TermEnd) (p : IsNoted item number command) → MayBeNoted command end
+    → CanBeSent end.display.shape end.display.screen → CanBeSent end.display.shape (after_command command end.display.screen)
+note_keeps command number item end p may is =
+    let cells : length end.display.screen.cells ≡ cells_in command.size = is.whole ∙ ap (λ (s : Shape). cells_in s) (sym may.size) in
+    let inside = is.sendable.cursor in
+    let room = is.sendable.few in
+    subst (λ (size : Shape). CanBeSent size (after_command command end.display.screen)) may.size
+    (command_keeps command.size command.size command p.body end.display.screen (p.spelt command.size) (ap is_write may.note.code) (omega (arith, cells, inside)) (omega (arith, cells, room)) is.sendable
+    (λ writes. cells))
 
 -- what the terminal shows can be sent
 abbrev CanSend : TermEnd → Type 0
@@ -190,19 +190,10 @@ bound_keeps : (bound : Bool) (step : TermStep) (end : TermEnd) → CanSend step.
 bound_keeps true step end is old = is
 bound_keeps false step end is old = old
 
-of_shape : (shape : Shape) (screen : Screen) → shape ≡ model_2 → CanBeSent model_2 screen → CanBeSent shape screen
-of_shape shape screen same is = subst (λ (s : Shape). CanBeSent s screen) (sym same) is
-
-of_base : (shape : Shape) (screen : Screen) → shape ≡ model_2 → CanBeSent shape screen → CanBeSent model_2 screen
-of_base shape screen same is = subst (λ (s : Shape). CanBeSent s screen) same is
-
-pub takes_keep_sendable : TakesKeepSendable
-takes_keep_sendable (ToTerminal.TalksDown saying) item end stands may base is = is
-takes_keep_sendable (ToTerminal.Paint number wanted believed) item end stands may base is =
-    bound_keeps (is_bound end) (paint_came number wanted end) end
-    (of_shape end.display.shape _ base (paint_keeps number wanted believed item end stands may (of_base end.display.shape end.display.screen base is))) is
-takes_keep_sendable (ToTerminal.ReadBuffer number) item end stands may base is = bound_keeps (is_bound end) (read_came end) end is is
-takes_keep_sendable (ToTerminal.Note number command) item end stands may base is =
-    bound_keeps (is_bound end) (note_came number command end) end
-    (of_shape end.display.shape _ base
-    (command_keeps command stands.body end.display.screen stands.spelt (ap is_write may.1.code) (of_base end.display.shape end.display.screen base is))) is
+pub takes_keep_sendable : MeetsIsOfSize → TakesKeepSendable
+takes_keep_sendable sized (ToTerminal.TalksDown saying) item end stands may is = is
+takes_keep_sendable sized (ToTerminal.Paint number wanted believed) item end stands may is =
+    bound_keeps (is_bound end) (paint_came number wanted end) end (paint_keeps sized number wanted believed item end stands may is) is
+takes_keep_sendable sized (ToTerminal.ReadBuffer number) item end stands may is = bound_keeps (is_bound end) (read_came end) end is is
+takes_keep_sendable sized (ToTerminal.Note number command) item end stands may is =
+    bound_keeps (is_bound end) (note_came number command end) end (note_keeps command number item end stands may is) is

@@ -89,7 +89,6 @@ sent_is_at count slot (Place.Alone display) is =
       record {
         detached = alone.detached;
         silent = ap (drop count) alone.silent ∙ drop-nil count;
-        shape = alone.shape;
         screen = alone.screen;
         keyboard = alone.keyboard;
         last_restored = alone.last_restored;

@@ -1,5 +1,6 @@
 -- Each event leads from a world that keeps what is known of each connection to one that does.
-use Rattle.std.proofs.Common.{◌≡◌, ◌<◌, ◌==◌, ◌&&◌, ◌++◌, ℕ, Bool, true, false, Option, None, Some, List, [], ◌∷◌, arith, replicate, refl, ap, sym, subst, ◌∙◌, if◌then◌else◌}
+use Rattle.std.proofs.Common.{◌≡◌, ◌<◌, ◌==◌, ◌&&◌, ◌++◌, ℕ, Bool, true, false, Option, None, Some, List, [], ◌∷◌, arith, replicate, refl, ap, sym, subst, ◌∙◌, if◌then◌else◌, inl}
+use Rattle.codes3270.specs.declared.size.Model.{Model}
 use Rattle.std.specs.Prelude.{filter_map}
 use Rattle.std.specs.List.{list_any}
 use Rattle.std.proofs.lemmas.Bool.{and_parts}
@@ -31,7 +32,7 @@ use Rattle.world3270.specs.Placed.{has_place, free_number, is_link, comes_up, is
 use Rattle.world3270.specs.Stages.{Kept}
 use Rattle.world3270.specs.Terminal.{Display, TermStep, new_display, after_key, key_came, took as term_took}
 use Rattle.world3270.specs.View.{view_of}
-use Rattle.world3270.specs.World.{Place, World, Event, IsEvent, AreEvents, new_world, with_at, with_link}
+use Rattle.world3270.specs.World.{Place, World, Event, IsEvent, AreEvents, new_world, with_at, with_link, display_at}
 use Rattle.world3270.proofs.Acting.{acts, notes, loses}
 use Rattle.world3270.proofs.Down.{term_view, obeys}
 use Rattle.world3270.proofs.Keys.{keys}
@@ -210,15 +211,15 @@ term_saw_good app world terminal (Place.Alone display) g = g
 some_cells : (shape : Shape) → IsShape shape → 0 < cells_in shape
 some_cells shape is = let columns = is.columns in let row = is.row in omega (arith, columns, row)
 
-unused_kept : Given → (app : Application) → IsApplication app → Kept app (view_of (unused app.begins))
+unused_kept : Given → (app : Application) → IsApplication app → Kept app (view_of (unused app))
 unused_kept given app is = record {
-  shape = record { begins = refl; same = refl };
   whole = length-replicate (cells_in app.begins) (Char 0);
-  cursor = some_cells app.begins is.shape;
+  cursor = some_cells app.begins is.begins;
   unreturned = λ wrong. absurd wrong;
   exact = record { known = given.belief.nothing_exact.0; protected = given.belief.nothing_exact.1 };
   wanted = None;
   moment = Moment.Talks Talking.Offering;
+  sizes = record { host = inl refl; screen = inl refl; same = λ steady. refl };
   at = record {
     host_talk = refl;
     term_talk = refl;
@@ -230,15 +231,15 @@ unused_kept given app is = record {
   fact = (record { shadow = refl; turn_reason = refl; lock = refl; aid = refl; no_fields = no_field (replicate (cells_in app.begins) (Char 0)) 0 (cells_in app.begins) }, tt);
 }
 
-begun_kept : Given → (app : Application) → IsApplication app → (terminal : ℕ) (wanted : Option (List ℕ)) → IsLuIfSome wanted → Kept app (view_of (begun app.begins terminal wanted))
-begun_kept given app is terminal wanted lu = record {
-  shape = record { begins = refl; same = refl };
+begun_kept : Given → (app : Application) → IsApplication app → (model : Model) (terminal : ℕ) (wanted : Option (List ℕ)) → IsLuIfSome wanted → Kept app (view_of (begun app model terminal wanted))
+begun_kept given app is model terminal wanted lu = record {
   whole = length-replicate (cells_in app.begins) (Char 0);
-  cursor = some_cells app.begins is.shape;
+  cursor = some_cells app.begins is.begins;
   unreturned = λ wrong. absurd wrong;
   exact = record { known = given.belief.nothing_exact.0; protected = given.belief.nothing_exact.1 };
   wanted = wanted;
   moment = Moment.Talks Talking.Offering;
+  sizes = record { host = inl refl; screen = inl refl; same = λ steady. refl };
   at = record {
     host_talk = refl;
     term_talk = refl;
@@ -250,12 +251,12 @@ begun_kept given app is terminal wanted lu = record {
   fact = (record { shadow = refl; turn_reason = refl; lock = refl; aid = refl; no_fields = no_field (replicate (cells_in app.begins) (Char 0)) 0 (cells_in app.begins) }, lu);
 }
 
-joined_good : Given → (app : Application) → IsApplication app → (world : World) (terminal : ℕ) (wanted : Option (List ℕ)) → IsLuIfSome wanted → (number : Option ℕ) → GoodWorld app world → GoodWorld app (joined app terminal wanted number world)
-joined_good given app is world terminal wanted lu None g = g
-joined_good given app is world terminal wanted lu (Some number) g = record {
-  links = all_with (λ n x. Kept app (view_of x)) number (begun app.begins terminal wanted) world.link (begun_kept given app is terminal wanted lu) g.links;
+joined_good : Given → (app : Application) → IsApplication app → (world : World) (terminal : ℕ) (model : Model) (wanted : Option (List ℕ)) → IsLuIfSome wanted → (number : Option ℕ) → GoodWorld app world → GoodWorld app (joined app terminal model wanted number world)
+joined_good given app is world terminal model wanted lu None g = g
+joined_good given app is world terminal model wanted lu (Some number) g = record {
+  links = all_with (λ n x. Kept app (view_of x)) number (begun app model terminal wanted) world.link (begun_kept given app is model terminal wanted lu) g.links;
   sound = g.sound;
-  holds = all_with (λ n x. Holds world.pool n x) number (begun app.begins terminal wanted) world.link (λ have here claims. absurd (cc)) g.holds;
+  holds = all_with (λ n x. Holds world.pool n x) number (begun app model terminal wanted) world.link (λ have here claims. absurd (cc)) g.holds;
   uncaused = g.uncaused;
   positive = g.positive;
 }
@@ -263,8 +264,8 @@ joined_good given app is world terminal wanted lu (Some number) g = record {
 -- ---- beginning anew
 
 term_anew_good : (app : Application) (world : World) (terminal : ℕ) (place : Place) → GoodWorld app world → GoodWorld app (term_anew app terminal place world)
-term_anew_good app world terminal (Place.At number) g = parted_good app world terminal number (new_display app.begins) g
-term_anew_good app world terminal (Place.Alone display) g = same_links app world (with_at terminal (Place.Alone (new_display app.begins)) world.place) g
+term_anew_good app world terminal (Place.At number) g = parted_good app world terminal number (new_display (world.link number).term.display.model app.begins) g
+term_anew_good app world terminal (Place.Alone display) g = same_links app world (with_at terminal (Place.Alone (new_display display.model app.begins)) world.place) g
 
 left_from : (app : Application) (link : Link) → Kept app (view_of link) → Kept app (view_of (host_left_from link)) × (host_left_from link).host_here ≡ false
 left_from app link k = by_here link.host_here refl
@@ -297,7 +298,7 @@ done_good given app is (Event.Note number text) world e p g = host_noted_good ap
 done_good given app is (Event.Lose number) world e p g = cut_good app world number g
 done_good given app is (Event.HostSees number) world e p g = host_left_good given app world number g
 done_good given app is (Event.TermSees terminal) world e p g = term_saw_good app world terminal (world.place terminal) g
-done_good given app is (Event.Connect terminal wanted) world e p g = joined_good given app is world terminal wanted e (free_number world.link) g
+done_good given app is (Event.Connect terminal wanted) world e p g = joined_good given app is world terminal (display_at world (world.place terminal)).model wanted e (free_number world.link) g
 done_good given app is (Event.RestartTerm terminal) world e p g = term_anew_good app world terminal (world.place terminal) g
 done_good given app is Event.RestartHost world e p g = host_anew_good given app world g
 
@@ -317,8 +318,8 @@ pub run-append : RunsCompose
 run-append app [] more world = refl
 run-append app (event ∷ events) more world = run-append app events more (happens app event world)
 
-pub new_good : Given → (app : Application) → IsApplication app → (pool : List Entry) (terminals : ℕ) → IsPool pool → GoodWorld app (new_world app pool terminals)
-new_good given app is pool terminals lists = record {
+pub new_good : Given → (app : Application) → IsApplication app → (pool : List Entry) (models : List Model) → IsPool pool → GoodWorld app (new_world app pool models)
+new_good given app is pool models lists = record {
   links = λ number. unused_kept given app is;
   sound = given.pool.sound_free pool (given.pool.sound pool lists);
   holds = λ number lu here claims. absurd (cc);

@@ -20,14 +20,14 @@ use Rattle.world3270.specs.Happens.{run}
 use Rattle.world3270.specs.World.{Place, World, Event, AreEvents, new_world, display_at}
 
 -- the screen has one of the two sizes that the terminal's model may have, and the cursor is on it
-pub record HasSize (app : Application) (display : Display) : Type 0 where
+pub record HasASize (app : Application) (display : Display) : Type 0 where
   pub size : IsSizeOf app display.model display.shape
   pub whole : length display.screen.cells ≡ cells_in display.shape
   pub cursor : display.screen.cursor < cells_in display.shape
 
 -- Each terminal's screen has.
 abbrev pub ScreensHaveASize : Application → World → Type 0
-ScreensHaveASize app world = (terminal : ℕ) → HasSize app (display_at world (world.place terminal))
+ScreensHaveASize app world = (terminal : ℕ) → HasASize app (display_at world (world.place terminal))
 
 -- an event's key is one that a terminal has
 abbrev pub IsTyped : Event → Type 0

@@ -59,7 +59,7 @@ pub record IsRead (item : WireItem) (number : ℕ) : Type 0 where
   pub body : List ℕ
   pub is_record : item ≡ Record bytes
   pub begins : Begins bytes (command_header error_response number) body
-  pub spelt : (now alternate : Shape) → cells_in now ≤ most_cells → IsCommand now alternate (read_buffer_command now) body
+  pub spelt : (now alternate : Shape) → IsCommand now alternate (read_buffer_command now) body
 
 -- a record that asks for a response in any case, with this very write, for a screen of its size
 pub record IsNoted (item : WireItem) (number : ℕ) (command : CommandParts) : Type 0 where

@@ -12,12 +12,12 @@ returns-clause-paint c = paint_stands c.what_is_wanted_is_painted.ensures.painte
 pub returns-clause-takes : goal.returns-clause-takes
 returns-clause-takes c =
     let messages = c.one_reading.ensures in
-    term_takes messages.header messages.header_or_fault c.sent_is_read.ensures
+    term_takes c.what_is_believed_has_a_size.ensures.meets messages.header messages.header_or_fault c.sent_is_read.ensures
 
 pub returns-clause-marks : goal.returns-clause-marks
 returns-clause-marks c =
     let messages = c.one_reading.ensures in
-    writes_are_marked messages.header messages.header_or_fault c.sent_is_read.ensures
+    writes_are_marked c.what_is_believed_has_a_size.ensures.meets messages.header messages.header_or_fault c.sent_is_read.ensures
 
 pub returns-clause-nop : goal.returns-clause-nop
 returns-clause-nop c = nop_has_no_effect
@@ -26,7 +26,7 @@ pub returns-clause-history : goal.returns-clause-history
 returns-clause-history c = history_follows
 
 pub returns-clause-sendable : goal.returns-clause-sendable
-returns-clause-sendable c = takes_keep_sendable
+returns-clause-sendable c = takes_keep_sendable c.what_is_believed_has_a_size.ensures.meets
 
 pub returns-clause-presses : goal.returns-clause-presses
 returns-clause-presses c =
@@ -74,21 +74,21 @@ pub returns-clause-down : goal.returns-clause-down
 returns-clause-down c =
     let messages = c.one_reading.ensures in
     let wire = c.one_reading-2.ensures in
-    down_stands (term_takes messages.header messages.header_or_fault c.sent_is_read.ensures) takes_keep_sendable nop_has_no_effect (stands_compose all_items StandsUp all_piecewise wire.deliveries wire.written)
+    down_stands (term_takes c.what_is_believed_has_a_size.ensures.meets messages.header messages.header_or_fault c.sent_is_read.ensures) (takes_keep_sendable c.what_is_believed_has_a_size.ensures.meets) nop_has_no_effect (stands_compose all_items StandsUp all_piecewise wire.deliveries wire.written)
     (stands_go_on without_nops StandsDown nops_piecewise wire.delivery_goes_on) wire.wrong_is_final
 
 pub returns-clause-down_marked : goal.returns-clause-down_marked
 returns-clause-down_marked c =
     let messages = c.one_reading.ensures in
     let wire = c.one_reading-2.ensures in
-    bytes_are_marked (term_takes messages.header messages.header_or_fault c.sent_is_read.ensures) takes_keep_sendable nop_has_no_effect (stands_compose all_items StandsUp all_piecewise wire.deliveries wire.written)
-    (stands_go_on without_nops StandsDown nops_piecewise wire.delivery_goes_on) wire.wrong_is_final (writes_are_marked messages.header messages.header_or_fault c.sent_is_read.ensures)
+    bytes_are_marked (term_takes c.what_is_believed_has_a_size.ensures.meets messages.header messages.header_or_fault c.sent_is_read.ensures) (takes_keep_sendable c.what_is_believed_has_a_size.ensures.meets) nop_has_no_effect (stands_compose all_items StandsUp all_piecewise wire.deliveries wire.written)
+    (stands_go_on without_nops StandsDown nops_piecewise wire.delivery_goes_on) wire.wrong_is_final (writes_are_marked c.what_is_believed_has_a_size.ensures.meets messages.header messages.header_or_fault c.sent_is_read.ensures)
 
 pub returns-clause-not_refused : goal.returns-clause-not_refused
 returns-clause-not_refused c =
     let messages = c.one_reading.ensures in
     let wire = c.one_reading-2.ensures in
-    down_is_not_refused (term_takes messages.header messages.header_or_fault c.sent_is_read.ensures) takes_keep_sendable nop_has_no_effect
+    down_is_not_refused (term_takes c.what_is_believed_has_a_size.ensures.meets messages.header messages.header_or_fault c.sent_is_read.ensures) (takes_keep_sendable c.what_is_believed_has_a_size.ensures.meets) nop_has_no_effect
     (stands_go_on without_nops StandsDown nops_piecewise wire.delivery_goes_on) wire.wrong_is_final
 
 pub returns-clause-host_sends : goal.returns-clause-host_sends

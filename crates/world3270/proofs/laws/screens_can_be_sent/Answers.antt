@@ -1,8 +1,8 @@
-use Rattle.world3270.proofs.Sendable.{screens_keep_their_shape, screens_are_sendable, data_can_be_spelt, paints_are_screens, paints_are_spelt, values_are_texts}
+use Rattle.world3270.proofs.Sendable.{screens_have_a_size, screens_are_sendable, data_can_be_spelt, paints_are_screens, paints_are_spelt, values_are_texts}
 use Rattle.world3270.proofs.laws.screens_can_be_sent.Goals as goal
 
-pub returns-clause-shape : goal.returns-clause-shape
-returns-clause-shape c = screens_keep_their_shape c.what_is_given.ensures
+pub returns-clause-size : goal.returns-clause-size
+returns-clause-size c = screens_have_a_size c.what_is_given.ensures
 
 pub returns-clause-screens : goal.returns-clause-screens
 returns-clause-screens c = screens_are_sendable c.sent_is_read.ensures c.what_is_given.ensures

@@ -20,7 +20,8 @@ returns c = record {
     long_opens = c.what_leaves_nothing_open.ensures.long;
     read_leaves = c.what_leaves_nothing_open.ensures.buffer;
     paint_opens = c.what_leaves_nothing_open.ensures.painted;
-    fit = c.what_is_shown_fits.ensures;
+    fit = c.what_is_shown_fits.ensures.fits;
+    sizes = c.what_is_shown_fits.ensures.sizes;
     names = c.one_reading.ensures.name;
   };
   keys = record {
