@@ -63,3 +63,4 @@ pub mod HostAnew
 pub mod ByteEnds
 pub mod Leaving
 pub mod OneWorld
+pub mod Sizes

@@ -32,6 +32,7 @@ pub mod Skipped
 pub mod Losses
 pub mod Forms
 pub mod Numbers
+pub mod Sizes
 pub mod Sendable
 pub mod ByteWorld
 pub mod InFlight

@@ -15,6 +15,7 @@ ghost use Rattle.world3270.specs.Places.{EndsAgree, UpIsHeld, HoldersAreHere, Li
 ghost use Rattle.world3270.specs.Refines.{BeginIsReached, HeadlineIsSeen, RunsGoOn, SkipsAreThose, StepsGoOn};
 ghost use Rattle.world3270.specs.TrackedTerminals.{HistoryFollows};
 ghost use Rattle.world3270.specs.Sendable.{AlwaysTyped, DataCanBeSpelt, PaintsAreScreens, PaintsAreSpelt, ScreensAreSendable, ScreensHaveASize, ValuesAreTexts};
+ghost use Rattle.world3270.specs.Sizes.{AllSizesAgree};
 ghost use Rattle.world3270.specs.Skipped.{SkippedChangesNothing};
 ghost use Rattle.world3270.specs.Stands.{StandsDown, StandsUp, all_items, without_nops};
 ghost use Rattle.world3270.specs.StandsEnds.{NopHasNoEffect, PaintStands, TakesKeepSendable, TermPresses, TermTakes, WritesAreMarked};
@@ -105,6 +106,14 @@ pub fn the_ends_agree()
     ensures agree { Always EndsAgree }
     ensures up { Always UpIsHeld }
     ensures holders { Always HoldersAreHere }
+{
+    what_is_given();
+}
+
+/// Law: over the same lists both ends of each connection have a size of the screen that the
+/// terminal's model may have, and the same one unless a paint waits for its answer.
+pub fn the_sizes_agree()
+    ensures { AlwaysOf AllSizesAgree }
 {
     what_is_given();
 }
