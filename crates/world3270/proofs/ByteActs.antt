@@ -7,7 +7,7 @@ use Rattle.std.specs.Prelude.{All}
 use Rattle.std.proofs.lemmas.Bool.{and_parts, ltb-true}
 use Rattle.std.proofs.lemmas.List.{length-set, set-get_or}
 use Rattle.std.proofs.lemmas.List.Elements.{All-head, All-nil, All-tail}
-use Rattle.codes3270.specs.Size.{Shape, model_2}
+use Rattle.codes3270.specs.Size.{Shape}
 use Rattle.shadow.specs.Belief.{Shadow}
 use Rattle.shadow.specs.Fits.{is_paintable}
 use Rattle.shadow.specs.Laws.{PaintIsBounded}

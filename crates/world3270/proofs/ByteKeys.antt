@@ -2,7 +2,6 @@
 use Rattle.std.proofs.Common.{◌≡◌, ◌<◌, ◌||◌, ◌++◌, ℕ, Bool, true, false, Option, None, Some, List, [], ◌∷◌, length, refl, ap, sym, subst, ◌∙◌, nat_lt, length-set}
 use Rattle.std.proofs.lemmas.Bool.{ltb-true}
 use Rattle.std.proofs.lemmas.List.{append-nil}
-use Rattle.codes3270.specs.Size.{Shape, model_2}
 use Rattle.presentation.specs.Sizes.{SizedScreen}
 use Rattle.datastream.specs.Screen.{Screen}
 use Rattle.host_core.specs.Application.{application_of}

@@ -39,7 +39,7 @@ use Rattle.world3270.specs.Sendable.{IsTyped}
 use Rattle.world3270.specs.Standing.{WorldStands, IsNotClosed, conn_of, rest_of, link_of}
 use Rattle.world3270.specs.Stands.{StandsDown, StandsUp, BytesUp, ByteLink, LinkStands, all_items}
 use Rattle.world3270.specs.StandsEnds.{IsSaid}
-use Rattle.world3270.specs.StandsLinks.{MayComeAll, WhatComesMayCome, HostSends, said_down, sent_down, NoneCloses}
+use Rattle.world3270.specs.StandsLinks.{MayComeAll, HostSends, said_down, sent_down, NoneCloses}
 use Rattle.world3270.specs.Terminal.{TermEnd, took as term_took}
 use Rattle.world3270.specs.World.{World, Event as MessageEvent, with_at}
 use Rattle.world3270.specs.declared.event.Event.TheVariants as event

@@ -22,7 +22,6 @@ use Rattle.world3270.specs.StandsLinks.{NothingStands, BeginStands, begun_bytes}
 use Rattle.world3270.specs.Terminal.{new_display}
 use Rattle.world3270.specs.World.{Place, World, new_world, with_at}
 use Rattle.world3270.specs.TrackedTerminals.{newly_tracked}
-use Rattle.world3270.proofs.Models.{model_is}
 use Rattle.world3270.proofs.Frames.{transits_same, transits_other, slot_same, slot_other, connection_same, connection_other, IsHere, alone_there, changed_stands}
 use Rattle.world3270.proofs.OneOfMany.{with_other, with_same}
 use Rattle.world3270.proofs.Partings.{like_stands}

@@ -16,7 +16,7 @@ use Rattle.world3270.specs.Places.{EndsAgree, UpIsHeld}
 use Rattle.world3270.specs.Refines.{Begin, IsBegin, Reached, IsReal, GoesOn, after}
 use Rattle.world3270.specs.Sendable.{IsTyped, ScreensAreSendable, PaintsAreScreens, PaintsAreSpelt}
 use Rattle.world3270.specs.Standing.{WorldStands}
-use Rattle.world3270.specs.StandsLinks.{WhatComesMayCome, HasTheSizes, MayComeAll, NoneCloses}
+use Rattle.world3270.specs.StandsLinks.{HasTheSizes, MayComeAll, NoneCloses}
 use Rattle.world3270.specs.World.{World, Event, IsEvent, AreEvents, new_world}
 use Rattle.world3270.specs.declared.event.Event.{Event as ByteEvent}
 use Rattle.world3270.specs.declared.event.Stepped.{Stepped}

@@ -1,5 +1,5 @@
 -- Screens keep their shape and can be sent, what is painted is a screen, and values are characters, after every event.
-use Rattle.std.proofs.Common.{◌≡◌, ◌<◌, ◌≤◌, ◌==◌, ◌&&◌, ◌++◌, ◌-◌, ◌+◌, not, ℕ, zero, suc, arith, Bool, true, false, Option, None, Some, List, [], ◌∷◌, length, replicate, refl, ap, sym, subst, ◌∙◌, inr, IfSome, IsTrue, if◌then◌else◌, inl}
+use Rattle.std.proofs.Common.{◌≡◌, ◌<◌, ◌≤◌, ◌==◌, ◌&&◌, ◌++◌, ◌-◌, ◌+◌, not, ℕ, zero, suc, arith, Bool, true, false, Option, None, Some, List, [], ◌∷◌, length, replicate, refl, ap, sym, subst, ◌∙◌, IfSome, IsTrue, if◌then◌else◌, inl}
 use Rattle.world3270.proofs.Queues.{front, nothing}
 use Rattle.world3270.specs.Moments.{Moment, Serving, Talking, UnderWay, down_at, served_down, talk_down}
 use Rattle.world3270.specs.Always.{AlwaysOf}

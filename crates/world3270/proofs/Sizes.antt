@@ -1,7 +1,6 @@
 -- The ends agree on the size of the screen.
-use Rattle.std.proofs.Common.{◌≡◌, Bool, true, false, refl, ap, ◌∙◌, sym}
+use Rattle.std.proofs.Common.{◌≡◌, false, refl, ap, ◌∙◌, sym}
 use Rattle.host_core.specs.Application.{Application}
-use Rattle.host_core.specs.Session.{Pending}
 use Rattle.world3270.specs.Always.{AlwaysOf}
 use Rattle.world3270.specs.Given.{Given}
 use Rattle.world3270.specs.Happens.{run}

@@ -6,9 +6,8 @@ use Rattle.std.proofs.lemmas.Grind.{flat_map-append}
 use Rattle.std.proofs.lemmas.Bool.{and_parts, eqb-true}
 use Rattle.std.proofs.lemmas.List.Elements.{filter-append}
 use Rattle.std.specs.List.{flat_map, AllByRecursion}
-use Rattle.codes3270.specs.Size.{Shape, alternate_of, cells_in, model_2, most_cells}
+use Rattle.codes3270.specs.Size.{Shape, alternate_of, cells_in, most_cells}
 use Rattle.codes3270.specs.declared.size.Model.{Model}
-use Rattle.codes3270.specs.declared.size.Model.TheVariants.{M2}
 use Rattle.presentation.specs.Sizes.{SizedScreen, applied as screen_applied}
 use Rattle.datastream.specs.Grammar.{CommandParts, IsCommand, is_write}
 use Rattle.datastream.specs.Inbound.{read_buffer, read_modified}

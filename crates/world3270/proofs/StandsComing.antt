@@ -1,5 +1,5 @@
 -- What comes down to a terminal may come, at each moment of its connection.
-use Rattle.std.proofs.Common.{◌≡◌, ℕ, List, [], ◌∷◌, sym, subst, refl, ◌∙◌, ◌⊎◌, inl, inr, ap}
+use Rattle.std.proofs.Common.{◌≡◌, ℕ, List, [], ◌∷◌, sym, subst, refl, ◌∙◌, inl, inr, ap}
 use Rattle.codes3270.specs.Size.{Shape}
 use Rattle.tn3270e_msg.specs.Device.{device_for}
 use Rattle.presentation.specs.Sizes.{HasSize}
@@ -8,12 +8,11 @@ use Rattle.datastream.specs.Grammar.{CommandParts}
 use Rattle.telnet_wire.specs.declared.wire.Verb.TheVariants.{Do}
 use Rattle.tn3270e_msg.specs.Talk.{Saying}
 use Rattle.tn3270e_msg.specs.TermTable.{Term}
-use Rattle.tn3270e_msg.specs.declared.device.Device.TheVariants.{Model2}
 use Rattle.tn3270e_msg.specs.declared.reply.OwnedMessage.TheVariants.{SendType, TypeIs, TypeReject, FunIs}
-use Rattle.host_core.specs.Application.{Application, IsApplication, IsShape, IsSizeOf}
+use Rattle.host_core.specs.Application.{Application, IsApplication, IsSizeOf}
 use Rattle.host_core.specs.Messages.{ToTerminal}
 use Rattle.host_core.specs.NoteLaws.{IsNoteOf}
-use Rattle.world3270.specs.Always.{Always, AlwaysOf}
+use Rattle.world3270.specs.Always.{AlwaysOf}
 use Rattle.world3270.specs.Given.{Given}
 use Rattle.world3270.specs.Happens.{run}
 use Rattle.world3270.specs.Link.{Link}

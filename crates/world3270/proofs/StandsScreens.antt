@@ -11,7 +11,7 @@ use Rattle.codes3270.specs.declared.attribute.Cell.{Cell}
 use Rattle.codes3270.specs.declared.attribute.Cell.TheVariants.{Char, Attr}
 use Rattle.codes3270.specs.declared.attention.Aid.TheVariants.{NoAid}
 use Rattle.codes3270.specs.declared.write_control.Wcc.{Wcc}
-use Rattle.datastream.specs.Grammar.{CommandParts, IsCommand, IsProper, is_write, size_after}
+use Rattle.datastream.specs.Grammar.{CommandParts, IsCommand, IsProper, is_write}
 use Rattle.datastream.specs.InboundFields.{IsStorableCell, IsSendable}
 use Rattle.datastream.specs.Meaning.{WriteProgress, stored, executed, all_executed, cleared, prepared, written, filled, unmodified, after_open_attribute, after_code, after_command}
 use Rattle.datastream.specs.Screen.{Screen, is_char, is_open_attribute}

@@ -1,5 +1,5 @@
 -- The sizes of a terminal's screen: two of them with as many cells are one; and a paint that may come is read as it was written.
-use Rattle.std.proofs.Common.{◌≡◌, ◌<◌, ◌≤◌, ◌⊎◌, inl, inr, ℕ, Some, length, refl, sym, ap, subst, ◌∙◌, arith}
+use Rattle.std.proofs.Common.{◌≡◌, ◌<◌, ◌≤◌, inl, inr, ℕ, length, refl, sym, ap, subst, ◌∙◌, arith}
 use Rattle.std.specs.Prelude.{IfSome}
 use Rattle.codes3270.specs.Size.{Shape, alternate_of, cells_in, model_2, most_cells, most_columns}
 use Rattle.codes3270.specs.declared.size.Model.{Model}

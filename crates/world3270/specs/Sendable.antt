@@ -17,7 +17,7 @@ use Rattle.host_core.specs.Messages.{ToTerminal, ToHost}
 use Rattle.shadow.specs.Paint.{paint, paint_bytes}
 use Rattle.world3270.specs.Terminal.{Display}
 use Rattle.world3270.specs.Happens.{run}
-use Rattle.world3270.specs.World.{Place, World, Event, AreEvents, new_world, display_at}
+use Rattle.world3270.specs.World.{World, Event, AreEvents, new_world, display_at}
 
 -- the screen has one of the two sizes that the terminal's model may have, and the cursor is on it
 pub record HasASize (app : Application) (display : Display) : Type 0 where

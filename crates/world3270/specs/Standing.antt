@@ -2,7 +2,6 @@
 -- each terminal has its place.
 use Rattle.std.specs.Prelude.{◌≡◌, ◌≤◌, ⊤, ℕ, Bool, false, List, [], length, Option, Some, None, is_some}
 use Rattle.host_core.specs.Application.{application_of}
-use Rattle.codes3270.specs.Size.{model_2}
 use Rattle.codes3270.specs.declared.size.Model.TheVariants.{M2}
 use Rattle.telnet_wire.specs.Reading.{Rest, nothing}
 use Rattle.host_core.specs.Session.{Conn, new_conn}

@@ -1,11 +1,11 @@
 -- When bytes represent messages: what is under way in each direction spells them, one item each,
 -- and nothing else but NOPs to the terminal (RFC 854; RFC 1647, sections 8.1 and 10.4; what is sent
 -- when is our profile).
-use Rattle.std.specs.Prelude.{◌≡◌, ◌≢◌, ◌<◌, ◌^◌, ◌==◌, not, ℕ, Bool, true, false, List, [], filter, length, Option, Some, ◌≤◌}
+use Rattle.std.specs.Prelude.{◌≡◌, ◌≢◌, ◌<◌, ◌^◌, ◌==◌, not, ℕ, Bool, true, false, List, [], filter, Option, Some}
 use Rattle.datastream.specs.declared.command_code.CommandCode.TheVariants.{Write}
 use Rattle.presentation.specs.Sizes.{SizedScreen}
 use Rattle.world3270.specs.Sendable.{IsSpeltFor}
-use Rattle.codes3270.specs.Size.{model_2, Shape, cells_in, most_cells}
+use Rattle.codes3270.specs.Size.{Shape, cells_in}
 use Rattle.datastream.specs.Grammar.{CommandParts, IsCommand}
 use Rattle.datastream.specs.InboundText.{IsInbound}
 use Rattle.datastream.specs.Meaning.{after_command}

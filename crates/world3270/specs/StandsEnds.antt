@@ -3,8 +3,8 @@
 use Rattle.std.specs.Prelude.{◌≡◌, ⊤, ℕ, Bool, true, false, List, ◌++◌, length, Option, None}
 use Rattle.presentation.specs.Sizes.{HasSize}
 use Rattle.std.specs.List.{AllByRecursion}
-use Rattle.codes3270.specs.Size.{cells_in, model_2}
-use Rattle.datastream.specs.Grammar.{IsCommand, CommandParts}
+use Rattle.codes3270.specs.Size.{cells_in}
+use Rattle.datastream.specs.Grammar.{CommandParts}
 use Rattle.datastream.specs.Note.{IsNote}
 use Rattle.datastream.specs.Wanted.{WantedScreen}
 use Rattle.keyboard.specs.declared.key.Key.{Key}

@@ -3,9 +3,7 @@
 use Rattle.std.specs.Prelude.{◌≡◌, ◌||◌, ℕ, Bool, true, false, List, [], ◌∷◌, Option}
 use Rattle.codes3270.specs.Size.{cells_in, model_2}
 use Rattle.codes3270.specs.declared.size.Model.{Model}
-use Rattle.codes3270.specs.declared.size.Model.TheVariants.{M2}
 use Rattle.datastream.specs.Screen.{Screen, blank_screen}
-use Rattle.presentation.specs.Sizes.{SizedScreen}
 use Rattle.keyboard.specs.declared.key.Key.{Key}
 use Rattle.telnet_wire.specs.Items.{WireItem}
 use Rattle.tn3270e_msg.specs.TermTable.{Term}

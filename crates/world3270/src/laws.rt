@@ -27,9 +27,9 @@ use host_core::laws::{notes_are_written, panels_are_shown, what_is_shown_fits};
 use keyboard::laws::{keys_keep_what_was_left, what_keys_leave_can_be_sent};
 use lu_pool::laws::the_pool_is_a_map;
 use shadow::laws::{
-    what_a_note_leaves, what_is_believed_has_a_size, what_is_exact_is_so, what_is_known_is_exact, what_is_protected_is_exact,
-    what_is_read_is_heard, what_is_sent_is_heard, what_is_wanted_is_painted,
-    what_is_written_is_taken, what_leaves_nothing_open,
+    what_a_note_leaves, what_is_believed_has_a_size, what_is_exact_is_so, what_is_known_is_exact,
+    what_is_protected_is_exact, what_is_read_is_heard, what_is_sent_is_heard,
+    what_is_wanted_is_painted, what_is_written_is_taken, what_leaves_nothing_open,
 };
 use tn3270e_msg::laws::one_reading;
 
