@@ -1,5 +1,6 @@
 -- The example is an application and a pool, and what happens in its runs may happen.
-use Rattle.std.proofs.Common.{◌≡◌, ℕ, suc, zero, Bool, true, false, List, [], ◌∷◌, length, Option, Some, None, refl, ap, sym, ◌∙◌, if◌then◌else◌, ◌&&◌, ◌<◌, ◌+◌, lit≤, lit<, inl}
+use Rattle.std.proofs.Common.{◌≡◌, ℕ, suc, zero, Bool, true, false, List, [], ◌∷◌, length, Option, Some, None, refl, ap, sym, ◌∙◌, if◌then◌else◌, ◌&&◌, ◌<◌, ◌+◌, lit≤, lit<, inl, inr}
+use Rattle.codes3270.specs.declared.size.Model.TheVariants.{M2, M3, M4, M5}
 use Rattle.codes3270.specs.declared.size.Model.{Model}
 use Rattle.std.specs.Prelude.{slice_get, bytes_eq, IsTrue, nat_lt}
 use Rattle.std.specs.List.{list_all}
@@ -15,7 +16,7 @@ use Rattle.panels.specs.declared.message.Message.{Message}
 use Rattle.tn3270e_msg.specs.Lu.{is_lu}
 use Rattle.host_core.specs.Application.{IsApplication, IsShape, IsShowable, KeepsNothing, IsSizeOf}
 use Rattle.host_core.specs.Notes.{IsNoteText, is_graphic, longest_note}
-use Rattle.world3270.specs.ExampleApplication.{example, screen_of, l2, example_pool}
+use Rattle.world3270.specs.ExampleApplication.{example, screen_of, l2, example_pool, alternate, shown_to}
 use Rattle.world3270.specs.World.{Event, IsEvent, AreEvents}
 
 -- ---- the application
@@ -23,21 +24,36 @@ use Rattle.world3270.specs.World.{Event, IsEvent, AreEvents}
 showable : (panel : ℕ) (values : Values) (message : Message) (keep : Bool) → let screen = screen_of panel values message keep in IsShowable screen.size screen
 showable zero values message true = record { size = refl; cells = refl; cursor = lit< tt; messages = (refl, refl); kept = refl }
 showable zero values message false = record { size = refl; cells = refl; cursor = lit< tt; messages = (refl, refl); kept = refl }
-showable (suc panel) values message keep = record { size = refl; cells = refl; cursor = lit< tt; messages = (refl, refl); kept = refl }
+showable (suc zero) values message keep = record { size = refl; cells = refl; cursor = lit< tt; messages = (refl, refl); kept = refl }
+showable (suc (suc panel)) values message keep = record { size = refl; cells = refl; cursor = lit< tt; messages = (refl, refl); kept = refl }
 
-sizes : (model : Model) (panel : ℕ) (values : Values) (message : Message) (keep : Bool) → IsSizeOf example model (screen_of panel values message keep).size
-sizes model zero values message keep = inl refl
-sizes model (suc panel) values message keep = inl refl
-
-whole : (panel : ℕ) (values : Values) (message : Message) → KeepsNothing (screen_of panel values message false)
-whole zero values message = refl
-whole (suc panel) values message = refl
+sizes : (model : Model) (panel : ℕ) (values : Values) (message : Message) (keep : Bool) → IsSizeOf example model (screen_of (shown_to model panel) values message keep).size
+sizes M5 zero values message keep = inl refl
+sizes M5 (suc zero) values message keep = inr refl
+sizes M5 (suc (suc panel)) values message keep = inl refl
+sizes M2 zero values message keep = inl refl
+sizes M3 zero values message keep = inl refl
+sizes M4 zero values message keep = inl refl
+sizes M2 (suc panel) values message keep = inl refl
+sizes M3 (suc panel) values message keep = inl refl
+sizes M4 (suc panel) values message keep = inl refl
 
 is_shape : IsShape example.begins
 is_shape = record { columns = lit< tt; row = lit≤ tt; addresses = lit≤ tt }
 
+alternates : (model : Model) → IsShape (alternate model)
+alternates M2 = is_shape
+alternates M3 = is_shape
+alternates M4 = is_shape
+alternates M5 = record { columns = lit< tt; row = lit≤ tt; addresses = lit≤ tt }
+
+whole : (panel : ℕ) (values : Values) (message : Message) → KeepsNothing (screen_of panel values message false)
+whole zero values message = refl
+whole (suc zero) values message = refl
+whole (suc (suc panel)) values message = refl
+
 pub is_application : IsApplication example
-is_application = record { begins = is_shape; alternates = λ model. is_shape; sizes = sizes; showable = showable; whole = whole }
+is_application = record { begins = is_shape; alternates = alternates; sizes = sizes; showable = showable; whole = whole }
 
 -- ---- the pool
 

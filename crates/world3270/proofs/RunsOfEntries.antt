@@ -5,7 +5,7 @@ use Rattle.keyboard.specs.Places.{onward, backward}
 use Rattle.keyboard.specs.declared.key.Key.TheVariants as key
 use Rattle.shadow.specs.Belief.{Fact}
 use Rattle.tn3270e_msg.specs.Device.{device_of}
-use Rattle.world3270.specs.ExampleApplication.{example}
+use Rattle.world3270.specs.ExampleApplication.{example, small, tall}
 use Rattle.world3270.specs.ExampleEnds.{rounds, settle, connects, presses, connected, after, end_on, bound_and_shows, refused_l1, name_place, letter_place, Decides, wanted_of}
 use Rattle.world3270.specs.ExampleRuns.{incomplete_entry, asking_again, answered_again, complete_entry, lost_entry, connected_again, entered_again, kept_sign_on, StoredRun, ReconnectingRun}
 use Rattle.world3270.specs.ExampleScreens.{fresh_sign_on, lettered_sign_on, greeting_seen, required_name}
@@ -16,9 +16,9 @@ use Rattle.world3270.proofs.SignedOn.{request_taken, agreement_taken, acted_on, 
 
 -- ---- the stored run
 
-shows_the_panel : end_on 0 (after connected) ≡ bound_and_shows fresh_sign_on
+shows_the_panel : end_on 0 (after connected) ≡ bound_and_shows small fresh_sign_on
 unfolding start asks signed acted_on agree request_taken agreement_taken device_of
-shows_the_panel = once_signed (end_on 0) [] (bound_and_shows fresh_sign_on) refl
+shows_the_panel = once_signed (end_on 0) [] (bound_and_shows small fresh_sign_on) refl
 
 abbrev enters_letter : List Event
 enters_letter = presses (key.Tab ∷ key.Char 0x58 ∷ key.Enter ∷ []) ++ Event.Up 0 ∷ []
@@ -33,17 +33,17 @@ keeps_the_letter : wanted_of (after asking_again) ≡ kept_sign_on ∷ []
 unfolding start asks signed acted_on agree request_taken agreement_taken device_of onward backward
 keeps_the_letter = once_signed wanted_of (enters_letter ++ (Event.Act 0 ∷ [])) (kept_sign_on ∷ []) refl
 
-asks_for_the_name : end_on 0 (after answered_again) ≡ bound_and_shows (lettered_sign_on required_name)
+asks_for_the_name : end_on 0 (after answered_again) ≡ bound_and_shows small (lettered_sign_on required_name)
 unfolding start asks signed acted_on agree request_taken agreement_taken device_of onward backward
-asks_for_the_name = once_signed (end_on 0) (enters_letter ++ settle 0) (bound_and_shows (lettered_sign_on required_name)) refl
+asks_for_the_name = once_signed (end_on 0) (enters_letter ++ settle 0) (bound_and_shows small (lettered_sign_on required_name)) refl
 
 abbrev enters_name : List Event
 enters_name = presses (key.Char 0x41 ∷ key.Char 0x42 ∷ key.Char 0x43 ∷ key.Enter ∷ [])
 
-shows_the_name : end_on 0 (after complete_entry) ≡ bound_and_shows (greeting_seen (0xC1 ∷ 0xC2 ∷ 0xC3 ∷ []))
+shows_the_name : end_on 0 (after complete_entry) ≡ bound_and_shows tall (greeting_seen (0xC1 ∷ 0xC2 ∷ 0xC3 ∷ []))
 unfolding start asks signed acted_on agree request_taken agreement_taken device_of onward backward
 shows_the_name =
-    once_signed (end_on 0) (enters_letter ++ (settle 0 ++ (enters_name ++ settle 0))) (bound_and_shows (greeting_seen (0xC1 ∷ 0xC2 ∷ 0xC3 ∷ []))) refl
+    once_signed (end_on 0) (enters_letter ++ (settle 0 ++ (enters_name ++ settle 0))) (bound_and_shows tall (greeting_seen (0xC1 ∷ 0xC2 ∷ 0xC3 ∷ []))) refl
 
 -- ---- the reconnecting run
 
@@ -72,10 +72,10 @@ is_signed_again rest =
     let after_it : IsAgreed (acted_on example (run example asks_again signed)) = record { here = refl; down = refl } in
     is_signed (loses ++ (sees ++ (settle 0 ++ rest))) ∙ agreeing example asks_again (rounds 0 2 ++ rest) signed is after_it
 
-is_granted : end_on 0 (after connected_again) ≡ bound_and_shows fresh_sign_on
+is_granted : end_on 0 (after connected_again) ≡ bound_and_shows small fresh_sign_on
 unfolding start asks signed acted_on agree request_taken agreement_taken device_of onward backward loses sees asks_again signed_again
 is_granted =
-    let computed : end_on 0 (run example (rounds 0 2) signed_again) ≡ bound_and_shows fresh_sign_on = refl in
+    let computed : end_on 0 (run example (rounds 0 2) signed_again) ≡ bound_and_shows small fresh_sign_on = refl in
     ap (end_on 0) (is_signed_again []) ∙ computed
 
 enters_name_again : List Event

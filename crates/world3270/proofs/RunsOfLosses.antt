@@ -3,7 +3,7 @@ use Rattle.std.proofs.Common.{◌≡◌, List, [], ◌∷◌, ◌++◌, true, re
 use Rattle.keyboard.specs.Places.{onward, backward}
 use Rattle.keyboard.specs.declared.key.Key.TheVariants as key
 use Rattle.tn3270e_msg.specs.Device.{device_of}
-use Rattle.world3270.specs.ExampleApplication.{example}
+use Rattle.world3270.specs.ExampleApplication.{example, small}
 use Rattle.world3270.specs.ExampleEnds.{presses, after, end_on, bound_and_shows}
 use Rattle.world3270.specs.ExampleLosses.{noted_typing, noted_lost, left_typing, remains_in, waits_noted, LosingRun}
 use Rattle.world3270.specs.ExampleNotes.{hello, hello_seen}
@@ -23,9 +23,9 @@ sees_nothing : is_skipped example (Event.TermSees 0) (after noted_typing) ≡ tr
 unfolding start asks signed acted_on agree request_taken agreement_taken device_of onward backward
 sees_nothing = once_signed (is_skipped example (Event.TermSees 0)) notes true refl
 
-shows_the_note : end_on 0 (after noted_lost) ≡ bound_and_shows (typing_sign_on hello_seen)
+shows_the_note : end_on 0 (after noted_lost) ≡ bound_and_shows small (typing_sign_on hello_seen)
 unfolding start asks signed acted_on agree request_taken agreement_taken device_of onward backward
-shows_the_note = once_signed (end_on 0) loses (bound_and_shows (typing_sign_on hello_seen)) refl
+shows_the_note = once_signed (end_on 0) loses (bound_and_shows small (typing_sign_on hello_seen)) refl
 
 waits_alone : remains_in (after left_typing) ≡ Some waits_noted
 unfolding start asks signed acted_on agree request_taken agreement_taken device_of onward backward

@@ -5,7 +5,7 @@ use Rattle.keyboard.specs.Places.{onward, backward}
 use Rattle.keyboard.specs.declared.key.Key.TheVariants as key
 use Rattle.shadow.specs.Belief.{Fact}
 use Rattle.tn3270e_msg.specs.Device.{device_of}
-use Rattle.world3270.specs.ExampleApplication.{example}
+use Rattle.world3270.specs.ExampleApplication.{example, small, tall}
 use Rattle.world3270.specs.ExampleEnds.{settle, presses, after, end_on, bound_and_shows, name_place, shown_by, Decides}
 use Rattle.world3270.specs.ExampleNotes.{hello, bye, noted_entry, crossed_entry, crossed_heard, answered_entry, crossed_clear, answered_clear, hello_seen, entered_under_bye, greeted, NotesRun}
 use Rattle.world3270.specs.ExampleScreens.{fresh_sign_on, typing_sign_on, unformatted}
@@ -26,9 +26,9 @@ hears = crosses ++ (Event.Up 0 ∷ Event.Up 0 ∷ [])
 abbrev crosses_clear : List Event
 crosses_clear = hears ++ (settle 0 ++ (Event.Note 0 hello ∷ presses (key.Clear ∷ []) ++ (Event.Down 0 ∷ [])))
 
-shows_the_note : end_on 0 (after noted_entry) ≡ bound_and_shows (typing_sign_on hello_seen)
+shows_the_note : end_on 0 (after noted_entry) ≡ bound_and_shows small (typing_sign_on hello_seen)
 unfolding start asks signed acted_on agree request_taken agreement_taken device_of onward backward
-shows_the_note = once_signed (end_on 0) notes (bound_and_shows (typing_sign_on hello_seen)) refl
+shows_the_note = once_signed (end_on 0) notes (bound_and_shows small (typing_sign_on hello_seen)) refl
 
 shows_the_other : shown_by (after crossed_entry) ≡ entered_under_bye
 unfolding start asks signed acted_on agree request_taken agreement_taken device_of onward backward
@@ -44,17 +44,17 @@ notes_in_no_turn : is_skipped example (Event.Note 0 hello) (after crossed_heard)
 unfolding start asks signed acted_on agree request_taken agreement_taken device_of onward backward
 notes_in_no_turn = once_signed (is_skipped example (Event.Note 0 hello)) hears true refl
 
-greets : end_on 0 (after answered_entry) ≡ bound_and_shows greeted
+greets : end_on 0 (after answered_entry) ≡ bound_and_shows tall greeted
 unfolding start asks signed acted_on agree request_taken agreement_taken device_of onward backward
-greets = once_signed (end_on 0) (hears ++ settle 0) (bound_and_shows greeted) refl
+greets = once_signed (end_on 0) (hears ++ settle 0) (bound_and_shows tall greeted) refl
 
-shows_it_cleared : shown_by (after crossed_clear) ≡ unformatted Clear hello_seen
+shows_it_cleared : shown_by (after crossed_clear) ≡ unformatted tall Clear hello_seen
 unfolding start asks signed acted_on agree request_taken agreement_taken device_of onward backward
-shows_it_cleared = once_signed shown_by crosses_clear (unformatted Clear hello_seen) refl
+shows_it_cleared = once_signed shown_by crosses_clear (unformatted tall Clear hello_seen) refl
 
-leads_back : end_on 0 (after answered_clear) ≡ bound_and_shows fresh_sign_on
+leads_back : end_on 0 (after answered_clear) ≡ bound_and_shows small fresh_sign_on
 unfolding start asks signed acted_on agree request_taken agreement_taken device_of onward backward
-leads_back = once_signed (end_on 0) (crosses_clear ++ settle 0) (bound_and_shows fresh_sign_on) refl
+leads_back = once_signed (end_on 0) (crosses_clear ++ settle 0) (bound_and_shows small fresh_sign_on) refl
 
 pub notes_run : NotesRun
 unfolding is_well_formed is_well_noted

@@ -1,5 +1,6 @@
 -- The runs of the example in which the host reads the screen, computed.
 use Rattle.std.proofs.Common.{◌≡◌, List, [], ◌∷◌, ◌++◌, refl, Some}
+use Rattle.world3270.specs.ExampleApplication.{small}
 use Rattle.codes3270.specs.declared.attention.Aid.TheVariants.{Enter, Pa}
 use Rattle.keyboard.specs.Places.{onward, backward}
 use Rattle.keyboard.specs.declared.key.Key.TheVariants as key
@@ -34,9 +35,9 @@ decides_on_pa =
     let fact = Fact.Exact (0xE7 ∷ []) in
     decided (after letter_read) (Pa 1) letter_place fact (once_signed (facts letter_place) reads_letter (at_turn (Pa 1) (Some fact)) refl)
 
-tells : end_on 0 (after answered_inactive) ≡ bound_and_shows (lettered_sign_on key_not_active)
+tells : end_on 0 (after answered_inactive) ≡ bound_and_shows small (lettered_sign_on key_not_active)
 unfolding start asks signed acted_on agree request_taken agreement_taken device_of onward backward
-tells = once_signed (end_on 0) (reads_letter ++ settle 0) (bound_and_shows (lettered_sign_on key_not_active)) refl
+tells = once_signed (end_on 0) (reads_letter ++ settle 0) (bound_and_shows small (lettered_sign_on key_not_active)) refl
 
 decides_on_the_erased : Decides (after erased_letter) Enter letter_place (Fact.Exact (0 ∷ []))
 unfolding start asks signed acted_on agree request_taken agreement_taken device_of onward backward
@@ -44,9 +45,9 @@ decides_on_the_erased =
     let fact = Fact.Exact (0 ∷ []) in
     decided (after erased_letter) Enter letter_place fact (once_signed (facts letter_place) erases_letter (at_turn Enter (Some fact)) refl)
 
-asks_after_the_erased : end_on 0 (after answered_erased) ≡ bound_and_shows erased_sign_on
+asks_after_the_erased : end_on 0 (after answered_erased) ≡ bound_and_shows small erased_sign_on
 unfolding start asks signed acted_on agree request_taken agreement_taken device_of onward backward
-asks_after_the_erased = once_signed (end_on 0) (erases_letter ++ settle 0) (bound_and_shows erased_sign_on) refl
+asks_after_the_erased = once_signed (end_on 0) (erases_letter ++ settle 0) (bound_and_shows small erased_sign_on) refl
 
 pub reading_run : ReadingRun
 unfolding is_well_formed is_well_noted
@@ -86,9 +87,9 @@ decides_on_nulls =
     let fact = Fact.Exact (0 ∷ []) in
     decided (after nulls_read) Enter letter_place fact (once_signed (facts letter_place) reads_nulls (at_turn Enter (Some fact)) refl)
 
-asks_after_nulls : end_on 0 (after answered_nulls) ≡ bound_and_shows erased_sign_on
+asks_after_nulls : end_on 0 (after answered_nulls) ≡ bound_and_shows small erased_sign_on
 unfolding start asks signed acted_on agree request_taken agreement_taken device_of onward backward
-asks_after_nulls = once_signed (end_on 0) (reads_nulls ++ settle 0) (bound_and_shows erased_sign_on) refl
+asks_after_nulls = once_signed (end_on 0) (reads_nulls ++ settle 0) (bound_and_shows small erased_sign_on) refl
 
 pub doubting_run : DoubtingRun
 unfolding is_well_formed is_well_noted

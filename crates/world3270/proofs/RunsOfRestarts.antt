@@ -5,7 +5,7 @@ use Rattle.keyboard.specs.Places.{onward, backward}
 use Rattle.keyboard.specs.declared.key.Key.TheVariants as key
 use Rattle.shadow.specs.Belief.{Shadow}
 use Rattle.tn3270e_msg.specs.Device.{device_of}
-use Rattle.world3270.specs.ExampleApplication.{example}
+use Rattle.world3270.specs.ExampleApplication.{example, small}
 use Rattle.world3270.specs.ExampleEnds.{rounds, settle, presses, connected, after, end_on, bound_and_shows, name_place, shown_by, apart}
 use Rattle.world3270.specs.ExampleRestarts.{cleared_entry, answered_clear, terminal_anew, loss_seen, back_at_host, host_anew, back_at_new_host, alone, host_waits, host_left, RestartingRun}
 use Rattle.world3270.specs.ExampleScreens.{fresh_sign_on, unformatted, no_message}
@@ -26,17 +26,17 @@ unfolding start asks signed acted_on agree request_taken agreement_taken device_
 decides_on_clear =
     turned (after cleared_entry) Clear name_place None (once_signed (facts name_place) clears (at_turn Clear None) refl)
 
-is_cleared : shown_by (after cleared_entry) ≡ unformatted Clear no_message
+is_cleared : shown_by (after cleared_entry) ≡ unformatted small Clear no_message
 unfolding start asks signed acted_on agree request_taken agreement_taken device_of onward backward clears
-is_cleared = once_signed shown_by clears (unformatted Clear no_message) refl
+is_cleared = once_signed shown_by clears (unformatted small Clear no_message) refl
 
 knows_the_cleared : ((after cleared_entry).link 0).host.shadow ≡ Shadow.Unformatted (replicate 32 (Some 0))
 unfolding start asks signed acted_on agree request_taken agreement_taken device_of onward backward clears
 knows_the_cleared = once_signed (λ (world : World). (world.link 0).host.shadow) clears (Shadow.Unformatted (replicate 32 (Some 0))) refl
 
-shows_the_panel_anew : end_on 0 (after answered_clear) ≡ bound_and_shows fresh_sign_on
+shows_the_panel_anew : end_on 0 (after answered_clear) ≡ bound_and_shows small fresh_sign_on
 unfolding start asks signed acted_on agree request_taken agreement_taken device_of onward backward clears
-shows_the_panel_anew = once_signed (end_on 0) (clears ++ settle 0) (bound_and_shows fresh_sign_on) refl
+shows_the_panel_anew = once_signed (end_on 0) (clears ++ settle 0) (bound_and_shows small fresh_sign_on) refl
 
 -- ---- the terminal begins anew
 
@@ -68,10 +68,10 @@ is_signed_anew rest =
     let after_it : IsAgreed (acted_on example (run example asks_anew signed)) = record { here = refl; down = refl } in
     is_signed (parts ++ (connected ++ rest)) ∙ agreeing example asks_anew (rounds 0 2 ++ rest) signed is after_it
 
-is_granted : end_on 0 (after back_at_host) ≡ bound_and_shows fresh_sign_on
+is_granted : end_on 0 (after back_at_host) ≡ bound_and_shows small fresh_sign_on
 unfolding start asks signed acted_on agree request_taken agreement_taken device_of onward backward clears leaves parts asks_anew signed_anew
 is_granted =
-    let computed : end_on 0 (run example (rounds 0 2) signed_anew) ≡ bound_and_shows fresh_sign_on = refl in
+    let computed : end_on 0 (run example (rounds 0 2) signed_anew) ≡ bound_and_shows small fresh_sign_on = refl in
     ap (end_on 0) (is_signed_anew []) ∙ computed
 
 -- ---- the host begins anew
@@ -103,10 +103,10 @@ is_signed_at_new_host rest =
     let after_it : IsAgreed (acted_on example (run example asks_new_host signed_anew)) = record { here = refl; down = refl } in
     is_signed_anew (sees_it ++ (connected ++ rest)) ∙ agreeing example asks_new_host (rounds 0 2 ++ rest) signed_anew is after_it
 
-is_granted_anew : end_on 0 (after back_at_new_host) ≡ bound_and_shows fresh_sign_on
+is_granted_anew : end_on 0 (after back_at_new_host) ≡ bound_and_shows small fresh_sign_on
 unfolding start asks signed acted_on agree request_taken agreement_taken device_of onward backward clears leaves parts asks_anew signed_anew restarts sees_it asks_new_host signed_at_new_host
 is_granted_anew =
-    let computed : end_on 0 (run example (rounds 0 2) signed_at_new_host) ≡ bound_and_shows fresh_sign_on = refl in
+    let computed : end_on 0 (run example (rounds 0 2) signed_at_new_host) ≡ bound_and_shows small fresh_sign_on = refl in
     ap (end_on 0) (is_signed_at_new_host []) ∙ computed
 
 -- ---- all of it

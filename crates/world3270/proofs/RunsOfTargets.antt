@@ -1,5 +1,6 @@
 -- The run of the example with keys that lead on, computed.
 use Rattle.std.proofs.Common.{◌≡◌, List, [], ◌∷◌, ◌++◌, refl}
+use Rattle.world3270.specs.ExampleApplication.{small, tall}
 use Rattle.keyboard.specs.Places.{onward, backward}
 use Rattle.keyboard.specs.declared.key.Key.TheVariants as key
 use Rattle.tn3270e_msg.specs.Device.{device_of}
@@ -13,13 +14,13 @@ use Rattle.world3270.proofs.SignedOn.{request_taken, agreement_taken, acted_on, 
 abbrev leads_on : List Event
 leads_on = presses (key.Pf 5 ∷ []) ++ settle 0
 
-shows_the_greeting : end_on 0 (after skipped_entry) ≡ bound_and_shows (greeting_seen (0 ∷ 0 ∷ 0 ∷ []))
+shows_the_greeting : end_on 0 (after skipped_entry) ≡ bound_and_shows tall (greeting_seen (0 ∷ 0 ∷ 0 ∷ []))
 unfolding start asks signed acted_on agree request_taken agreement_taken device_of onward backward
-shows_the_greeting = once_signed (end_on 0) leads_on (bound_and_shows (greeting_seen (0 ∷ 0 ∷ 0 ∷ []))) refl
+shows_the_greeting = once_signed (end_on 0) leads_on (bound_and_shows tall (greeting_seen (0 ∷ 0 ∷ 0 ∷ []))) refl
 
-shows_the_sign_on : end_on 0 (after cleared_greeting) ≡ bound_and_shows fresh_sign_on
+shows_the_sign_on : end_on 0 (after cleared_greeting) ≡ bound_and_shows small fresh_sign_on
 unfolding start asks signed acted_on agree request_taken agreement_taken device_of onward backward
-shows_the_sign_on = once_signed (end_on 0) (leads_on ++ (presses (key.Clear ∷ []) ++ settle 0)) (bound_and_shows fresh_sign_on) refl
+shows_the_sign_on = once_signed (end_on 0) (leads_on ++ (presses (key.Clear ∷ []) ++ settle 0)) (bound_and_shows small fresh_sign_on) refl
 
 pub leading_run : LeadingRun
 unfolding is_well_formed is_well_noted

@@ -1,7 +1,7 @@
 -- The example's terminal signed on. What the two ends say of functions is a set, which doesn't compute: a run is computed up to there,
 -- and from there on.
 use Rattle.std.proofs.Common.{◌≡◌, ℕ, Bool, true, false, List, [], ◌∷◌, ◌++◌, drop, Option, Some, None, refl, ap, ◌∙◌, if◌then◌else◌, ◌&&◌}
-use Rattle.codes3270.specs.declared.size.Model.TheVariants.{M2}
+use Rattle.codes3270.specs.declared.size.Model.TheVariants.{M5}
 use Rattle.std.specs.Prelude.{option_map, is_some}
 use Rattle.codes3270.specs.declared.attention.Aid.{Aid}
 use Rattle.lu_pool.specs.Asking.{answer_to}
@@ -94,7 +94,7 @@ agreeing app before rest world is after_it = runs_compose app before (rounds 0 1
 
 -- the example from its begin
 unfoldable pub start : World
-start = new_world example example_pool (M2 ∷ [])
+start = new_world example example_pool (M5 ∷ [])
 
 unfoldable pub asks : List Event
 asks = connects ++ rounds 0 3

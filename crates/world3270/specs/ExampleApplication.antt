@@ -1,6 +1,8 @@
 -- A small host for the example's runs: readers and proofs need it, and nothing rests on it (our profile). Its screens have two rows
--- of 16 cells, the second one for messages; and its pool has two LUs.
+-- of 16 cells, or three on a model 5, the last one for messages; and its pool has two LUs.
 use Rattle.std.specs.Prelude.{codes, ℕ, suc, zero, ◌+◌, ◌==◌, Bool, true, false, List, [], ◌∷◌, ◌++◌, map, replicate, None, if◌then◌else◌}
+use Rattle.codes3270.specs.declared.size.Model.TheVariants.{M2, M3, M4, M5}
+use Rattle.codes3270.specs.declared.size.Model.{Model}
 use Rattle.std.specs.List.{range_with_len}
 use Rattle.std.proofs.Common.{lit≤}
 use Rattle.codes3270.specs.Size.{Shape}
@@ -58,6 +60,26 @@ fields_of (suc panel) = []
 abbrev pub small : Shape
 small = record { rows = 2; columns = 16 }
 
+-- three, the alternate size of a model 5
+abbrev pub tall : Shape
+tall = record { rows = 3; columns = 16 }
+
+abbrev pub alternate : Model → Shape
+alternate M2 = small
+alternate M3 = small
+alternate M4 = small
+alternate M5 = tall
+
+-- a model 5 is shown the second panel, and any other the third one in its place
+abbrev pub shown_to : Model → ℕ → ℕ
+shown_to M5 panel = panel
+shown_to M2 zero = zero
+shown_to M3 zero = zero
+shown_to M4 zero = zero
+shown_to M2 (suc panel) = 2
+shown_to M3 (suc panel) = 2
+shown_to M4 (suc panel) = 2
+
 -- the first `count` cells of an item, beginning with its attribute
 abbrev pub item : ℕ → Attribute → List ℕ → List Want
 item count attr content = map (item_cell attr content) (range_with_len 0 count)
@@ -86,18 +108,28 @@ sign_on values message keep = record {
   reset = is_fresh message;
 }
 
--- the second panel: the name, the message
+-- the second panel: the name, a row of nulls, the message
+abbrev pub tall_greeting : Values → Message → WantedScreen
+tall_greeting values message = record {
+  size = tall;
+  cells = item 16 (autoskip_attr false) (shown values (Show name_field.number)) ++ replicate 16 (want.Char 0) ++ message_row (fields_of 1) message;
+  cursor = 0;
+  reset = is_fresh message;
+}
+
+-- the third one, without that row
 abbrev pub greeting : Values → Message → WantedScreen
 greeting values message = record {
   size = small;
-  cells = item 16 (autoskip_attr false) (shown values (Show name_field.number)) ++ message_row (fields_of 1) message;
+  cells = item 16 (autoskip_attr false) (shown values (Show name_field.number)) ++ message_row (fields_of 2) message;
   cursor = 0;
   reset = is_fresh message;
 }
 
 abbrev pub screen_of : ℕ → Values → Message → Bool → WantedScreen
 screen_of zero values message keep = sign_on values message keep
-screen_of (suc panel) values message keep = greeting values message
+screen_of (suc zero) values message keep = tall_greeting values message
+screen_of (suc (suc panel)) values message keep = greeting values message
 
 -- ---- the application, and the pool
 
@@ -109,7 +141,7 @@ led_to (suc panel) Clear = Go 0
 led_to _ _ = Again
 
 abbrev pub example : Application
-example = record { begins = small; alternate = λ model. small; start = 0; shown = λ model panel. panel; fields = fields_of; next = led_to; screen = screen_of }
+example = record { begins = small; alternate = alternate; start = 0; shown = shown_to; fields = fields_of; next = led_to; screen = screen_of }
 
 abbrev pub l1 : List ℕ
 l1 = codes "L1"

@@ -1,7 +1,8 @@
 -- What happens in the example's runs, and what is said of where they are: readers and proofs need it, and nothing rests on it (our
 -- profile).
 use Rattle.std.specs.Prelude.{◌≡◌, ◌∷◌, ◌++◌, ℕ, suc, zero, Bool, List, [], map, filter_map, replicate, Option, None, Some, option_map}
-use Rattle.codes3270.specs.declared.size.Model.TheVariants.{M2}
+use Rattle.codes3270.specs.Size.{Shape}
+use Rattle.codes3270.specs.declared.size.Model.TheVariants.{M5}
 use Rattle.codes3270.specs.declared.attention.Aid.{Aid}
 use Rattle.codes3270.specs.declared.attention.Aid.TheVariants.{NoAid}
 use Rattle.codes3270.specs.declared.attribute.Cell.TheVariants.{Char}
@@ -18,13 +19,13 @@ use Rattle.shadow.specs.Belief.{Fact, Belief}
 use Rattle.tn3270e_msg.specs.declared.term_talk.TermState.{TermState}
 use Rattle.tn3270e_msg.specs.declared.term_talk.TermState.TheVariants.{Agreed, Refused}
 use Rattle.host_core.specs.Messages.{ToTerminal, ToHost}
-use Rattle.world3270.specs.ExampleApplication.{example, example_pool, l1, l2}
+use Rattle.world3270.specs.ExampleApplication.{example, example_pool, l1, l2, small}
 use Rattle.world3270.specs.Happens.{run}
 use Rattle.world3270.specs.Headline.{IsLive, IsHostsTurn}
 use Rattle.world3270.specs.Seen.{seen_link}
 use Rattle.world3270.specs.World.{Place, World, Event, new_world}
 
--- ---- what happens, with one terminal
+-- ---- what happens, with one terminal, a model 5
 
 -- rounds on a connection: a message is delivered up, the host acts, a message is delivered down
 abbrev pub rounds : ℕ → ℕ → List Event
@@ -47,14 +48,15 @@ abbrev pub connected : List Event
 connected = connects ++ settle 0
 
 abbrev pub after : List Event → World
-after events = run example events (new_world example example_pool (M2 ∷ []))
+after events = run example events (new_world example example_pool (M5 ∷ []))
 
 -- ---- where it ends
 
--- The terminal's place; what it shows and whether it takes keys; how far its talk is, with the LU that it is bound to or why it was
+-- The terminal's place; the size of its screen, what it shows, and whether it takes keys; how far its talk is, with the LU that it is bound to or why it was
 -- refused one; what is under way on its connection; and the pool.
 pub record End : Type 0 where
   pub place : Place
+  pub size : Shape
   pub screen : Screen
   pub lock : Lock
   pub talk : TermState
@@ -68,6 +70,7 @@ end_on number world =
     let link = world.link number in
     record {
       place = world.place 0;
+      size = link.term.display.shape;
       screen = link.term.display.screen;
       lock = link.term.display.keyboard.lock;
       talk = link.term.talk.talk.state;
@@ -80,10 +83,11 @@ end_on number world =
 abbrev pub l1_held : List Entry
 l1_held = entry l1 (Some 0) ∷ entry l2 None ∷ []
 
--- the terminal is at connection 0, bound to L1, shows this, and takes keys; and nothing is under way
-abbrev pub bound_and_shows : Screen → End
-bound_and_shows screen = record {
+-- the terminal is at connection 0, bound to L1, shows this on a screen of this size, and takes keys; and nothing is under way
+abbrev pub bound_and_shows : Shape → Screen → End
+bound_and_shows size screen = record {
   place = Place.At 0;
+  size = size;
   screen = screen;
   lock = Free;
   talk = Agreed l1;
@@ -96,6 +100,7 @@ bound_and_shows screen = record {
 abbrev pub refused_l1 : End
 refused_l1 = record {
   place = Place.At 1;
+  size = small;
   screen = record { cells = replicate 32 (Char 0); cursor = 0; aid = NoAid };
   lock = Wait;
   talk = Refused device_in_use;

@@ -5,7 +5,7 @@ use Rattle.datastream.specs.Screen.{Screen}
 use Rattle.keyboard.specs.declared.key.Key.TheVariants as key
 use Rattle.keyboard.specs.declared.key.Lock.{Lock}
 use Rattle.keyboard.specs.declared.key.Lock.TheVariants.{Wait}
-use Rattle.world3270.specs.ExampleApplication.{example}
+use Rattle.world3270.specs.ExampleApplication.{example, small}
 use Rattle.world3270.specs.ExampleEnds.{presses, connected, after, end_on, bound_and_shows}
 use Rattle.world3270.specs.ExampleNotes.{hello, hello_seen}
 use Rattle.world3270.specs.ExampleScreens.{typing_sign_on}
@@ -48,5 +48,5 @@ waits_noted = record { screen = typing_sign_on hello_seen; lock = Wait }
 pub record LosingRun : Type 0 where
   pub are_events : AreEvents left_typing
   pub nothing_seen : is_skipped example (Event.TermSees 0) (after noted_typing) ≡ true
-  pub came : end_on 0 (after noted_lost) ≡ bound_and_shows (typing_sign_on hello_seen)
+  pub came : end_on 0 (after noted_lost) ≡ bound_and_shows small (typing_sign_on hello_seen)
   pub remains : remains_in (after left_typing) ≡ Some waits_noted

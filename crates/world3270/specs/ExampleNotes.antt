@@ -5,7 +5,7 @@ use Rattle.codes3270.specs.declared.attention.Aid.TheVariants.{Enter, Clear}
 use Rattle.datastream.specs.Screen.{Screen}
 use Rattle.keyboard.specs.declared.key.Key.TheVariants as key
 use Rattle.shadow.specs.Belief.{Fact}
-use Rattle.world3270.specs.ExampleApplication.{example}
+use Rattle.world3270.specs.ExampleApplication.{example, small, tall}
 use Rattle.world3270.specs.ExampleEnds.{settle, presses, connected, after, end_on, bound_and_shows, shown_by, name_place, Decides}
 use Rattle.world3270.specs.ExampleScreens.{fresh_sign_on, typing_sign_on, greeting_seen, unformatted}
 use Rattle.world3270.specs.Placed.{is_skipped}
@@ -63,10 +63,10 @@ greeted = greeting_seen (0xC1 ∷ 0 ∷ 0 ∷ [])
 -- none.
 pub record NotesRun : Type 0 where
   pub are_events : AreEvents answered_clear
-  pub noted : end_on 0 (after noted_entry) ≡ bound_and_shows (typing_sign_on hello_seen)
+  pub noted : end_on 0 (after noted_entry) ≡ bound_and_shows small (typing_sign_on hello_seen)
   pub crossed : shown_by (after crossed_entry) ≡ entered_under_bye
   pub decides : Decides (after crossed_heard) Enter name_place (Fact.Text (0xC1 ∷ []))
   pub none_in_its_turn : is_skipped example (Event.Note 0 hello) (after crossed_heard) ≡ true
-  pub answered : end_on 0 (after answered_entry) ≡ bound_and_shows greeted
-  pub cleared : shown_by (after crossed_clear) ≡ unformatted Clear hello_seen
-  pub led_back : end_on 0 (after answered_clear) ≡ bound_and_shows fresh_sign_on
+  pub answered : end_on 0 (after answered_entry) ≡ bound_and_shows tall greeted
+  pub cleared : shown_by (after crossed_clear) ≡ unformatted tall Clear hello_seen
+  pub led_back : end_on 0 (after answered_clear) ≡ bound_and_shows small fresh_sign_on

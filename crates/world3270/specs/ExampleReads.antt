@@ -1,6 +1,7 @@
 -- Two runs of the example in which the host reads the screen: after a key that sends no fields, and in doubt of a field. Readers and
 -- proofs need them, and nothing rests on them (our profile).
 use Rattle.std.specs.Prelude.{◌≡◌, List, [], ◌∷◌, ◌++◌}
+use Rattle.world3270.specs.ExampleApplication.{small}
 use Rattle.codes3270.specs.declared.attention.Aid.TheVariants.{Enter, Pa}
 use Rattle.keyboard.specs.declared.key.Key.TheVariants as key
 use Rattle.shadow.specs.Belief.{Fact}
@@ -34,9 +35,9 @@ pub record ReadingRun : Type 0 where
   pub are_events : AreEvents answered_erased
   pub reads : Reads (after inactive_key)
   pub knows_letter : Decides (after letter_read) (Pa 1) letter_place (Fact.Exact (0xE7 ∷ []))
-  pub told : end_on 0 (after answered_inactive) ≡ bound_and_shows (lettered_sign_on key_not_active)
+  pub told : end_on 0 (after answered_inactive) ≡ bound_and_shows small (lettered_sign_on key_not_active)
   pub knows_erased : Decides (after erased_letter) Enter letter_place (Fact.Exact (0 ∷ []))
-  pub asked : end_on 0 (after answered_erased) ≡ bound_and_shows erased_sign_on
+  pub asked : end_on 0 (after answered_erased) ≡ bound_and_shows small erased_sign_on
 
 -- ---- the doubting run
 
@@ -60,4 +61,4 @@ pub record DoubtingRun : Type 0 where
   pub doubts : Decides (after erased_entry) Enter letter_place (Fact.ExactOrNulls (0xE8 ∷ []))
   pub reads : Reads (after doubtful)
   pub knows : Decides (after nulls_read) Enter letter_place (Fact.Exact (0 ∷ []))
-  pub asked : end_on 0 (after answered_nulls) ≡ bound_and_shows erased_sign_on
+  pub asked : end_on 0 (after answered_nulls) ≡ bound_and_shows small erased_sign_on

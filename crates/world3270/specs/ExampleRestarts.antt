@@ -1,11 +1,11 @@
 -- A run of the example: the terminal's screen is cleared, then the terminal restarts, then the
 -- host. Readers and proofs need it, and nothing rests on it (our profile).
 use Rattle.std.specs.Prelude.{◌≡◌, true, false, List, [], ◌∷◌, ◌++◌, replicate, Some}
-use Rattle.codes3270.specs.declared.size.Model.TheVariants.{M2}
+use Rattle.codes3270.specs.declared.size.Model.TheVariants.{M5}
 use Rattle.codes3270.specs.declared.attention.Aid.TheVariants.{Clear}
 use Rattle.keyboard.specs.declared.key.Key.TheVariants as key
 use Rattle.shadow.specs.Belief.{Shadow}
-use Rattle.world3270.specs.ExampleApplication.{example, example_pool}
+use Rattle.world3270.specs.ExampleApplication.{example, example_pool, small}
 use Rattle.world3270.specs.ExampleEnds.{settle, presses, connected, after, end_on, l1_held, bound_and_shows, shown_by, Apart, apart}
 use Rattle.world3270.specs.ExampleScreens.{fresh_sign_on, unformatted, no_message}
 use Rattle.world3270.specs.Headline.{IsHostsTurn}
@@ -46,7 +46,7 @@ back_at_new_host = host_anew ++ Event.TermSees 0 ∷ connected
 
 -- the terminal holds no connection, and its screen is blank
 abbrev pub alone : Place
-alone = Place.Alone (new_display M2 example.begins)
+alone = Place.Alone (new_display M5 example.begins)
 
 -- the host still holds its connection, which holds L1
 abbrev pub host_waits : Apart
@@ -62,11 +62,11 @@ host_left place = record { place = place; host_here = false; pool = example_pool
 pub record RestartingRun : Type 0 where
   pub are_events : AreEvents back_at_new_host
   pub decides : IsHostsTurn (seen_link ((after cleared_entry).link 0))
-  pub cleared : shown_by (after cleared_entry) ≡ unformatted Clear no_message
+  pub cleared : shown_by (after cleared_entry) ≡ unformatted small Clear no_message
   pub knows : ((after cleared_entry).link 0).host.shadow ≡ Shadow.Unformatted (replicate 32 (Some 0))
-  pub shown_anew : end_on 0 (after answered_clear) ≡ bound_and_shows fresh_sign_on
+  pub shown_anew : end_on 0 (after answered_clear) ≡ bound_and_shows small fresh_sign_on
   pub released : apart (after terminal_anew) ≡ host_waits
   pub freed : apart (after loss_seen) ≡ host_left alone
-  pub granted : end_on 0 (after back_at_host) ≡ bound_and_shows fresh_sign_on
+  pub granted : end_on 0 (after back_at_host) ≡ bound_and_shows small fresh_sign_on
   pub restarted : apart (after host_anew) ≡ host_left (Place.At 0)
-  pub granted_anew : end_on 0 (after back_at_new_host) ≡ bound_and_shows fresh_sign_on
+  pub granted_anew : end_on 0 (after back_at_new_host) ≡ bound_and_shows small fresh_sign_on

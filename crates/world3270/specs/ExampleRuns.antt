@@ -6,7 +6,7 @@ use Rattle.datastream.specs.Wanted.{WantedScreen}
 use Rattle.keyboard.specs.declared.key.Key.TheVariants as key
 use Rattle.panels.specs.declared.message.Message.TheVariants.{Required}
 use Rattle.shadow.specs.Belief.{Fact}
-use Rattle.world3270.specs.ExampleApplication.{name_field, letter_field, sign_on}
+use Rattle.world3270.specs.ExampleApplication.{name_field, letter_field, sign_on, small, tall}
 use Rattle.world3270.specs.ExampleEnds.{settle, connects, presses, connected, after, end_on, bound_and_shows, refused_l1, name_place, letter_place, Decides, wanted_of}
 use Rattle.world3270.specs.ExampleScreens.{fresh_sign_on, lettered_sign_on, greeting_seen, required_name}
 use Rattle.world3270.specs.World.{Event, AreEvents}
@@ -36,11 +36,11 @@ kept_sign_on = sign_on ((letter_field.number, 0xE7 ∷ []) ∷ []) (Required nam
 -- shown.
 pub record StoredRun : Type 0 where
   pub are_events : AreEvents complete_entry
-  pub first : end_on 0 (after connected) ≡ bound_and_shows fresh_sign_on
+  pub first : end_on 0 (after connected) ≡ bound_and_shows small fresh_sign_on
   pub decides : Decides (after incomplete_entry) Enter letter_place (Fact.Text (0xE7 ∷ []))
   pub kept : wanted_of (after asking_again) ≡ kept_sign_on ∷ []
-  pub asked_again : end_on 0 (after answered_again) ≡ bound_and_shows (lettered_sign_on required_name)
-  pub stored : end_on 0 (after complete_entry) ≡ bound_and_shows (greeting_seen (0xC1 ∷ 0xC2 ∷ 0xC3 ∷ []))
+  pub asked_again : end_on 0 (after answered_again) ≡ bound_and_shows small (lettered_sign_on required_name)
+  pub stored : end_on 0 (after complete_entry) ≡ bound_and_shows tall (greeting_seen (0xC1 ∷ 0xC2 ∷ 0xC3 ∷ []))
 
 -- ---- the reconnecting run
 
@@ -63,5 +63,5 @@ entered_again = connected_again ++ presses (key.Char 0x42 ∷ key.Enter ∷ []) 
 pub record ReconnectingRun : Type 0 where
   pub are_events : AreEvents entered_again
   pub refused : end_on 1 (after lost_entry) ≡ refused_l1
-  pub granted : end_on 0 (after connected_again) ≡ bound_and_shows fresh_sign_on
+  pub granted : end_on 0 (after connected_again) ≡ bound_and_shows small fresh_sign_on
   pub decides : Decides (after entered_again) Enter name_place (Fact.Text (0xC2 ∷ []))

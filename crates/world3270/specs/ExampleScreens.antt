@@ -1,5 +1,7 @@
 -- The screens that are seen in the example's runs: readers and proofs need them, and nothing rests on them (our profile).
-use Rattle.std.specs.Prelude.{ℕ, Bool, true, false, List, [], ◌∷◌, ◌++◌, map, replicate}
+use Rattle.std.specs.Prelude.{ℕ, Bool, true, false, List, [], ◌∷◌, ◌++◌, map, replicate, ◌+◌}
+use Rattle.host_core.specs.Application.{message_place}
+use Rattle.codes3270.specs.Size.{Shape}
 use Rattle.codes3270.specs.declared.attention.Aid.{Aid}
 use Rattle.codes3270.specs.declared.attention.Aid.TheVariants.{NoAid}
 use Rattle.codes3270.specs.declared.attribute.Cell.{Cell}
@@ -74,8 +76,8 @@ typing_sign_on message = record {
 
 -- the second panel, with a name of three cells
 abbrev pub greeting_seen : List ℕ → Screen
-greeting_seen name = record { cells = skipped (name ++ replicate 12 0) ++ message_seen no_message; cursor = 0; aid = NoAid }
+greeting_seen name = record { cells = skipped (name ++ replicate 12 0) ++ replicate 16 (Char 0) ++ message_seen no_message; cursor = 0; aid = NoAid }
 
 -- no field, and no character but those of a note in the last row
-abbrev pub unformatted : Aid → List ℕ → Screen
-unformatted aid note = record { cells = replicate 17 (Char 0) ++ map Char note; cursor = 0; aid = aid }
+abbrev pub unformatted : Shape → Aid → List ℕ → Screen
+unformatted size aid note = record { cells = replicate (message_place size + 1) (Char 0) ++ map Char note; cursor = 0; aid = aid }

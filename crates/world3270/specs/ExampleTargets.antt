@@ -1,5 +1,6 @@
 -- A run of the example with keys that lead on: a PF key, and Clear. Readers and proofs need it, and nothing rests on it (our profile).
 use Rattle.std.specs.Prelude.{◌≡◌, List, [], ◌∷◌, ◌++◌}
+use Rattle.world3270.specs.ExampleApplication.{small, tall}
 use Rattle.keyboard.specs.declared.key.Key.TheVariants as key
 use Rattle.world3270.specs.ExampleEnds.{settle, presses, connected, after, end_on, bound_and_shows}
 use Rattle.world3270.specs.ExampleScreens.{fresh_sign_on, greeting_seen}
@@ -16,5 +17,5 @@ cleared_greeting = skipped_entry ++ presses (key.Clear ∷ []) ++ settle 0
 -- A PF key leads on, and no field is asked for; and Clear leads back.
 pub record LeadingRun : Type 0 where
   pub are_events : AreEvents cleared_greeting
-  pub led_on : end_on 0 (after skipped_entry) ≡ bound_and_shows (greeting_seen (0 ∷ 0 ∷ 0 ∷ []))
-  pub led_back : end_on 0 (after cleared_greeting) ≡ bound_and_shows fresh_sign_on
+  pub led_on : end_on 0 (after skipped_entry) ≡ bound_and_shows tall (greeting_seen (0 ∷ 0 ∷ 0 ∷ []))
+  pub led_back : end_on 0 (after cleared_greeting) ≡ bound_and_shows small fresh_sign_on
