@@ -13,7 +13,7 @@ use Rattle.world3270.specs.declared.event.Event.{Event}
 use Rattle.world3270.specs.declared.event.Stepped.{Stepped}
 use Rattle.jobs3270.specs.Happenings.{AreRounds, AreTyped, Happening, OthersIf, TakePlace, all_skipped, events_of, is_refused, most_rounds}
 use Rattle.jobs3270.specs.HexLines.{lines_of}
-use Rattle.jobs3270.specs.Plays.{AreHappeningsOf, Plays, PlaysLine, PlaysNext, playable_command, said_of, terminal_count}
+use Rattle.jobs3270.specs.Plays.{AreHappeningsOf, Plays, PlaysLine, PlaysNext, playable_command, said_of, terminal_models}
 use Rattle.jobs3270.specs.ScriptLines.{typed_text}
 use Rattle.jobs3270.specs.Scripts.{IsWorldOf, ScriptsHaveOnePage, lus_of, panel_text, script_text}
 use Rattle.jobs3270.specs.declared.script_line.ScriptCommand.{ScriptCommand}
@@ -178,8 +178,8 @@ one_world defines_once text world other is also =
     let panels : is.panels ≡ also.panels = defines_once text is.panels also.panels is.panels_read also.panels_read in
     let pool : is.pool ≡ also.pool =
     one_pool (lus_of is.panels) is.pool also.pool is.pool_read (subst (λ (set : Panels). IsPoolReadFrom (lus_of set) also.pool) (sym panels) also.pool_read) in
-    is.world_is ∙ ap (λ (set : Panels). new_byte_world set is.pool terminal_count) panels
-    ∙ ap (λ (list : List Entry). new_byte_world also.panels list terminal_count) pool ∙ sym also.world_is
+    is.world_is ∙ ap (λ (set : Panels). new_byte_world set is.pool terminal_models) panels
+    ∙ ap (λ (list : List Entry). new_byte_world also.panels list terminal_models) pool ∙ sym also.world_is
 
 pub one_script_page : DefinesOnce → StepsAreOne → ScriptsHaveOnePage
 one_script_page defines_once steps_are_one input page other stopped ended is also =

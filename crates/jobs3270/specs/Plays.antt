@@ -1,5 +1,7 @@
 -- What the lines of a script do to a world, and what they print (our profile). specs/ScriptLines reads a line as a command.
 use Rattle.std.specs.Prelude.{◌≡◌, ◌+◌, ℕ, Bool, true, nat_lt, length, List, [], ◌∷◌, ◌++◌, Option, None, Some, chars, if◌then◌else◌}
+use Rattle.codes3270.specs.declared.size.Model.{Model}
+use Rattle.codes3270.specs.declared.size.Model.TheVariants.{M2, M3, M4, M5}
 use Rattle.term_core.specs.ScreenText.{screen_text}
 use Rattle.term_core.specs.State.{Terminal, phase_of}
 use Rattle.world3270.specs.ByteRuns.{AllHappen}
@@ -11,9 +13,13 @@ use Rattle.jobs3270.specs.ScriptLines.{script_command, typed_text}
 use Rattle.jobs3270.specs.declared.script_line.ScriptCommand.{ScriptCommand}
 use Rattle.jobs3270.specs.declared.script_line.ScriptCommand.TheVariants as command
 
--- the number of terminals in the world of a script
+-- the models of the terminals of a script, by their numbers
+abbrev pub terminal_models : List Model
+terminal_models = M2 ∷ M3 ∷ M4 ∷ M5 ∷ []
+
+-- the number of these terminals
 abbrev pub terminal_count : ℕ
-terminal_count = 4
+terminal_count = length terminal_models
 
 -- ---- the command of a line
 

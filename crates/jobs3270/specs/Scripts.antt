@@ -16,7 +16,7 @@ use Rattle.term_core.specs.ScreenText.{newline}
 use Rattle.world3270.specs.ByteWorld.{ByteWorld, new_byte_world}
 use Rattle.jobs3270.specs.declared.fault.Fault.{Fault}
 use Rattle.jobs3270.specs.declared.fault.Fault.TheVariants.{Panels, Pool, NoMemory}
-use Rattle.jobs3270.specs.Plays.{IsPlayed, terminal_count}
+use Rattle.jobs3270.specs.Plays.{IsPlayed, terminal_models}
 
 -- ---- the two parts of an input
 
@@ -47,14 +47,14 @@ script_text input = behind_line (drop (mark_place true input) input)
 abbrev pub lus_of : PanelsRead → List (Option (List ℕ))
 lus_of panels = map lu_of panels.lus
 
--- the text's panels, a pool of their LUs, and terminals; the text and the names have no fault
+-- the text's panels, a pool of their LUs, and terminals of models 2 to 5; the text and the names have no fault
 pub record IsWorldOf (text : List ℕ) (world : ByteWorld) : Type 0 where
   pub panels : PanelsRead
   pub panels_read : IsReadFrom text panels
   pub pool : List Entry
   pub pool_read : IsPoolReadFrom (lus_of panels) pool
   pub lus_right : IsRight (lus_of panels)
-  pub world_is : world ≡ new_byte_world panels pool terminal_count
+  pub world_is : world ≡ new_byte_world panels pool terminal_models
 
 -- the text's panels, and a pool of their LUs; the text and the names have no fault
 pub record IsApplicationOf (text : List ℕ) (panels : PanelsRead) (pool : List Entry) : Type 0 where

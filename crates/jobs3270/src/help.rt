@@ -30,7 +30,7 @@ status: 0 done, 1 input refused, 2 words refused, 3 no memory, 4 socket failed, 
 
 const SCRIPT: &str = "usage: panel3270 [script] < INPUT
 
-Serve panels to four terminals, which do commands, and print what their operators see.
+Serve panels to four terminals, of models 2 to 5, which do commands, and print what their operators see.
 
 INPUT is panels in TOML, a line %%, and commands, one a line.";
 
@@ -45,7 +45,7 @@ INPUT is commands, one a line: pairs of hexadecimal digits, and blanks; no tab, 
 
 const SELFRUN: &str = "usage: panel3270 selfrun [--turns N] < INPUT
 
-Serve panels to four terminals over sockets of this machine. The terminals do commands. Print what their operators see.
+Serve panels to four terminals, of models 2 to 5, over sockets of this machine. The terminals do commands. Print what their operators see.
 
 options:
   --turns N   the number of turns, 1 to 1000000; 10000 if it isn't given

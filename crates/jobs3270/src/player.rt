@@ -10,12 +10,13 @@ ghost use Rattle.jobs3270.specs.Plays.{IsPlayed, PrintsLine, is_in_range, playab
 
 use crate::idle::{run_until_idle, step_whole};
 use crate::script_line::{ScriptCommand, typed_text};
+use codes3270::Model;
 use keyboard::Key;
 use std::alloc::{AllocError, Global};
 use world3270::{Event, Stepped, World};
 
-/// The number of terminals in the world of a script.
-pub(crate) const TERMINALS: usize = 4;
+/// The models of the terminals of a script, by their numbers.
+pub(crate) static MODELS: [Model; 4] = [Model::M2, Model::M3, Model::M4, Model::M5];
 
 /// Adds the line of an event's answer: `refused N` for a refused key, with the number of the refusal, `skipped`, or none.
 pub(crate) fn put_answer(text: &mut String, answer: Stepped) -> Result<(), AllocError>
@@ -95,7 +96,9 @@ fn is_in_range(command: &ScriptCommand) -> bool
         | ScriptCommand::Happen(_)
         | ScriptCommand::TypeText(_)
         | ScriptCommand::Settle => true,
-        ScriptCommand::Show(terminal) | ScriptCommand::Status(terminal) => *terminal < TERMINALS,
+        ScriptCommand::Show(terminal) | ScriptCommand::Status(terminal) => {
+            *terminal < MODELS.len()
+        }
     }
 }
 

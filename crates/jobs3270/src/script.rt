@@ -10,7 +10,7 @@ ghost use Rattle.jobs3270.specs.Scripts.{HasNoWorld, IsApplicationOf, IsHostOf, 
 ghost use Rattle.jobs3270.specs.declared.task.Task.TheVariants.{Script};
 
 use crate::fault::Fault;
-use crate::player::{TERMINALS, play};
+use crate::player::{MODELS, play};
 use crate::streams::{Sink, Source};
 use crate::task::{Task, run};
 use host_core::Host;
@@ -20,7 +20,8 @@ use std::alloc::Global;
 use world3270::World;
 
 /// Serves the panels of the input to four terminals, and does the commands of its script, one a line. The input is the panel text, a
-/// line `%%` and the script. Prints the page when the script has ended. Writes a fault that ends the run to `faults` as one line.
+/// line `%%` and the script. Terminals 0 to 3 have models 2 to 5. Prints the page when the script has ended. Writes a fault that ends
+/// the run to `faults` as one line.
 ///
 /// Returns the exit status: 0 if the whole page was printed; 1 if the input can't be read (as for
 /// [`run_show`](crate::run_show)), if the panel text defines no panels, if their LUs are no pool, or if a line of the script isn't
@@ -159,7 +160,7 @@ fn application_of(alloc: Global, text: &str) -> Result<(PanelSet, Pool), Fault>
     Ok((panels, pool))
 }
 
-/// The world of a panel text: its panels, a pool of their LUs, and terminals.
+/// The world of a panel text: its panels, a pool of their LUs, and the terminals of a script.
 fn world_of(alloc: Global, text: &str) -> Result<World, Fault>
     ensures world { IfOk result (IsWorldOf text.now) }
     ensures fault { IfErr result (HasNoWorld text.now) }
@@ -168,7 +169,7 @@ fn world_of(alloc: Global, text: &str) -> Result<World, Fault>
         Ok(parts) => parts,
         Err(fault) => return Err(fault),
     };
-    match World::new(alloc, panels, pool, TERMINALS) {
+    match World::new(alloc, panels, pool, &MODELS) {
         Ok(world) => Ok(world),
         Err(_) => Err(Fault::NoMemory),
     }

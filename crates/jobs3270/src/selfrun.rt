@@ -5,7 +5,7 @@ ghost use Rattle.jobs3270.specs.Selfruns.{is_socket_command};
 use crate::fault::Fault;
 use crate::input::read_whole;
 use crate::job::Turns;
-use crate::player::{TERMINALS, playable_command, put_answer};
+use crate::player::{MODELS, playable_command, put_answer};
 use crate::script::parted;
 use crate::script_line::{ScriptCommand, typed_text};
 use crate::server::{Server, Unwatched, patience};
@@ -14,7 +14,6 @@ use crate::socket_terminal::SocketTerminal;
 use crate::streams::{Sink, Source};
 use crate::task::end_by;
 use crate::term;
-use codes3270::Model;
 use host_core::MOST_CONNECTIONS;
 use keyboard::Key;
 use mio::net::TcpStream;
@@ -58,12 +57,12 @@ struct LoopbackRun {
     turns: u32,
 }
 
-/// Terminals of model 2 without connections.
+/// A terminal of each model of [`MODELS`], without a connection.
 fn idle_terminals(alloc: Global) -> Result<Vec<SocketTerminal>, AllocError> {
-    let mut terminals = Vec::with_capacity(alloc, TERMINALS)?;
-    for _ in 0..TERMINALS {
+    let mut terminals = Vec::with_capacity(alloc, MODELS.len())?;
+    for model in &MODELS {
         terminals.push(SocketTerminal {
-            terminal: Terminal::new(alloc, Model::M2)?,
+            terminal: Terminal::new(alloc, *model)?,
             socket: None,
         })?;
     }
