@@ -65,13 +65,20 @@ impl Session {
             return Some(Cause::BadRecord);
         };
         match header.kind {
-            DataType::Data3270 => match read_inbound(body, self.form_awaited(), self.size) {
+            DataType::Data3270 => match read_inbound(body, self.form_awaited(), self.size()) {
                 Ok(inbound) => self.hear(&inbound),
                 Err(_) => Some(Cause::BadInbound),
             },
             DataType::Response => self.take_response(&header),
             _ => None,
         }
+    }
+
+    /// The size for which data is read: that of the screen now, whatever the terminal's model is.
+    fn size(&self) -> Size
+        ensures { result ≡ self.now.shape }
+    {
+        self.size
     }
 
     /// The form in which data is read.

@@ -63,9 +63,3 @@ returns-clause-sent c =
     (rw (← c.self.view_is) (begun ∙ ap (λ (bytes : List ℕ). bytes ++ paint_bytes (cells_in wanted.size) c.self.inside.shadow wanted) c.begin_record.ensures.begun))
     (rw (same, c.in_model-shown.ensures.shown, ← c.self.view_is, c.next_seq-self-inside.ensures) refl)
     (c.send_record.ensures.sent ∙ ap (λ (bytes : List ℕ). c.args.out.now.items ++ sent_bytes (Record bytes ∷ [])) c.as_slice.ensures.value)
-
-pub returns-clause-panel : goal.returns-clause-panel
-returns-clause-panel c = record {
-  there = c.in_model-shown.ensures.can_be_shown.0;
-  size = sym (ap shape_of c.panel_in.ensures.panel) ∙ sym c.size-size.ensures;
-}

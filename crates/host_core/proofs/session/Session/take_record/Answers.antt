@@ -12,12 +12,12 @@ returns-in_default-clause-taken c = TakesRecord.no_header c.in_default.field-0 c
 pub returns-in-Ok-read_inbound-clause-taken : goal.returns-in-Ok-read_inbound-clause-taken
 returns-in-Ok-read_inbound-clause-taken c =
     of_data c.args.self.now c.hear.new.self c.args.bytes.now c.hear.result c.in-Ok.header c.in-Ok.body.now c.form_awaited.result c.in-Ok-read_inbound.inbound
-    c.in-Ok.ensures.found c.in-Data3270.is c.form_awaited.ensures c.in-Ok-read_inbound.ensures.found.0 (c.in-Ok-read_inbound.ensures.found.1 ∙ ap (λ (conn : Conn). conn.shape) c.self.view_is) c.in-Ok-read_inbound.ensures.found.2 c.hear.ensures.came
+    c.in-Ok.ensures.found c.in-Data3270.is c.form_awaited.ensures c.in-Ok-read_inbound.ensures.found.0 (c.in-Ok-read_inbound.ensures.found.1 ∙ c.size.ensures) c.in-Ok-read_inbound.ensures.found.2 c.hear.ensures.came
 
 pub returns-in-Err-clause-taken : goal.returns-in-Err-clause-taken
 returns-in-Err-clause-taken c =
     of_no_data c.args.self.now c.args.bytes.now c.in-Ok.header c.in-Ok.body.now c.form_awaited.result c.in-Err.field-0
-    c.in-Ok.ensures.found c.in-Data3270.is c.form_awaited.ensures (subst (λ (conn : Conn). IsNoInbound conn.shape c.form_awaited.result c.in-Err.field-0 c.in-Ok.body.now) c.self.view_is c.in-Err.ensures.found)
+    c.in-Ok.ensures.found c.in-Data3270.is c.form_awaited.ensures (subst (λ (size : Shape). IsNoInbound size c.form_awaited.result c.in-Err.field-0 c.in-Ok.body.now) c.size.ensures c.in-Err.ensures.found)
 
 pub returns-in-Response-clause-taken : goal.returns-in-Response-clause-taken
 returns-in-Response-clause-taken c =
