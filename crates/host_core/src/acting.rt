@@ -275,7 +275,8 @@ impl Session {
         }
     }
 
-    /// Law: what is believed, if it is something, has the fields of the panel that is shown.
+    /// Law: the screen of which something is known has the cells of the attributes of the panel's fields, since it has the panel's
+    /// size.
     fn fields_are_believed(&self, panels: &PanelSet)
         requires panel { IsOnPanel panels.now self.now }
         requires known { IsOfSize (cells_in self.now.shape) self.now.shadow }

@@ -209,8 +209,9 @@ impl Host {
         self.connections[conn].turn()
     }
 
-    /// The model of the terminal of a connection, from its request for a device type on; None before, and on a number that is
-    /// free or closed. Panels of that model are shown there, and the other panels in their place.
+    /// The model of the terminal of a connection, from its request for a device type on; None before, once the request is
+    /// rejected, and on a number that is free or closed. Panels of model 2 and of that model are shown there; in the place of any
+    /// other panel its `otherwise` is.
     pub fn model(&self, conn: usize) -> Option<TerminalModel>
         requires number { conn < most_connections }
         ensures { result ≡ model_of (service_at conn self.now) }
@@ -255,8 +256,8 @@ impl Host {
     }
 
     /// Law: what holds of each host. An LU is held for a connection exactly while it is granted
-    /// there, so no two connections are granted one; and each connection is shown a panel that
-    /// there is.
+    /// there, so no two connections are granted one; and each connection has a panel that there is,
+    /// of the connection's size.
     pub fn hosts_are_sound(&self)
         ensures sound { IsSound self.now }
         ensures unshared { NobodyShares self.now }

@@ -21,8 +21,8 @@ pub fn one_machine()
     datastream::laws::one_reading();
 }
 
-/// Law: whatever a host does, it paints what fits its belief, or what keeps nothing; and the screen has, from then on, a size which a
-/// terminal of that model may have.
+/// Law: whatever a host does, it paints what fits its belief, or what keeps nothing, in the size that the connection has from then
+/// on; and that is a size which the terminal's model may have, if the size before was.
 pub fn what_is_shown_fits()
     ensures fits { ActsFit }
     ensures sizes { SizesAreTheModels }

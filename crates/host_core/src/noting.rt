@@ -21,7 +21,7 @@ use codes3270::{Addr, MOST_COLUMNS, Size, Wcc};
 use datastream::{CommandCode, CommandWriter};
 use tn3270e_msg::{ALWAYS_RESPONSE, next_seq};
 
-/// How many characters the last row has behind its attribute.
+/// How many characters the last row of a screen of this size has after its attribute.
 fn room_in(size: Size) -> usize
     ensures room { result ≡ size.columns - 1 }
     ensures few { result < most_columns }
@@ -29,7 +29,7 @@ fn room_in(size: Size) -> usize
     usize::from(size.cols()) - 1
 }
 
-/// Where a note begins: behind the attribute of the last row.
+/// Where a note begins on a screen of this size: after the attribute of the last row.
 fn note_place(size: Size) -> Addr
     ensures place { result ≡ message_place size + 1 }
     ensures shape { IsShape size }
@@ -55,7 +55,7 @@ fn front_of(text: &[u8], room: usize) -> &[u8]
     }
 }
 
-/// So many nulls.
+/// This number of nulls.
 fn nulls(count: usize) -> &'static [u8]
     requires { count < most_columns }
     ensures nulls { result.now ≡ replicate count 0 }

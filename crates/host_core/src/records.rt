@@ -109,7 +109,8 @@ impl Session {
         }
     }
 
-    /// Hears data in the terminal's turn, that of a key.
+    /// Hears data while nothing but a note waits for an answer: a key's, in the terminal's turn; in the host's it closes the
+    /// connection.
     fn hear_in_turn(&mut self, inbound: &Inbound<'_>) -> Option<Cause>
         requires size { inbound.now.size ≡ self.old.shape }
         requires known { IsOfSize (cells_in self.old.shape) self.old.shadow }

@@ -106,7 +106,8 @@ impl Session {
         self.next_seq = next_seq(self.next_seq);
     }
 
-    /// The same, of the panel that is shown to the terminal of this session's model.
+    /// What is asked for, with the panel that this session's terminal is shown in place of the one that is asked for: that one, or
+    /// its `otherwise`.
     fn in_model(&self, panels: &PanelSet, asked: Shown) -> Shown
         requires { CanBeShown (length panels.now.panels) asked }
         ensures shown { result ≡ record asked { panel = (application_of panels.now).shown (model_in self.now) asked.panel } }
@@ -163,7 +164,8 @@ impl Session {
         &self.values
     }
 
-    /// Shows a panel, in the form for the terminal's model, with a message and the values of fields.
+    /// Shows a panel, or the one in its place for the terminal's model, with a message and the values of fields. The session has
+    /// that panel's size from then on, before the command is answered.
     pub(crate) fn show(&mut self, panels: &PanelSet, asked: Shown, out: &mut Vec<u8>)
         requires asked { CanBeShown (length panels.now.panels) asked }
         requires room { HasRoomFor command_room out.old }

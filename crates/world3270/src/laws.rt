@@ -57,12 +57,12 @@ fn what_is_given()
 }
 
 /// Law: the headline. After any list of events on a new world, with any application, any pool of
-/// LUs and up to 16 terminals of any models: no two live sessions have one LU, and where a terminal is bound to
-/// one the host's end agreed on that, and its connection holds it in the pool; and whenever the
-/// host holds the turn with its last command answered, the screen is as it believes, and after
-/// Enter or a PF key it has the text of each field that was returned, and each unprotected field
-/// with MDT off has what the host left there, or nulls since Erase Input. And a run in pieces is
-/// one run.
+/// LUs and up to 16 terminals of any models: no two live sessions have one LU, and where a terminal
+/// is bound to one the host's end agreed on that, and its connection holds it in the pool; and
+/// whenever the host holds the turn with its last command answered, the screen is as it believes,
+/// and after Enter or a PF key it has the text of each field that was returned, and each
+/// unprotected field with MDT off has what the host left there, or nulls since Erase Input. And a
+/// run in pieces is one run.
 pub fn the_headline_holds()
     ensures headline { Always HeadlineHolds }
     ensures pieces { RunsCompose }
@@ -91,8 +91,8 @@ pub fn what_was_pressed_is_acted_on()
 }
 
 /// Law: over the same lists the data that comes up to the host next has the form that it awaits:
-/// the whole screen while a read is pending, else modified fields. (The bytes of inbound data don't
-/// say their form.)
+/// the whole screen while a read is pending, else modified fields; and it is of a screen of the size
+/// by which the host reads it. (The bytes of inbound data say neither.)
 pub fn what_comes_is_awaited()
     ensures { Always FormsAreAwaited }
 {
@@ -110,8 +110,8 @@ pub fn the_ends_agree()
     what_is_given();
 }
 
-/// Law: over the same lists both ends of each connection have a size of the screen that the
-/// terminal's model may have, and the same one unless a paint waits for its answer.
+/// Law: over the same lists the size that the host set last and that of the terminal's screen are
+/// sizes of the terminal's model, and the same one unless a paint waits for its answer.
 pub fn the_sizes_agree()
     ensures { AlwaysOf AllSizesAgree }
 {
