@@ -12,7 +12,7 @@ use Rattle.host_core.specs.Application.{IsShape, panel_at}
 use Rattle.host_core.specs.Keeps.{BelievesTheSize}
 use Rattle.host_core.specs.Learning.{HasField, HaveFields}
 use Rattle.host_core.specs.Session.{Conn}
-use Rattle.host_core.specs.Sound.{IsOnPanel}
+use Rattle.host_core.specs.Sound.{IsShownOn}
 use Rattle.host_core.specs.declared.pending.Pending.{Pending as Unanswered}
 use Rattle.host_core.specs.declared.pending.Pending.TheVariants as unanswered
 
@@ -48,7 +48,7 @@ rows_within (suc rows) columns = subst (λ (n : ℕ). n * columns ≤ suc rows *
     less_one : (n : ℕ) → suc n - 1 ≡ n
     less_one n = omega arith
 
-pub fields_believed : (panels : Panels) (conn : Conn) → AreLaidOut panels → IsOnPanel panels conn → IsOfSize (cells_in conn.shape) conn.shadow
+pub fields_believed : (panels : Panels) (conn : Conn) → AreLaidOut panels → IsShownOn panels conn → IsOfSize (cells_in conn.shape) conn.shadow
     → HaveFields conn.shadow (panel_at panels conn.panel).fields
 fields_believed panels conn laid on known =
     let panel : PanelParts = panel_at panels conn.panel in

@@ -129,8 +129,8 @@ pub record Sent : Type 0 where
   pub conn : Conn
   pub message : ToTerminal
 
--- What is believed stays as it is until the command is answered. The screen has the wanted size from then on: the command erases where
--- what is believed hasn't.
+-- What is believed stays as it is until the command is answered. The size of the connection changes when the command is sent: it is an
+-- erase unless what is believed has that size.
 abbrev pub done : Application → Conn → Act → Sent
 done app conn Act.Read = record {
   conn = record conn { pending = Pending.Reading conn.next_seq; next_seq = next_number conn.next_seq };

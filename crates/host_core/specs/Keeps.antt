@@ -51,7 +51,7 @@ code_in byte =
     else if byte == (codes_of EraseWriteAlternate).1 then EraseWriteAlternate
     else Write
 
--- for a screen of this shape, which its erases leave as it is
+-- read for a screen whose size now and whose alternate size are this one
 abbrev pub command_in : Shape → List ℕ → CommandParts
 command_in shape (code ∷ wcc ∷ text) =
     let size = size_after (code_in code) shape shape in

@@ -16,16 +16,16 @@ abbrev pub LusAreHeld : Host → Type 0
 LusAreHeld host = (number : ℕ) → HoldsJust number host.pool (lu_of (service_at number host))
 
 -- the connection's panel is there, and is one for a screen of the connection's size
-pub record IsOnPanel (panels : Panels) (conn : Conn) : Type 0 where
+pub record IsShownOn (panels : Panels) (conn : Conn) : Type 0 where
   pub there : conn.panel < length panels.panels
   pub size : shape_of (panel_at panels conn.panel) ≡ conn.shape
 
 abbrev pub IsShown : Panels → Service → Type 0
 IsShown panels Service.Free = ⊤
-IsShown panels (Service.Open rest conn) = IsOnPanel panels conn
+IsShown panels (Service.Open rest conn) = IsShownOn panels conn
 IsShown panels (Service.Closed cause) = ⊤
 
--- so each connection is shown a panel
+-- Each connection that is open is shown such a panel.
 abbrev pub PanelsAreShown : Host → Type 0
 PanelsAreShown host = (number : ℕ) → IsShown host.panels (service_at number host)
 

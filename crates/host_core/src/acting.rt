@@ -16,7 +16,7 @@ ghost use Rattle.host_core.specs.Does.{Grow};
 ghost use Rattle.host_core.specs.Keeps.{DoesOn, act_of, reads, show_for, show_once, teaches, values_shown};
 ghost use Rattle.host_core.specs.Learning.{HaveFields};
 ghost use Rattle.host_core.specs.Session.{is_agreed};
-ghost use Rattle.host_core.specs.Sound.{IsOnPanel};
+ghost use Rattle.host_core.specs.Sound.{IsShownOn};
 ghost use Rattle.host_core.specs.declared.turn_reason.TurnReason.TheVariants.{Key as KeyPressed};
 
 use crate::acted::Acted;
@@ -278,7 +278,7 @@ impl Session {
     /// Law: the screen of which something is known has the cells of the attributes of the panel's fields, since it has the panel's
     /// size.
     fn fields_are_believed(&self, panels: &PanelSet)
-        requires panel { IsOnPanel panels.now self.now }
+        requires panel { IsShownOn panels.now self.now }
         requires known { IsOfSize (cells_in self.now.shape) self.now.shadow }
         ensures { HaveFields self.now.shadow (panel_at panels.now self.now.panel).fields }
     {
@@ -302,10 +302,10 @@ impl Session {
 
     /// Shows a panel, if there is room for the command and for the values of fields.
     fn show_in_turn(&mut self, panels: &PanelSet, out: &mut Vec<u8>) -> Acted
-        requires panel { IsOnPanel panels.now self.old }
+        requires panel { IsShownOn panels.now self.old }
         requires fields { HaveFields self.old.shadow (panel_at panels.now self.old.panel).fields }
         ensures acted { DoesOn (Some (done (application_of panels.now) self.old (show_once (application_of panels.now) self.old))) self.old out.old result self.new out.new }
-        ensures panel { IsOnPanel panels.now self.new }
+        ensures panel { IsShownOn panels.now self.new }
         ensures capacity { vec_capacity out.old ≤ vec_capacity out.new }
     {
         if out.reserve(COMMAND_ROOM).is_err() {
@@ -322,9 +322,9 @@ impl Session {
     /// Sends what there is to do in its turn. Nothing has changed if memory is refused, which is asked for if the value of some
     /// field has to grow, or if the command may not fit into the room that is there.
     pub(crate) fn act(&mut self, panels: &PanelSet, out: &mut Vec<u8>) -> Acted
-        requires panel { IsOnPanel panels.now self.old }
+        requires panel { IsShownOn panels.now self.old }
         ensures acted { DoesOn (acted (application_of panels.now) self.old) self.old out.old result self.new out.new }
-        ensures panel { IsOnPanel panels.now self.new }
+        ensures panel { IsShownOn panels.now self.new }
         ensures capacity { vec_capacity out.old ≤ vec_capacity out.new }
     {
         if !self.may_act() {

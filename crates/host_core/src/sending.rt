@@ -17,7 +17,7 @@ ghost use Rattle.host_core.specs.Keeps.{IsSentOn, act_of};
 ghost use Rattle.host_core.specs.Rooms.{HasRoomFor, command_room, read_buffer_room, record_room};
 ghost use Rattle.host_core.specs.Says.{command_header, read_buffer_bytes};
 ghost use Rattle.host_core.specs.Session.{model_in};
-ghost use Rattle.host_core.specs.Sound.{IsOnPanel};
+ghost use Rattle.host_core.specs.Sound.{IsShownOn};
 
 use crate::acting::Shown;
 use crate::laws::panels_are_shown;
@@ -170,7 +170,7 @@ impl Session {
         requires asked { CanBeShown (length panels.now.panels) asked }
         requires room { HasRoomFor command_room out.old }
         ensures sent { IsSentOn (done (application_of panels.now) self.old (act_of self.old.values asked)) out.old out.new self.new }
-        ensures panel { IsOnPanel panels.now self.new }
+        ensures panel { IsShownOn panels.now self.new }
         ensures capacity { vec_capacity out.old ≤ vec_capacity out.new }
     {
         what_is_wanted_is_painted();

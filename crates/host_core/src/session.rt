@@ -2,7 +2,7 @@
 ghost use Rattle.std.specs.Prelude.{◌≡◌, IfOk};
 ghost use Rattle.host_core.specs.Application.{application_of};
 ghost use Rattle.host_core.specs.Session.{agreed_lu, model_in, new_conn};
-ghost use Rattle.host_core.specs.Sound.{IsOnPanel};
+ghost use Rattle.host_core.specs.Sound.{IsShownOn};
 ghost use Rattle.tn3270e_msg.specs.HostTable.{model_asked};
 
 use crate::pending::Pending;
@@ -67,7 +67,7 @@ impl Session {
     /// As a connection begins, when TN3270E was offered. It makes the room for the records that it will send.
     pub(crate) fn new(alloc: Global, panels: &PanelSet) -> Result<Session, Memory>
         ensures begins { IfOk result (λ session. session ≡ new_conn (application_of panels.now)) }
-        ensures panel { IfOk result (λ session. IsOnPanel panels.now session) }
+        ensures panel { IfOk result (λ session. IsShownOn panels.now session) }
     {
         panels.panels_are_sound();
         let sent = Vec::with_capacity(alloc, RECORD_ROOM)?;

@@ -33,7 +33,7 @@ use Rattle.world3270.specs.Given.{Given}
 use Rattle.world3270.specs.Link.{Link, sent, host_sent}
 use Rattle.world3270.specs.Moments.{Kind, UnderWay, Talking, Serving, Moment, IsAt, host_talk_at, term_state_at, turn_at, pending_at, down_at, up_at, agreed, served_down, served_up}
 use Rattle.world3270.specs.TurnReasons.{IsOccasion, IsOpenBy, IsOpenFor}
-use Rattle.world3270.specs.Stages.{scene_of, FactsAreExact, IsNew, Decides, Fact, Kept, Sizes, resizes_at}
+use Rattle.world3270.specs.Stages.{scene_of, FactsAreExact, IsNew, Decides, Fact, Kept, Sizes, may_differ_at}
 use Rattle.world3270.specs.View.{View, view_of}
 use Rattle.world3270.proofs.Down.{none_open}
 use Rattle.world3270.proofs.Queues.{more, still}
@@ -65,7 +65,7 @@ sent_at link sending wanted from to same at host term turn pending down up = rec
 
 -- a sending that leads to a moment
 kept_sent : (app : Application) (link : Link) (sending : Sending) (k : Kept app (view_of link)) (to : Moment) → Sends link sending → IsSizeOf app link.term.display.model sending.conn.shape
-    → (resizes_at to ≡ false → link.term.display.shape ≡ sending.conn.shape) → IsAt (view_of (sent_view sending link)) k.wanted to
+    → (may_differ_at to ≡ false → link.term.display.shape ≡ sending.conn.shape) → IsAt (view_of (sent_view sending link)) k.wanted to
     → Fact k.wanted (scene_of (view_of (sent_view sending link))) to → Kept app (view_of (sent_view sending link))
 kept_sent app link sending k to same size steady at fact = record {
   whole = k.whole;

@@ -56,7 +56,7 @@ use Rattle.world3270.specs.Unreturned.{UnmodifiedIsKept}
 use Rattle.world3270.specs.Link.{Link, sent}
 use Rattle.world3270.specs.Moments.{Kind, Talking, Serving, Moment, UnderWay, IsAt, host_talk_at, term_state_at, turn_at, pending_at, down_at, up_at}
 use Rattle.world3270.specs.TurnReasons.{IsOccasion, IsOpenBy, IsOpenFor, IsCleared}
-use Rattle.world3270.specs.Stages.{scene_of, once_taken, FactsAreExact, Suits, IsPainted, Operates, Sees, IsRead, Fact, Kept, Sizes, resizes_at}
+use Rattle.world3270.specs.Stages.{scene_of, once_taken, FactsAreExact, Suits, IsPainted, Operates, Sees, IsRead, Fact, Kept, Sizes, may_differ_at}
 use Rattle.world3270.specs.Terminal.{TermStep, with_talk, is_bound, bound_to, once_bound, paint_came, note_came, read_came, talked, took}
 use Rattle.world3270.specs.View.{view_of}
 use Rattle.world3270.proofs.Queues.{more, front, nothing}
@@ -117,7 +117,7 @@ talk_took link model wanted state next saying sends e transition =
 
 -- the talk moves on
 talks : (app : Application) (link : Link) (rest : List ToTerminal) (k : Kept app (view_of link)) (from to : Moment) (saying : Saying) (sends : List ToHost) (message : ToTerminal)
-    → (resizes_at to ≡ false → link.term.display.shape ≡ link.host.shape)
+    → (may_differ_at to ≡ false → link.term.display.shape ≡ link.host.shape)
     → IsAt (view_of link) k.wanted from → message ≡ ToTerminal.TalksDown saying → TalkTransition link.term.display.model k.wanted (term_state_at from) saying (term_state_at to) sends
     → Leads link.term.display.model k.wanted from to sends → list_any is_negative (filter_map verdict_in sends) ≡ false → UnderWay link.lost rest (down_at link.term.display.model to)
     → Fact k.wanted (scene_of (view_of (term_view (talk_step link (term_state_at to) sends) rest link))) to → Obeyed app link rest (took link.term message)

@@ -62,7 +62,7 @@ use Rattle.world3270.specs.Given.{Given}
 use Rattle.world3270.specs.Happens.{run}
 use Rattle.world3270.specs.Link.{Link, host_left_if, host_sent}
 use Rattle.world3270.specs.Sendable.{IsTyped, AlwaysTyped, ScreensAreSendable, CanBeSpelt, DataCanBeSpelt, PaintsAScreen, PaintsAreScreens, IsSpelt, PaintsAreSpelt, ValuesAreTexts, HasASize, ScreensHaveASize}
-use Rattle.world3270.specs.Stages.{Kept, Scene, ServingFact, resizes_at, resizes_in, scene_of, Fact as MomentFact}
+use Rattle.world3270.specs.Stages.{Kept, Scene, ServingFact, may_differ_at, may_differ_in, scene_of, Fact as MomentFact}
 use Rattle.world3270.specs.Terminal.{Display, new_display, TermEnd, TermStep, is_bound, data_of, paint_came, note_came, read_came, once_bound, took as term_took, outcome_of, after_key}
 use Rattle.world3270.specs.View.{View, view_of}
 use Rattle.lu_pool.specs.Pool.{IsPool}
@@ -129,11 +129,11 @@ screens_have_a_size given app pool models events is lists few are terminal =
 
 -- a note that is the first message is of this size, and no paint is under way
 abbrev FirstFits : Shape → Bool → List ToTerminal → Type 0
-FirstFits size resizes [] = ⊤
-FirstFits size resizes (ToTerminal.TalksDown saying ∷ messages) = ⊤
-FirstFits size resizes (ToTerminal.Paint number wanted over ∷ messages) = ⊤
-FirstFits size resizes (ToTerminal.ReadBuffer number ∷ messages) = ⊤
-FirstFits size resizes (ToTerminal.Note number command ∷ messages) = (command.size ≡ size) × (resizes ≡ false)
+FirstFits size may_differ [] = ⊤
+FirstFits size may_differ (ToTerminal.TalksDown saying ∷ messages) = ⊤
+FirstFits size may_differ (ToTerminal.Paint number wanted over ∷ messages) = ⊤
+FirstFits size may_differ (ToTerminal.ReadBuffer number ∷ messages) = ⊤
+FirstFits size may_differ (ToTerminal.Note number command ∷ messages) = (command.size ≡ size) × (may_differ ≡ false)
 
 talk_fits : (size : Shape) (model : Model) (talking : Talking) → FirstFits size false (talk_down model talking)
 talk_fits size model Talking.Offering = tt
@@ -146,7 +146,7 @@ talk_fits size model (Talking.Agreeing lu) = tt
 talk_fits size model (Talking.Rejecting reason) = tt
 talk_fits size model (Talking.Rejected reason) = tt
 
-served_fits : (scene : Scene) (serving : Serving) → ServingFact scene serving → FirstFits scene.shape (resizes_in serving) (served_down serving)
+served_fits : (scene : Scene) (serving : Serving) → ServingFact scene serving → FirstFits scene.shape (may_differ_in serving) (served_down serving)
 served_fits scene Serving.Deciding fact = tt
 served_fits scene (Serving.Reading number) fact = tt
 served_fits scene (Serving.Reported number parts) fact = tt
@@ -161,16 +161,16 @@ served_fits scene (Serving.KeyBehind kind number command parts) fact = tt
 served_fits scene (Serving.KeyNoted number command parts) fact = (ap (λ (c : CommandParts). c.size) fact.2.note.is, refl)
 served_fits scene (Serving.KeyBefore number command parts) fact = tt
 
-first_fits : (scene : Scene) (model : Model) (wanted : Option (List ℕ)) (moment : Moment) → MomentFact wanted scene moment → FirstFits scene.shape (resizes_at moment) (down_at model moment)
+first_fits : (scene : Scene) (model : Model) (wanted : Option (List ℕ)) (moment : Moment) → MomentFact wanted scene moment → FirstFits scene.shape (may_differ_at moment) (down_at model moment)
 first_fits scene model wanted (Moment.Talks talking) fact = talk_fits scene.shape model talking
 first_fits scene model wanted (Moment.Begins lu number command paints over) fact = tt
 first_fits scene model wanted (Moment.Serves lu serving) fact = served_fits scene serving fact
 
-comes_fitting : (size : Shape) (resizes : Bool) (lost : Bool) (queue messages : List ToTerminal) (number : ℕ) (command : CommandParts) (rest : List ToTerminal)
-    → UnderWay lost queue messages → queue ≡ ToTerminal.Note number command ∷ rest → FirstFits size resizes messages → (command.size ≡ size) × (resizes ≡ false)
-comes_fitting size resizes lost queue [] number command rest under e first = absurd (nothing lost queue (ToTerminal.Note number command) rest e under)
-comes_fitting size resizes lost queue (message ∷ messages) number command rest under e first =
-    subst (λ m. FirstFits size resizes (m ∷ messages)) (sym (front lost queue (ToTerminal.Note number command) rest message messages e under).0) first
+comes_fitting : (size : Shape) (may_differ : Bool) (lost : Bool) (queue messages : List ToTerminal) (number : ℕ) (command : CommandParts) (rest : List ToTerminal)
+    → UnderWay lost queue messages → queue ≡ ToTerminal.Note number command ∷ rest → FirstFits size may_differ messages → (command.size ≡ size) × (may_differ ≡ false)
+comes_fitting size may_differ lost queue [] number command rest under e first = absurd (nothing lost queue (ToTerminal.Note number command) rest e under)
+comes_fitting size may_differ lost queue (message ∷ messages) number command rest under e first =
+    subst (λ m. FirstFits size may_differ (m ∷ messages)) (sym (front lost queue (ToTerminal.Note number command) rest message messages e under).0) first
 
 -- the note was written for the screen that it finds
 abbrev NoteFits : Shape → ToTerminal → Type 0
@@ -185,7 +185,7 @@ note_fits app link (ToTerminal.Paint number wanted over) rest e k = tt
 note_fits app link (ToTerminal.ReadBuffer number) rest e k = tt
 note_fits app link (ToTerminal.Note number command) rest e k =
     let v : View = view_of link in
-    let both = comes_fitting v.host.shape (resizes_at k.moment) v.lost v.down (down_at v.model k.moment) number command rest k.at.goes_down e (first_fits (scene_of v) v.model k.wanted k.moment k.fact) in
+    let both = comes_fitting v.host.shape (may_differ_at k.moment) v.lost v.down (down_at v.model k.moment) number command rest k.at.goes_down e (first_fits (scene_of v) v.model k.wanted k.moment k.fact) in
     both.0 ∙ sym (k.sizes.same both.1)
 
 -- ---- what is told

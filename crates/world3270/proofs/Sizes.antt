@@ -7,13 +7,13 @@ use Rattle.world3270.specs.Happens.{run}
 use Rattle.world3270.specs.Link.{Link}
 use Rattle.world3270.specs.Moments.{Moment, Serving, pending_at}
 use Rattle.world3270.specs.Sizes.{AllSizesAgree, SizesAgree, is_painting}
-use Rattle.world3270.specs.Stages.{Kept, resizes_at}
+use Rattle.world3270.specs.Stages.{Kept, may_differ_at}
 use Rattle.world3270.specs.View.{view_of}
 use Rattle.world3270.specs.World.{World, new_world}
 use Rattle.world3270.proofs.Worlds.{run_good, new_good}
 
 -- where no paint waits for its answer none is under way
-steady : (moment : Moment) → is_painting (pending_at moment) ≡ false → resizes_at moment ≡ false
+steady : (moment : Moment) → is_painting (pending_at moment) ≡ false → may_differ_at moment ≡ false
 steady (Moment.Talks talking) none = refl
 steady (Moment.Begins lu number command wanted over) none = absurd (cc)
 steady (Moment.Serves lu Serving.Deciding) none = refl

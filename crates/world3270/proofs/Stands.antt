@@ -64,7 +64,7 @@ use Rattle.world3270.specs.Sendable.{CanBeSent}
 use Rattle.host_core.specs.Says.{command_header, read_buffer_command}
 use Rattle.world3270.specs.Stands.{IsPaint, IsRead, IsNoted, StandsDown, StandsUp, IsEnd, all_items, is_nop, without_nops, sized}
 use Rattle.world3270.specs.TrackedTerminals.{History, ByteEnd, ByteStep, restored_by}
-use Rattle.world3270.specs.StandsEnds.{PaintStands, IsSaid, NamesWanted, IsOpen, ItemComes, TermTakes, is_painted, NopHasNoEffect, WritesAreMarked, TermPresses, MayBePainted, MayBeNoted}
+use Rattle.world3270.specs.StandsEnds.{PaintStands, IsSaid, NamesWanted, IsOpen, ItemComes, TermTakes, is_painted, NopHasNoEffect, WritesAreMarked, TermPresses, MayBePainted, MayTakeNote}
 use Rattle.world3270.specs.StandsLinks.{NothingStands, StandsCompose, StandsGoOn, BeginStands}
 use Rattle.world3270.specs.Terminal.{Display, TermEnd, TermStep, bound_to, is_bound, quiet, replied, paint_came, note_came, read_came, once_bound, took, erases_if, outcome_of, data_of}
 use Rattle.std.specs.Prelude.{is_some}
@@ -406,7 +406,7 @@ module _ (sizes : MeetsIsOfSize) (one_header : OneHeader) (fault_or_header : Fau
   -- ---- a note
 
   noted_same : (number : ℕ) (command : CommandParts) (talk next : Term) (old new : Station) (end : TermEnd) (sent : List WireItem) (closes : Option Cause)
-      (item : WireItem) (p : IsNoted item number command) → MayBeNoted command end → IsSide talk old end
+      (item : WireItem) (p : IsNoted item number command) → MayTakeNote command end → IsSide talk old end
       → TakesRecord old p.bytes sent closes new → next ≡ talk → SameItem next new sent closes false (note_came number command end)
   noted_same number command talk next old new end sent closes item p may is taken same =
       let note : IsNote command = may.note in

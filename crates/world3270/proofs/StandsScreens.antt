@@ -32,7 +32,7 @@ use Rattle.shadow.specs.Painted.{plainly_painted}
 use Rattle.telnet_wire.specs.Items.{WireItem}
 use Rattle.world3270.specs.Sendable.{CanBeSent}
 use Rattle.world3270.specs.Stands.{IsPaint, IsNoted}
-use Rattle.world3270.specs.StandsEnds.{TakesKeepSendable, MayBeNoted, MayBePainted}
+use Rattle.world3270.specs.StandsEnds.{TakesKeepSendable, MayTakeNote, MayBePainted}
 use Rattle.world3270.specs.Terminal.{TermEnd, TermStep, is_bound, paint_came, note_came, read_came, once_bound}
 
 -- ---- orders
@@ -172,7 +172,7 @@ paint_keeps sized number wanted believed item end p b is =
     (cells_written_on sized number wanted believed item end p b is)))
 
 -- a note on a screen of its size
-note_keeps : (command : CommandParts) (number : ℕ) (item : WireItem) (end : TermEnd) (p : IsNoted item number command) → MayBeNoted command end
+note_keeps : (command : CommandParts) (number : ℕ) (item : WireItem) (end : TermEnd) (p : IsNoted item number command) → MayTakeNote command end
     → CanBeSent end.display.shape end.display.screen → CanBeSent end.display.shape (after_command command end.display.screen)
 note_keeps command number item end p may is =
     let cells : length end.display.screen.cells ≡ cells_in command.size = is.whole ∙ ap (λ (s : Shape). cells_in s) (sym may.size) in

@@ -25,7 +25,7 @@ pub record HasASize (app : Application) (display : Display) : Type 0 where
   pub whole : length display.screen.cells ≡ cells_in display.shape
   pub cursor : display.screen.cursor < cells_in display.shape
 
--- Each terminal's screen has.
+-- Each terminal's screen has such a size.
 abbrev pub ScreensHaveASize : Application → World → Type 0
 ScreensHaveASize app world = (terminal : ℕ) → HasASize app (display_at world (world.place terminal))
 

@@ -181,21 +181,21 @@ Fact wanted s (Moment.Begins lu number command paints over) = IsPainted s comman
 Fact wanted s (Moment.Serves lu serving) = ServingFact s serving
 
 -- a paint is under way: until the terminal takes it its screen may have another size than the host's
-abbrev pub resizes_in : Serving → Bool
-resizes_in (Serving.Painting number command wanted over) = true
-resizes_in _ = false
+abbrev pub may_differ_in : Serving → Bool
+may_differ_in (Serving.Painting number command wanted over) = true
+may_differ_in _ = false
 
-abbrev pub resizes_at : Moment → Bool
-resizes_at (Moment.Talks talking) = false
-resizes_at (Moment.Begins lu number command wanted over) = true
-resizes_at (Moment.Serves lu serving) = resizes_in serving
+abbrev pub may_differ_at : Moment → Bool
+may_differ_at (Moment.Talks talking) = false
+may_differ_at (Moment.Begins lu number command wanted over) = true
+may_differ_at (Moment.Serves lu serving) = may_differ_in serving
 
 -- The size that the host set last, and that of the screen, are sizes that the terminal may have; and they are the same, but at those
 -- moments.
 pub record Sizes (app : Application) (v : View) (moment : Moment) : Type 0 where
   pub host : IsSizeOf app v.model v.host.shape
   pub screen : IsSizeOf app v.model v.shape
-  pub same : resizes_at moment ≡ false → v.shape ≡ v.host.shape
+  pub same : may_differ_at moment ≡ false → v.shape ≡ v.host.shape
 
 -- a connection is at some moment, and this holds at each
 pub record Kept (app : Application) (v : View) : Type 0 where

@@ -17,14 +17,14 @@ use Rattle.world3270.specs.World.{Place, World}
 -- ---- a connection of the world over bytes
 
 -- a state that no step reads, for a number that isn't open
-abbrev pub nobodys : Conn
-nobodys = new_conn (application_of (record { start = 0; lus = []; panels = [] }))
+abbrev pub unread_conn : Conn
+unread_conn = new_conn (application_of (record { start = 0; lus = []; panels = [] }))
 
 -- the host's state of a connection, and what its decoder holds
 abbrev pub conn_of : Service → Conn
-conn_of Service.Free = nobodys
+conn_of Service.Free = unread_conn
 conn_of (Service.Open rest conn) = conn
-conn_of (Service.Closed cause) = nobodys
+conn_of (Service.Closed cause) = unread_conn
 
 abbrev pub rest_of : Service → Rest
 rest_of Service.Free = nothing

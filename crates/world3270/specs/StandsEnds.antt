@@ -62,7 +62,7 @@ pub record MayBePainted (wanted : WantedScreen) (believed : Shadow) (end : TermE
   pub now : HasSize end.display.model end.display.shape
 
 -- the note was written for the size that the screen has
-pub record MayBeNoted (command : CommandParts) (end : TermEnd) : Type 0 where
+pub record MayTakeNote (command : CommandParts) (end : TermEnd) : Type 0 where
   pub is_open : IsOpen end.talk.talk.state
   pub note : IsNote command
   pub size : command.size ≡ end.display.shape
@@ -72,7 +72,7 @@ abbrev pub MayCome : TermEnd → ToTerminal → Type 0
 MayCome end (ToTerminal.TalksDown saying) = IsSaid saying × NamesWanted end.talk.talk.state end.talk.wanted
 MayCome end (ToTerminal.Paint number wanted believed) = MayBePainted wanted believed end
 MayCome end (ToTerminal.ReadBuffer number) = IsOpen end.talk.talk.state
-MayCome end (ToTerminal.Note number command) = MayBeNoted command end
+MayCome end (ToTerminal.Note number command) = MayTakeNote command end
 
 -- ---- what a terminal makes of an item
 
