@@ -1,6 +1,6 @@
 -- What is put between two places of a list.
-use Rattle.std.proofs.Common.{◌≡◌, ℕ, ◌+◌, ◌≤◌, List, ◌++◌, length, length-append, append_assoc, take, drop, ap, sym, arith, ◌∙◌}
-use Rattle.std.proofs.lemmas.List.{length-take-le, length-drop, take_at, take-append-drop, take-append-le, drop-append-le}
+use Rattle.std.proofs.Common.{◌≡◌, ℕ, ◌+◌, ◌-◌, ◌≤◌, List, ◌++◌, length, length-append, append_assoc, replicate, take, drop, ap, sym, arith, ◌∙◌}
+use Rattle.std.proofs.lemmas.List.{length-replicate, length-take-le, length-drop, take_at, take-append-drop, take-append-le, drop-append-le}
 
 -- it is put between the same places of the list's front
 pub taken_between : (n from to : ℕ) (mid bytes : List ℕ) → from + length mid ≡ to → to ≤ n → n ≤ length bytes
@@ -20,3 +20,9 @@ taken_between n from to mid bytes there inside few =
     ∙ ap (λ (bs : List ℕ). take n (take from front ++ bs)) (sym (append_assoc mid (drop to front) back))
     ∙ ap (take n) (sym (append_assoc (take from front) (mid ++ drop to front) back))
     ∙ take_at whole back n size
+
+-- nulls are put between the same places of the list's front
+pub nulls_between : (n from to : ℕ) (bytes : List ℕ) → from ≤ to → to ≤ n → n ≤ length bytes
+    → take n (take from bytes ++ (replicate (to - from) 0 ++ drop to bytes)) ≡ take from (take n bytes) ++ (replicate (to - from) 0 ++ drop to (take n bytes))
+nulls_between n from to bytes order inside few =
+    taken_between n from to (replicate (to - from) 0) bytes (omega (arith, order, length-replicate {A = ℕ} (to - from) 0)) inside few

@@ -1,4 +1,5 @@
--- For proofs alone: a bit for each cell, and cells that are kept as bytes and such bits (our profile).
+-- A bit for each cell, and cells that are kept as bytes and such bits (our profile). Contracts of `CellBits`, `PackedCells` and
+-- `Wanted` use these definitions.
 use Rattle.std.specs.Prelude.{◌≡◌, ◌<◌, ◌+◌, ◌*◌, ◌/◌, ◌%◌, ◌&&◌, not, ℕ, length, Bool, true, false, List, [], ◌∷◌, slice_index_or, nat_eq, nat_lt}
 use Rattle.std.specs.Int.{bit_at}
 use Rattle.codes3270.specs.Size.{most_cells}

@@ -1,5 +1,6 @@
--- For proofs alone: a cell as a code and a mark (our profile). The mark says whether it has an attribute; the code is its
--- character's, or the byte that its attribute is written as (GA23-0059-07 on field attributes).
+-- A cell as a code and a mark (our profile). The mark says whether the cell has an attribute. The code is its character's, or the
+-- byte that its attribute is written as (GA23-0059-07 on field attributes). Contracts of `PackedCell` and `PackedCells` use these
+-- definitions.
 use Rattle.std.specs.Prelude.{◌≡◌, ℕ, Bool, true, false, not, List}
 use Rattle.std.proofs.Common.{refl}
 use Rattle.codes3270.specs.Attribute.{attr_of, attr_byte}

@@ -131,6 +131,7 @@ impl CellBits {
     }
 
     /// The bits of 64 cells, the lowest that of the first.
+    #[tactic(auto, using(crate::proofs::Keeping::word_bits))]
     pub fn word(&self, index: usize) -> u64
         requires { index < word_count }
         ensures { AreBits most_cells (has_bit self.now) index result }

@@ -160,6 +160,7 @@ impl PackedCells {
     }
 
     /// Puts the codes of characters in cells that have characters, from an address on.
+    #[tactic(auto, using(crate::proofs::Splices::taken_between))]
     pub fn put_characters(&mut self, from: usize, text: &[u8])
         requires { from + length text.now ≤ cells_in self.old.size }
         ensures { self.new ≡ record self.old { codes = take from self.old.codes ++ (text.now ++ drop (from + length text.now) self.old.codes) } }
@@ -168,6 +169,7 @@ impl PackedCells {
     }
 
     /// Puts nulls in cells that have characters, from an address to another.
+    #[tactic(auto, using(crate::proofs::Splices::nulls_between))]
     pub fn put_nulls(&mut self, from: usize, to: usize)
         requires order { from ≤ to }
         requires few { to ≤ cells_in self.old.size }

@@ -82,6 +82,7 @@ impl<'a, C: HasCells> Iterator for Ring<'a, C> {
     ghost remaining = { item_count (λ ring. ring) };
 
     #[inline(always)]
+    #[tactic(auto, using(crate::proofs::Round::step_behind_end))]
     fn next(&mut self) -> Option<C::Cell> {
         let at = self.next;
         if at < self.cells {
