@@ -10,9 +10,10 @@ ghost use Rattle.jobs3270.specs.Scripts.{HasNoWorld, IsApplicationOf, IsHostOf, 
 ghost use Rattle.jobs3270.specs.declared.task.Task.TheVariants.{Script};
 
 use crate::fault::Fault;
-use crate::player::{TERMINALS, play};
+use crate::player::play;
 use crate::streams::{Sink, Source};
 use crate::task::{Task, run};
+use codes3270::Model;
 use host_core::Host;
 use lu_pool::{Pool, PoolFault};
 use panels::{PanelFault, PanelSet};
@@ -168,7 +169,12 @@ fn world_of(alloc: Global, text: &str) -> Result<World, Fault>
         Ok(parts) => parts,
         Err(fault) => return Err(fault),
     };
-    match World::new(alloc, panels, pool, TERMINALS) {
+    match World::new(
+        alloc,
+        panels,
+        pool,
+        &[Model::M2, Model::M3, Model::M4, Model::M5],
+    ) {
         Ok(world) => Ok(world),
         Err(_) => Err(Fault::NoMemory),
     }
