@@ -24,6 +24,7 @@ mod terminals;
 use crate::case_file::CaseFile;
 use crate::fault::Fault;
 use anyhow::Result;
+pub(crate) use chance::Chance;
 use hosts::Hosts;
 use round::Round;
 use script::{Script, read_script};

@@ -45,6 +45,7 @@ pub fn hosts_look_same(one: &Host, other: &Host, conn: usize) -> bool
     requires { conn < most_connections }
 {
     one.phase(conn) == other.phase(conn)
+        && one.model(conn) == other.model(conn)
         && one.turn(conn) == other.turn(conn)
         && one.pending(conn) == other.pending(conn)
         && one.out(conn) == other.out(conn)

@@ -1,6 +1,6 @@
 //! A session that begins: the panels, and what both ends say, which several trials use.
 
-/// A panel to sign on with, and one that greets.
+/// A panel to sign on with, and one that greets: of model 5, or in its place one of model 2.
 pub(crate) const PANELS: &str = r#"
 start = "SIGNON"
 lus = ["PNL01", "PNL02"]
@@ -30,7 +30,25 @@ row = 4
 col = 8
 length = 4
 [panel.keys]
-enter = "HELLO"
+enter = "WIDE"
+[[panel]]
+name = "WIDE"
+model = 5
+otherwise = "HELLO"
+[[panel.text]]
+row = 1
+col = 120
+text = "HELLO"
+[[panel.text]]
+row = 1
+col = 127
+show = "user"
+length = 6
+[[panel.field]]
+name = "answer"
+row = 26
+col = 131
+length = 2
 [[panel]]
 name = "HELLO"
 [[panel.text]]
@@ -60,6 +78,9 @@ pub(crate) const WONT_OTHER: &[u8] = b"\xff\xfc\x18";
 pub(crate) const SEND_TYPE: &[u8] = b"\xff\xfa\x28\x08\x02\xff\xf0";
 
 pub(crate) const WANTS_LU: &[u8] = b"\xff\xfa\x28\x02\x07IBM-3278-2\x01PNL01\xff\xf0";
+
+/// The same request, of a terminal of model 5.
+pub(crate) const WANTS_LU_AS_MODEL_5: &[u8] = b"\xff\xfa\x28\x02\x07IBM-3278-5\x01PNL01\xff\xf0";
 
 pub(crate) const IS_LU: &[u8] = b"\xff\xfa\x28\x02\x04IBM-3278-2\x01PNL01\xff\xf0";
 

@@ -16,6 +16,7 @@ mod case_run;
 mod command;
 mod fixture;
 mod likeness;
+mod random_event;
 mod script;
 mod scripted_event;
 mod watch;

@@ -113,6 +113,8 @@ enum Asked {
     /// Keys, by the bytes of their identifiers, lead there.
     Leads(&'static [u8], Next),
     Fields(&'static [Extent]),
+    /// Its size, and that of each screen that it asks for, is the alternate size of this model.
+    Size(Model),
 }
 
 fn is_asked(report: &mut Report, panel: &Panel, values: &Values, asked: &Asked) -> bool {
@@ -136,6 +138,11 @@ fn is_asked(report: &mut Report, panel: &Panel, values: &Values, asked: &Asked) 
         }
         Asked::Leads(keys, next) => lead(report, panel, keys, *next),
         Asked::Fields(extents) => has_fields(report, panel.fields(), extents),
+        Asked::Size(model) => {
+            let size = (*model).alternate();
+            report.same(&size, &panel.size())
+                && report.same(&size, &panel.wanted(values, Message::Plain, true).size())
+        }
     }
 }
 
@@ -393,7 +400,7 @@ pub(super) static VALUES_SHOWN: Dialogue = Dialogue {
 // ---- models
 
 const WIDE: &str =
-    "start = \"WIDE\"\nlus = []\n[[panel]]\nname = \"WIDE\"\nmodel = 5\notherwise = \"NARROW\"\ntext = [{row = 1, col = 132, text = \"W\"}]\nfield = [{name = \"f\", row = 26, col = 131, length = 2, fill = \"7\"}]\n[[panel]]\nname = \"NARROW\"\nmodel = 2\ntext = [{row = 1, col = 2, text = \"N\"}]\n[[panel]]\nname = \"TALL\"\nmodel = 4\notherwise = \"NARROW\"\nfield = [{name = \"g\", row = 42, col = 80, length = 1}]\n";
+    "start = \"WIDE\"\nlus = []\n[[panel]]\nname = \"WIDE\"\nmodel = 5\notherwise = \"NARROW\"\ntext = [{row = 1, col = 132, text = \"W\"}]\nfield = [{name = \"f\", row = 26, col = 131, length = 2, fill = \"7\"}]\n[[panel]]\nname = \"NARROW\"\nmodel = 2\ntext = [{row = 1, col = 2, text = \"N\"}]\n[[panel]]\nname = \"TALL\"\nmodel = 4\notherwise = \"NARROW\"\nfield = [{name = \"g\", row = 42, col = 80, length = 1}]\n[[panel]]\nname = \"LOW\"\nmodel = 3\notherwise = \"NARROW\"\nfield = [{name = \"h\", row = 31, col = 80, length = 1}]\n";
 
 /// Rows of 132 cells, of which the last begins at 3,432.
 const WIDE_SCREEN: &[Item] = &[
@@ -407,17 +414,29 @@ const NARROW_SCREEN: &[Item] = &[(0, 0xF0, &[0xD5]), (1840, 0xF8, &[])];
 /// 43 rows.
 const TALL_SCREEN: &[Item] = &[(3358, 0x40, &[]), (3360, 0xF8, &[])];
 
+/// 32 rows.
+const LOW_SCREEN: &[Item] = &[(2478, 0x40, &[]), (2480, 0xF8, &[])];
+
 pub(super) static MODELS_SHOWN: Dialogue = Dialogue {
     text: WIDE,
     steps: &[
         Step::Panel(0, Asked::Shown(Message::Fresh, WIDE_SCREEN, 3430)),
         Step::Panel(1, Asked::Shown(Message::Fresh, NARROW_SCREEN, 0)),
         Step::Panel(2, Asked::Shown(Message::Fresh, TALL_SCREEN, 3359)),
+        Step::Panel(3, Asked::Shown(Message::Fresh, LOW_SCREEN, 2479)),
+        Step::Panel(0, Asked::Size(Model::M5)),
+        Step::Panel(1, Asked::Size(Model::M2)),
+        Step::Panel(2, Asked::Size(Model::M4)),
+        Step::Panel(3, Asked::Size(Model::M3)),
         Step::Shown(0, Model::M5, 0),
         Step::Shown(0, Model::M2, 1),
+        Step::Shown(0, Model::M3, 1),
         Step::Shown(0, Model::M4, 1),
+        Step::Shown(1, Model::M2, 1),
         Step::Shown(1, Model::M5, 1),
         Step::Shown(2, Model::M4, 2),
         Step::Shown(2, Model::M5, 1),
+        Step::Shown(3, Model::M3, 3),
+        Step::Shown(3, Model::M2, 1),
     ],
 };

@@ -16,12 +16,13 @@
 //! restart               the host restarts
 //! rejected C WHAT       removes the oldest rejection that wasn't reported yet: [LU] REASON, or none if there is none
 //! phase C PHASE         free, talking, bound LU, or closed CAUSE
+//! model C M             the client's model, 2 to 5, or none before it asked for its type
 //! turn C WHOSE          host or terminal
 //! pending C N           the number of the command that waits for its answer, or none
 //! belief C WHAT         nothing; nulls, where each cell is known to be null, without fields; or more
 //! fact C AT FACT BYTES  what is believed of the field whose attribute is there: Exact, ExactOrNulls, Text, TextOrNulls or
 //!                       Any, and the characters; or none, where no field is believed to be
-//! keep C                remembers all of this: phase, turn, pending, belief, each fact, and what there is to send
+//! keep C                remembers all of this: phase, model, turn, pending, belief, each fact, and what there is to send
 //! stays C               all of it is as it was then
 //! ```
 //!

@@ -2,6 +2,7 @@
 use crate::growths::appending::Appends;
 use crate::growths::hosts::{
     AGREED, Asked, Asks, Hosting, NO_ROOM_FOR_A_COMMAND, NO_ROOM_FOR_A_REPLY, OPENED, READY, Step,
+    WIDE_TALK,
 };
 use crate::growths::making::{Maker, Makes};
 use crate::growths::story::{CLEAR, ENTER};
@@ -17,14 +18,16 @@ use std::io;
 pub(crate) enum Call {
     Append(Appends),
     Make(Makes),
-    /// A call, after a number of steps of the story, and further steps.
+    /// A call, after a number of steps of the story of a client of model 2, and further steps.
     Host(Asks, usize, &'static [Step]),
+    /// The same with a client of model 5.
+    WideHost(Asks, usize, &'static [Step]),
     Terminal(Does),
     World(Lets),
 }
 
 /// Each with its name: the crate's, the call's, and in some cases on what.
-pub(crate) static CALLS: [(&str, Call); 43] = [
+pub(crate) static CALLS: [(&str, Call); 46] = [
     ("telnet_wire:Decoder::new", Call::Make(Makes::Decoder)),
     ("telnet_wire:put_record", Call::Append(Appends::Record)),
     ("telnet_wire:put_option", Call::Append(Appends::Option)),
@@ -81,11 +84,19 @@ pub(crate) static CALLS: [(&str, Call); 43] = [
     ("host_core:Host::open", Call::Host(Asks::Open, 0, &[])),
     (
         "host_core:Host::feed,many",
-        Call::Host(Asks::Feed, OPENED, &[]),
+        Call::Host(Asks::Feed(&[]), OPENED, &[]),
     ),
     (
         "host_core:Host::feed,full",
-        Call::Host(Asks::Feed, OPENED, &[Step::Fills(NO_ROOM_FOR_A_REPLY)]),
+        Call::Host(Asks::Feed(&[]), OPENED, &[Step::Fills(NO_ROOM_FOR_A_REPLY)]),
+    ),
+    (
+        "host_core:Host::feed,model-5",
+        Call::WideHost(
+            Asks::Feed(WIDE_TALK),
+            OPENED,
+            &[Step::Fills(NO_ROOM_FOR_A_REPLY)],
+        ),
     ),
     (
         "host_core:Host::act,agreed",
@@ -99,7 +110,15 @@ pub(crate) static CALLS: [(&str, Call); 43] = [
         "host_core:Host::act,clear",
         Call::Host(Asks::Act, READY, &[Step::Fed(CLEAR)]),
     ),
+    (
+        "host_core:Host::act,model-5",
+        Call::WideHost(Asks::Act, READY, &[Step::Fed(ENTER)]),
+    ),
     ("host_core:serve_turn", Call::Host(Asks::Serve, READY, &[])),
+    (
+        "host_core:serve_turn,model-5",
+        Call::WideHost(Asks::Serve, READY, &[]),
+    ),
     ("term_core:screen_lines", Call::Make(Makes::ScreenLines)),
     (
         "term_core:Terminal::screen_text",
@@ -129,7 +148,7 @@ pub(crate) static CALLS: [(&str, Call); 43] = [
     ("world3270:World::new", Call::Make(Makes::World)),
     (
         "world3270:World::step,connect",
-        Call::World(Lets::Step(0, ScriptedEvent::Connect(0, ""))),
+        Call::World(Lets::Step(0, ScriptedEvent::Connect(3, ""))),
     ),
     (
         "world3270:World::step,reconnect",
@@ -148,7 +167,12 @@ impl Call {
         match self {
             Call::Append(appends) => try_on::<Maker, _>(rt, Makes::Append(appends)),
             Call::Make(makes) => try_on::<Maker, _>(rt, makes),
-            Call::Host(asks, told, last) => try_on::<Hosting, _>(rt, Asked { asks, told, last }),
+            Call::Host(asks, count, last) => {
+                try_on::<Hosting, _>(rt, Asked::by_model_2(asks, count, last))
+            }
+            Call::WideHost(asks, count, last) => {
+                try_on::<Hosting, _>(rt, Asked::by_model_5(asks, count, last))
+            }
             Call::Terminal(does) => try_on::<Attached, _>(rt, does),
             Call::World(lets) => try_on::<Small, _>(rt, lets),
         }

@@ -2,12 +2,15 @@
 ghost use Rattle.std.specs.Prelude.{◌<◌};
 ghost use Rattle.host_core.specs.State.{most_connections};
 
-use crate::growths::story::{ENTER, MANY, with_options};
+use crate::growths::story::{ENTER, MANY, WIDE_ENTER, with_options};
 use crate::growths::trial::{Answer, Trial};
 use crate::growths::wire::Wire;
 use crate::likeness::hosts_look_same;
 use crate::readers::read_host;
-use crate::sign_on::{DO_OTHER, DONE_0, PANELS, WANTS_LU, WANTS_RESPONSES, WILL_TN3270E};
+use crate::sign_on::{
+    DO_OTHER, DONE_0, PANELS, WANTS_LU, WANTS_LU_AS_MODEL_5, WANTS_RESPONSES, WILL_TN3270E,
+};
+use codes3270::Model;
 use host_core::{Acted, Host, OUT_ROOM, Phase, Served, serve_turn};
 use std::alloc::Global;
 use std::io;
@@ -22,11 +25,21 @@ const OTHER: usize = 1;
 #[derive(Clone, Copy)]
 pub(crate) enum Asks {
     Open,
-    /// Many bytes are fed.
-    Feed,
+    /// These lines are fed, and many bytes after them.
+    Feed(&'static [&'static [u8]]),
     Act,
     /// A turn of serving, in which Enter comes.
     Serve,
+}
+
+impl Asks {
+    /// The lines that are fed before many bytes.
+    fn lines(self) -> &'static [&'static [u8]] {
+        match self {
+            Asks::Feed(lines) => lines,
+            Asks::Open | Asks::Act | Asks::Serve => &[],
+        }
+    }
 }
 
 /// What happens on a connection before the call.
@@ -39,15 +52,15 @@ pub(crate) enum Step {
     Fills(usize),
 }
 
-/// A call, and the steps before it: a number of the story's, and further ones.
+/// A call, and the steps before it: some of a story's, and further ones.
 #[derive(Clone, Copy)]
 pub(crate) struct Asked {
-    pub(crate) asks: Asks,
-    pub(crate) told: usize,
-    pub(crate) last: &'static [Step],
+    asks: Asks,
+    told: &'static [Step],
+    last: &'static [Step],
 }
 
-/// From the offer to the panel to sign on with, and no room for a further command.
+/// With a client of model 2: from the offer to the panel to sign on with, and no room for a further command.
 static STORY: [Step; 7] = [
     Step::Opens,
     Step::Fed(WILL_TN3270E),
@@ -58,7 +71,21 @@ static STORY: [Step; 7] = [
     Step::Fills(NO_ROOM_FOR_A_COMMAND),
 ];
 
-/// How many steps of the story there are up to the connection's begin, up to agreement, and in all.
+/// The same with a client of model 5. The panel that Enter leads to has 27 rows of 132 cells.
+static WIDE_STORY: [Step; 7] = [
+    Step::Opens,
+    Step::Fed(WILL_TN3270E),
+    Step::Fed(WANTS_LU_AS_MODEL_5),
+    Step::Fed(WANTS_RESPONSES),
+    Step::Acts,
+    Step::Fed(DONE_0),
+    Step::Fills(NO_ROOM_FOR_A_COMMAND),
+];
+
+/// What that client sends up to agreement.
+pub(crate) const WIDE_TALK: &[&[u8]] = &[WILL_TN3270E, WANTS_LU_AS_MODEL_5, WANTS_RESPONSES];
+
+/// How many steps of a story there are up to the connection's begin, up to agreement, and in all.
 pub(crate) const OPENED: usize = 1;
 
 pub(crate) const AGREED: usize = 4;
@@ -69,9 +96,23 @@ pub(crate) const READY: usize = 7;
 /// fits no more, the room is doubled.
 pub(crate) const NO_ROOM_FOR_A_REPLY: usize = OUT_ROOM - REPLY_ROOM;
 
-/// The same of the largest command, 11,550 bytes, in the room that is doubled. A Read Buffer and a note are shorter than the largest
+/// The same of the largest command, 21,414 bytes, in the room that is doubled. A Read Buffer and a note are shorter than the largest
 /// reply, for which each byte that is taken leaves room: they never need more.
-pub(crate) const NO_ROOM_FOR_A_COMMAND: usize = 2 * OUT_ROOM - 11_550;
+pub(crate) const NO_ROOM_FOR_A_COMMAND: usize = 2 * OUT_ROOM - 21_414;
+
+impl Asked {
+    /// A call after a number of steps with a client of model 2, and further steps.
+    pub(crate) fn by_model_2(asks: Asks, count: usize, last: &'static [Step]) -> Asked {
+        let told = STORY.get(..count).unwrap_or(&[]);
+        Asked { asks, told, last }
+    }
+
+    /// The same with a client of model 5.
+    pub(crate) fn by_model_5(asks: Asks, count: usize, last: &'static [Step]) -> Asked {
+        let told = WIDE_STORY.get(..count).unwrap_or(&[]);
+        Asked { asks, told, last }
+    }
+}
 
 /// A host before the call, and the bytes that it is to be fed.
 #[derive(Drop)]
@@ -136,6 +177,22 @@ fn answer_of(acted: Acted) -> Answer {
     }
 }
 
+/// Feeds a positive response to the command that waits for its answer, if one does.
+fn feed_response(host: &mut Host) {
+    if let Some(number) = host.pending(CONN) {
+        let [high, low] = number.to_be_bytes();
+        host.feed(CONN, &[2, 0, 0, high, low, 0, 0xFF, 0xEF]);
+    }
+}
+
+/// What Enter sends, on a panel of the client's model.
+fn enter(host: &Host) -> &'static [u8] {
+    match host.model(CONN) {
+        Some(Model::M5) => WIDE_ENTER,
+        _ => ENTER,
+    }
+}
+
 impl Hosting {
     fn feed(&mut self) -> Answer {
         let fed = feed_part(&mut self.host, &self.bytes, self.taken, usize::MAX);
@@ -161,10 +218,10 @@ impl Trial for Hosting {
     type Call = Asked;
 
     fn before(alloc: Global, asked: Asked) -> io::Result<Hosting> {
-        let bytes = with_options(alloc, &[])?;
+        let bytes = with_options(alloc, asked.asks.lines())?;
         let mut host = read_host(alloc, PANELS)?;
         open(&mut host, OTHER);
-        tell(&mut host, STORY.get(..asked.told).unwrap_or(&[]));
+        tell(&mut host, asked.told);
         tell(&mut host, asked.last);
         Ok(Hosting {
             asks: asked.asks,
@@ -178,7 +235,7 @@ impl Trial for Hosting {
     fn call(&mut self) -> Answer {
         match self.asks {
             Asks::Open => open(&mut self.host, CONN),
-            Asks::Feed => self.feed(),
+            Asks::Feed(_) => self.feed(),
             Asks::Act => answer_of(self.host.act(CONN)),
             Asks::Serve => self.serve(),
         }
@@ -195,9 +252,11 @@ impl Trial for Hosting {
         }
     }
 
+    /// Where a panel was painted, it is answered, and Enter is pressed there.
     fn go_on(&mut self) {
-        self.host.feed(CONN, DONE_0);
-        self.host.feed(CONN, ENTER);
+        feed_response(&mut self.host);
+        let bytes = enter(&self.host);
+        self.host.feed(CONN, bytes);
         self.host.act(CONN);
     }
 

@@ -2,6 +2,7 @@
 use crate::fault::Fault;
 use crate::growths::appending::{Appended, Appends};
 use crate::growths::trial::{Answer, Trial, made};
+use crate::models::MODELS;
 use crate::readers::{read_panels, read_parts, read_pool};
 use crate::sign_on::{NOTE, PANELS};
 use codes3270::Model;
@@ -143,7 +144,7 @@ impl Maker {
         };
         match self.makes {
             Makes::Host => made(Host::new(self.alloc, panels, pool)),
-            _ => made(World::new(self.alloc, panels, pool, 1)),
+            _ => made(World::new(self.alloc, panels, pool, &MODELS)),
         }
     }
 }

@@ -14,6 +14,9 @@ pub(crate) const ENTER: &[u8] = b"\x00\x00\x00\x00\x00\x7d\xc2\x6a\
 \x11\xc2\xe7\xc1\xd5\xd5\
 \x11\xc3\xf7\xc4\xf7\xff\xef";
 
+/// The same on a screen of 27 by 132: the cursor at 3431, and `A` in the field behind 3429.
+pub(crate) const WIDE_ENTER: &[u8] = b"\x00\x00\x00\x00\x01\x7d\xf5\xe7\x11\xf5\xe6\xc1\xff\xef";
+
 /// Clear, which is sent alone.
 pub(crate) const CLEAR: &[u8] = b"\x00\x00\x00\x00\x00\x6d\xff\xef";
 
@@ -25,9 +28,9 @@ pub(crate) const FIELDS: &[u8] =
 pub(crate) const MIXED: &[u8] =
     b"\x28\x01\x02\xff\x03\xff\x04\x05\xff\xff\x06\x07\x08\x09\x0a\x0b\xff\x0c\x0d\x0e\x0f\x10\x11\x12";
 
-/// How often an option is negotiated where many bytes are fed. The answers outgrow the first room and the second of a host, and the
-/// first three of a terminal.
-pub(crate) const MANY: usize = 14_000;
+/// How often an option is negotiated where many bytes are fed. The answers outgrow the first room and the second, of a host and of a
+/// terminal.
+pub(crate) const MANY: usize = 15_000;
 
 /// Lines, and behind them the negotiation of an option, many times.
 pub(crate) fn with_options(alloc: Global, lines: &[&'static [u8]]) -> Result<Vec<u8>, AllocError> {

@@ -8,10 +8,10 @@ use std::alloc::Global;
 use std::io;
 use world3270::{Event, Ran, Stepped};
 
-/// The connection, and the terminal.
+/// The connection, and the terminal, which is of model 5: the panel that greets has 27 rows of 132 cells.
 const CONN: usize = 0;
 
-const TERMINAL: usize = 0;
+const TERMINAL: usize = 3;
 
 /// All that is under way comes up to the host, or down to the terminal.
 const UP: ScriptedEvent<'static> = ScriptedEvent::Up(CONN, usize::MAX);

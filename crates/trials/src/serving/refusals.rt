@@ -16,7 +16,7 @@ use std::alloc::Global;
 use tn3270e_msg::Stop;
 
 /// How many options are negotiated; the answers fill more than the room that a connection begins with.
-const OPTIONS: usize = 7_000;
+const OPTIONS: usize = 8_000;
 
 /// Expects a host to be as its twin.
 fn expect_twins(alloc: Global, host: &Host, twin: &Host, conn: usize) -> Result<(), Fault>

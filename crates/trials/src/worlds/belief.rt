@@ -55,6 +55,17 @@ fn unmarked(cell: Cell) -> Cell {
     }
 }
 
+/// The character that is believed at a place of a field: of an exact field the known cell's, else the text's with this index.
+fn believed_char(shadow: &Shadow, fact: Fact, at: u16, index: usize, place: u16) -> Option<u8> {
+    match fact {
+        Fact::Exact => match known_at(shadow, place) {
+            Some(Cell::Char(code)) => Some(code),
+            _ => None,
+        },
+        _ => value_at(shadow, at, index),
+    }
+}
+
 /// Whether the field whose attribute is at a place has the text that is believed.
 fn has_text(shadow: &Shadow, screen: &Screen, at: u16, fact: Fact) -> bool {
     let mut is_exact = true;
@@ -69,7 +80,7 @@ fn has_text(shadow: &Shadow, screen: &Screen, at: u16, fact: Fact) -> bool {
         let Some(Cell::Char(code)) = cell_at(screen, place) else {
             break;
         };
-        is_exact = is_exact && value_at(shadow, at, size) == Some(code);
+        is_exact = is_exact && believed_char(shadow, fact, at, size, place) == Some(code);
         size = size.saturating_add(1);
         are_known = are_known && is_there(shadow, screen, place);
         if code != 0 {

@@ -2,10 +2,12 @@
 //! command depends on what an event did, the first run decides.
 use crate::bytes::{first_of, number_of};
 use crate::fault::{Failure, Fault, expect, expect_of};
+use crate::fuzz::Chance;
 use crate::worlds::answers::{put_answer, put_outcome};
 use crate::worlds::case_run::{CaseRun, run};
 use crate::worlds::command::{Command, Question, Word, scripted_event};
 use crate::worlds::likeness::look_same;
+use crate::worlds::random_event::random_event;
 use crate::worlds::script::{Line, panel_text};
 use crate::worlds::scripted_event::ScriptedEvent;
 use crate::worlds::watch::Watch;
@@ -138,6 +140,22 @@ impl Case {
         Ok(())
     }
 
+    /// Events happen that random numbers decide.
+    fn step_at_random(&mut self, chance: &mut Chance, count: u16) -> Result<(), Fault> {
+        for _ in 0..count {
+            self.step(&random_event(chance))?;
+        }
+        Ok(())
+    }
+
+    /// The same, by a seed and a count.
+    fn obey_random(&mut self, words: &str) -> Result<(), Fault> {
+        let (seed, count) = first_of(words);
+        let seed = number_of(seed)?;
+        let count = number_of(count)?;
+        self.step_at_random(&mut Chance::new(u64::from(seed), 0), count)
+    }
+
     /// All that is to happen by list does.
     fn run_list(&mut self) -> Result<(), Fault> {
         run(&mut self.by_list.fixture, self.waiting.as_slice())?;
@@ -204,6 +222,7 @@ impl Case {
             Word::Text => self.expect_line(line.words),
             Word::Blank => self.expect_blank(number_of(line.words)?),
             Word::Settle => self.run_until_idle(),
+            Word::Random => self.obey_random(line.words),
             Word::RestartHost => self.happen(&ScriptedEvent::RestartHost),
             Word::At(command) => {
                 let (number, rest) = first_of(line.words);

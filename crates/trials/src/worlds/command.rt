@@ -14,6 +14,7 @@
 //! termsees T        the terminal sees that
 //! restartterm T     the terminal restarts
 //! restarthost       the host restarts
+//! random SEED N     N events happen that random numbers from this seed decide, at any terminal and on any connection
 //! settle            rounds: on each connection all is delivered up, the host acts, and all is delivered down; up to a round without an event
 //! show T            what the terminal prints of its screen
 //! status T          how far it is with its host: idle, talking, bound LU, refused REASON, or closed CAUSE
@@ -74,13 +75,14 @@ pub(crate) enum Word {
     /// So many empty lines are printed.
     Blank,
     Settle,
+    Random,
     RestartHost,
     At(Command),
     /// None of these.
     Unknown,
 }
 
-pub(crate) static WORDS: [(&str, Word); 23] = [
+pub(crate) static WORDS: [(&str, Word); 24] = [
     ("panels", Word::Panels),
     ("world", Word::World),
     ("|", Word::Text),
@@ -100,6 +102,7 @@ pub(crate) static WORDS: [(&str, Word); 23] = [
     ("restartterm", Word::At(Command::Do(EventWord::RestartTerm))),
     ("restarthost", Word::RestartHost),
     ("settle", Word::Settle),
+    ("random", Word::Random),
     ("show", Word::At(Command::Ask(Question::Show))),
     ("status", Word::At(Command::Ask(Question::Status))),
     ("up?", Word::At(Command::Ask(Question::Up))),

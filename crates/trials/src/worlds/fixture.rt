@@ -2,16 +2,17 @@
 ghost use Rattle.std.specs.Prelude.{◌≡◌, ◌<◌, ◌≤◌, length};
 
 use crate::fault::Fault;
+use crate::models::MODELS;
 use crate::readers::read_parts;
 use host_core::{Host, MOST_CONNECTIONS, Phase};
 use std::alloc::Global;
 use term_core::Terminal;
 use world3270::{Event, Ran, Stepped, World};
 
-/// How many terminals there are.
+/// How many terminals there are: one of each model.
 pub(crate) const TERMINALS: usize = 4;
 
-/// A world of four terminals.
+/// A world of four terminals, 0 to 3, of the models 2 to 5.
 #[derive(Drop)]
 pub(crate) struct WorldFixture {
     world: World,
@@ -22,7 +23,7 @@ impl WorldFixture {
     /// A world whose host serves the panels of a text.
     fn read(alloc: Global, panel_text: &str) -> Result<WorldFixture, Fault> {
         let (panels, pool) = read_parts(alloc, panel_text)?;
-        let world = World::new(alloc, panels, pool, TERMINALS)?;
+        let world = World::new(alloc, panels, pool, &MODELS)?;
         Ok(WorldFixture { world })
     }
 

@@ -3,6 +3,8 @@ ghost use Rattle.std.specs.Prelude.{◌<◌};
 ghost use Rattle.host_core.specs.State.{most_connections};
 
 use crate::dialogue::host::belief::belief_word;
+use crate::models::model_number;
+use codes3270::Model;
 use host_core::{Acted, Host, Phase, Rejection, Turn};
 use std::alloc::{AllocError, Global};
 
@@ -11,6 +13,8 @@ use std::alloc::{AllocError, Global};
 pub(crate) enum Sight {
     /// How far the host is with the terminal.
     Phase,
+    /// The model of the client's terminal.
+    Model,
     /// Whose turn it is.
     Turn,
     /// The number of the command that waits for its answer.
@@ -23,6 +27,7 @@ pub(crate) enum Sight {
 pub(crate) fn sight_named(name: &str) -> Option<Sight> {
     match name {
         "phase" => Some(Sight::Phase),
+        "model" => Some(Sight::Model),
         "turn" => Some(Sight::Turn),
         "pending" => Some(Sight::Pending),
         "belief" => Some(Sight::Belief),
@@ -41,6 +46,7 @@ pub(crate) fn seen(
 {
     match sight {
         Sight::Phase => phase_seen(alloc, host.phase(conn)),
+        Sight::Model => String::from_str(alloc, model_word(host.model(conn))),
         Sight::Turn => String::from_str(alloc, turn_word(host.turn(conn))),
         Sight::Pending => pending_seen(alloc, host.pending(conn)),
         Sight::Belief => String::from_str(alloc, belief_word(host.shadow(conn))),
@@ -53,6 +59,13 @@ fn phase_seen(alloc: Global, phase: Phase) -> Result<String, AllocError> {
         Phase::Talking => String::from_str(alloc, "talking"),
         Phase::Bound(lu) => format!(in alloc; "bound {lu}"),
         Phase::Closed(cause) => format!(in alloc; "closed {cause}"),
+    }
+}
+
+fn model_word(model: Option<Model>) -> &'static str {
+    match model {
+        Some(model) => model_number(model),
+        None => "none",
     }
 }
 

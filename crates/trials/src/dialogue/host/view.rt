@@ -8,7 +8,13 @@ use crate::fault::{Fault, expect_bytes_of, expect_text};
 use host_core::Host;
 use std::alloc::{AllocError, Global};
 
-const SIGHTS: [Sight; 4] = [Sight::Phase, Sight::Turn, Sight::Pending, Sight::Belief];
+const SIGHTS: [Sight; 5] = [
+    Sight::Phase,
+    Sight::Model,
+    Sight::Turn,
+    Sight::Pending,
+    Sight::Belief,
+];
 
 /// What is to be seen of a connection.
 #[derive(Drop)]
