@@ -99,7 +99,7 @@ fn bank_is_read(alloc: Global) -> bool {
 
 fn airline_is_read(alloc: Global) -> bool {
     match PanelSet::read(alloc, AIRLINE) {
-        Ok(airline) => leads_to(&airline, pf(12), 0) && leads_to(&airline, Aid::Enter, 2),
+        Ok(airline) => leads_to(&airline, pf(12), 0) && leads_to(&airline, Aid::Enter, 3),
         Err(_) => false,
     }
 }
