@@ -55,5 +55,5 @@ fields_believed panels conn laid on known =
     let is : IsLaidOut panel = laid_out_at panels conn.panel laid in
     let sized : IsOfSize (cells_in (shape_of panel)) conn.shadow = subst (λ (size : Shape). IsOfSize (cells_in size) conn.shadow) (sym on.size) known in
     λ k d below.
-        field_believed (cells_believed conn.shadow) (shape_of panel) (slice_index_or panel.fields k d) sized (is.fields k d below)
-        (omega (arith, is.cursor)) (rows_within (shape_of panel).rows (shape_of panel).columns)
+    field_believed (cells_believed conn.shadow) (shape_of panel) (slice_index_or panel.fields k d) sized (is.fields k d below)
+    (omega (arith, is.cursor)) (rows_within (shape_of panel).rows (shape_of panel).columns)
