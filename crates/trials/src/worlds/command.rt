@@ -1,4 +1,5 @@
 //! The commands of a case. T is a terminal's number, 0 to 3, and C a connection's, 0 to 63. (Events of other numbers are skipped.)
+//! The terminals have models 2 to 5, in this order.
 //!
 //! ```text
 //! connect T [LU]    the terminal connects, and wants this LU, if one is named
