@@ -1,9 +1,9 @@
-//! Whole worlds: a host, terminals of models 2 to 5, and all that may happen between them. A file has cases; `script` and
-//! `command` say which lines it has. A case runs three times, each time with a world of its own: event by event; by lists of events, one up to each
-//! question; and event by event with each delivery byte by byte. A case is ok if the first run prints the lines that the case
+//! Whole worlds: a host, terminals of models 2 to 5, and all that may happen between them. A file has cases; `script` and `command`
+//! say which lines it has. A case runs three times, each time with a world of its own: event by event; by lists of events, one up to
+//! each question; and event by event with each delivery byte by byte. A case is ok if the first run prints the lines that the case
 //! wants, the other runs print the same, and all three worlds look the same at the end; and if after each event of the first run the
-//! headline holds: if the host holds the turn with its last command answered, its belief allows the screen, and no two sessions
-//! have one LU.
+//! headline holds: if the host holds the turn with its last command answered, its belief allows the screen, and no two sessions have
+//! one LU.
 //!
 //! Run with each allocation refused in turn (in crates/trials3270, `rt try --fail-alloc N -- worlds FILE..`) it prints the same: an
 //! event that was refused memory happens again, and a case for which the program has no memory runs again. If there is none for the
