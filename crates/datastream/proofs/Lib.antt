@@ -20,6 +20,7 @@ pub mod InboundViews
 pub mod InboundSent
 pub mod InboundSlices
 pub mod Round
+pub mod CharacterRuns
 pub mod Keeping
 pub mod Splices
 pub mod Words

@@ -20,6 +20,7 @@ pub mod InboundText
 pub mod InboundReading
 pub mod InboundFields
 pub mod InboundReturned
+pub mod ByteWords
 pub mod CellBits
 pub mod CellCodes
 pub mod Wanted

@@ -63,3 +63,14 @@ orders_within size (suc n) text = and_orders (orders_within size n) (order_at si
 -- the orders at the front of the bytes, up to where none stands
 unfoldable pub orders_in : ℕ → List ℕ → List Order
 orders_in size text = orders_within size (length text) text
+
+-- the characters before the first other order
+abbrev pub characters_ahead : List Order → List ℕ
+characters_ahead [] = []
+characters_ahead (Char char ∷ orders) = char ∷ characters_ahead orders
+characters_ahead (Sf attr ∷ orders) = []
+characters_ahead (Sba address ∷ orders) = []
+characters_ahead (Ic ∷ orders) = []
+characters_ahead (Pt ∷ orders) = []
+characters_ahead (Ra stop char ∷ orders) = []
+characters_ahead (Eua stop ∷ orders) = []

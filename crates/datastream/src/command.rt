@@ -5,6 +5,7 @@ ghost use Rattle.datastream.specs.Grammar.{CommandParts, IsCommand, IsNoCommand,
 ghost use Rattle.datastream.specs.Reading.{orders_in};
 ghost use Rattle.datastream.specs.declared.fault.CommandFault.{CommandFault as Fault};
 
+use crate::characters::behind_characters;
 use crate::command_code::CommandCode;
 use crate::fault::CommandFault;
 use crate::orders::{Orders, byte_of, order_of};
@@ -79,10 +80,10 @@ impl<'a> Command<'a> {
 fn check_orders(text: &[u8], size: Size) -> Result<(), CommandFault>
     ensures { MatchResult result (λ _. AreOrders (cells_in size) (orders_in (cells_in size) text.now) text.now) (λ fault. HasFault (cells_in size) fault text.now) }
 {
-    let mut rest = text;
+    let mut rest = behind_characters(text);
     while !rest.is_empty() {
         match order_of(rest, size) {
-            Ok((_, after)) => rest = after,
+            Ok((_, after)) => rest = behind_characters(after),
             Err(fault) => return Err(fault),
         }
     }

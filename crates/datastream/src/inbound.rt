@@ -10,7 +10,8 @@ ghost use Rattle.datastream.specs.InboundText.{AreParts, InboundParts, IsInbound
 ghost use Rattle.datastream.specs.InboundReading.{parts_in};
 ghost use Rattle.datastream.specs.InboundFields.{leading_text, returned, cells_sent, IsProperReturned, IsStorableCell};
 
-use crate::inbound_fields::{ReturnedFields, count_characters};
+use crate::characters::count_characters;
+use crate::inbound_fields::ReturnedFields;
 use crate::inbound_part::{Form, InboundFault};
 use crate::inbound_reader::{Cells, Parts, check_parts};
 use codes3270::{Addr, Aid, Size, addr_from_bytes, aid_from_byte};

@@ -2,12 +2,11 @@
 ghost use Rattle.std.specs.Prelude.{◌≡◌, ◌≤◌, length, take, drop};
 ghost use Rattle.std.specs.List.{prefix_len};
 ghost use Rattle.std.specs.Iterator.{YieldsFirstBy, item_count};
-ghost use Rattle.codes3270.specs.Storable.{is_storable};
 ghost use Rattle.datastream.specs.InboundReading.{begins_no_address};
 ghost use Rattle.datastream.specs.InboundReturned.{returned_of_field};
 
 use crate::order_codes::SET_BUFFER_ADDRESS;
-use codes3270::{Addr, Size, addr_from_bytes, storable};
+use codes3270::{Addr, Size, addr_from_bytes};
 use std::marker::Model;
 
 /// A returned field (GA23-0059-07 on Read Modified).
@@ -62,14 +61,6 @@ impl<'a> Iterator for ReturnedFields<'a> {
         self.text = others;
         Some(ReturnedField { first, text })
     }
-}
-
-/// How many characters come before the first byte that is none.
-pub(crate) fn count_characters(text: &[u8]) -> usize
-    ensures value { result ≡ prefix_len is_storable text.now }
-    ensures bound { result ≤ length text.now }
-{
-    text.iter().take_while(|byte| storable(**byte)).count()
 }
 
 /// How many bytes come before the next address.

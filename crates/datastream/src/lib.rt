@@ -30,6 +30,7 @@
 #![tactic(auto)]
 
 mod cell_store;
+mod characters;
 mod command;
 mod command_code;
 mod fault;

@@ -1,9 +1,11 @@
 //! Reading orders.
-ghost use Rattle.std.specs.Prelude.{◌≡◌, List};
+ghost use Rattle.std.specs.Prelude.{◌≡◌, List, drop, length};
 ghost use Rattle.std.specs.Iterator.{YieldsFirst, item_count};
 ghost use Rattle.codes3270.specs.Size.{cells_in};
-ghost use Rattle.datastream.specs.Reading.{Gives, order_at, order_after, byte_at, address_at, character_at};
+ghost use Rattle.datastream.specs.Grammar.{start_field};
+ghost use Rattle.datastream.specs.Reading.{Gives, order_at, order_after, byte_at, address_at, character_at, characters_ahead};
 
+use crate::characters::count_characters;
 use crate::fault::CommandFault;
 use crate::order::Order;
 use crate::order_codes::{
@@ -31,6 +33,19 @@ impl<'a> Model for Orders<'a> {
     ghost Value = { List Order };
 
     ghost view = { λ orders. orders_in (cells_in orders.size) orders.text.now };
+}
+
+impl<'a> Orders<'a> {
+    /// Takes the characters before the first other order.
+    #[inline(always)]
+    pub fn characters(&mut self) -> &'a [u8]
+        ensures characters { result.now ≡ characters_ahead self.old }
+        ensures left { self.new ≡ drop (length result.now) self.old }
+    {
+        let (characters, others) = self.text.split_at(count_characters(self.text));
+        self.text = others;
+        characters
+    }
 }
 
 impl<'a> Iterator for Orders<'a> {
@@ -86,17 +101,14 @@ fn character_of(bytes: &[u8]) -> Result<(u8, &[u8]), CommandFault>
     }
 }
 
-/// The order with this code, which these bytes follow.
+/// The order with this code, which these bytes follow; not Start Field.
 #[inline(always)]
 #[tactic(auto, unfolding(crate::specs::Reading::order_after))]
 fn order_behind(code: u8, bytes: &[u8], size: Size) -> Result<(Order, &[u8]), CommandFault>
+    requires { code ≡ start_field → ⊥ }
     ensures { Gives (λ x. (x.0, x.1.now)) result (order_after (cells_in size) code bytes.now) }
 {
     match code {
-        START_FIELD => {
-            let (attr, rest) = byte_of(bytes)?;
-            Ok((Order::Sf(Attr::from_code(attr)), rest))
-        }
         SET_BUFFER_ADDRESS => match address_of(bytes, size) {
             Ok((addr, rest)) => Ok((Order::Sba(addr), rest)),
             Err(fault) => Err(fault),
@@ -120,14 +132,21 @@ fn order_behind(code: u8, bytes: &[u8], size: Size) -> Result<(Order, &[u8]), Co
 
 /// The order at the front of the bytes.
 #[inline(always)]
-#[tactic(auto, unfolding(crate::specs::Reading::order_at))]
+#[tactic(auto, unfolding(crate::specs::Reading::order_at, crate::specs::Reading::order_after))]
 pub(crate) fn order_of(bytes: &[u8], size: Size) -> Result<(Order, &[u8]), CommandFault>
     ensures { Gives (λ x. (x.0, x.1.now)) result (order_at (cells_in size) bytes.now) }
 {
-    let (byte, rest) = byte_of(bytes)?;
-    if storable(byte) {
-        Ok((Order::Char(byte), rest))
-    } else {
-        order_behind(byte, rest, size)
+    match bytes {
+        // The most frequent order comes first.
+        [START_FIELD, code, rest @ ..] => Ok((Order::Sf(Attr::from_code(*code)), rest)),
+        [START_FIELD] => Err(CommandFault::Truncated),
+        [byte, rest @ ..] => {
+            if storable(*byte) {
+                Ok((Order::Char(*byte), rest))
+            } else {
+                order_behind(*byte, rest, size)
+            }
+        }
+        [] => Err(CommandFault::Truncated),
     }
 }

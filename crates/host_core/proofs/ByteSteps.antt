@@ -1,13 +1,14 @@
 -- A byte and bytes, as the code takes them.
-use Rattle.std.proofs.Common.{◌≡◌, ◌≢◌, ℕ, ◌+◌, ◌<◌, List, [], ◌∷◌, ◌++◌, length, map, take, get_or, sym, ◌∙◌, ap, subst, refl, Option, None, Some, Vec}
+use Rattle.std.proofs.Common.{◌≡◌, ◌≢◌, ℕ, ◌+◌, ◌-◌, ◌<◌, List, [], ◌∷◌, ◌++◌, length, map, take, drop, get_or, sym, ◌∙◌, ap, subst, arith, refl, Option, None, Some, Vec}
 use Rattle.std.specs.Prelude.{◌↔◌, IfNone, IfSome}
 use Rattle.std.specs.declared.alloc.Global.{Global}
-use Rattle.std.proofs.lemmas.List.{take_more}
+use Rattle.std.proofs.Math.Seq.{take-add}
+use Rattle.std.proofs.lemmas.List.{length-drop, take_all, take_more}
 use Rattle.lu_pool.specs.Holders.{granted_if, given_back}
 use Rattle.lu_pool.specs.Pool.{Holds}
 use Rattle.lu_pool.specs.declared.entry.Entry.{Entry}
-use Rattle.telnet_wire.proofs.Running.{goes_wrong, delivers_none, delivers_item, still_running}
-use Rattle.telnet_wire.specs.Held.{Held, Takes, Refuses, step_of}
+use Rattle.telnet_wire.proofs.Running.{goes_wrong, delivers_none, delivers_item, none_completed, still_running}
+use Rattle.telnet_wire.specs.Held.{Held, Takes, TakesAll, Refuses, step_of}
 use Rattle.telnet_wire.specs.Items.{WireItem, sent_bytes}
 use Rattle.telnet_wire.specs.declared.wire.Step.TheVariants.{More}
 use Rattle.telnet_wire.specs.declared.wire.WireFault.{WireFault}
@@ -89,12 +90,39 @@ up_to_one_more : (number : ℕ) (old : Counter) (bytes : List ℕ) (place : ℕ)
 up_to_one_more number old bytes place mid new below taken more =
     subst (λ (some : List ℕ). TakesBytes number old some new) (sym (take_more bytes place 0 below)) (one_more number old (take place bytes) mid (get_or bytes place 0) new taken more)
 
--- room was made, and a byte was taken
-pub byte_more : (number : ℕ) (start : Counter) (bytes : List ℕ) (place : ℕ) (pool : List Entry) (held : Held) (conn : Conn) (out roomy : Vec ℕ Global) (rejections : List Rejection) (new : Counter)
-    → place < length bytes → roomy.items ≡ out.items → TakesBytes number start (take place bytes) (counter_of pool held conn None out rejections)
-    → TakesByte number (counter_of pool held conn None roomy rejections) (get_or bytes place 0) new → TakesBytes number start (take (place + 1) bytes) new
-byte_more number start bytes place pool held conn out roomy rejections new below same taken more =
+-- the byte behind some bytes
+pub byte_behind : (number : ℕ) (start mid new : Counter) (bytes : List ℕ) (place byte : ℕ) → place < length bytes → byte ≡ get_or bytes place 0
+    → TakesBytes number start (take place bytes) mid → TakesByte number mid byte new → TakesBytes number start (take (place + 1) bytes) new
+byte_behind number start mid new bytes place byte below at taken more =
+    up_to_one_more number start bytes place mid new below taken (subst (λ (b : ℕ). TakesByte number mid b new) at more)
+
+more_bytes : (number : ℕ) (old mid new : Counter) (bytes more : List ℕ) → TakesBytes number old bytes mid → TakesBytes number mid more new → TakesBytes number old (bytes ++ more) new
+more_bytes number old mid new [] more taken then_taken = subst (λ (from : Counter). TakesBytes number from more new) taken then_taken
+more_bytes number old mid new (byte ∷ bytes) more taken then_taken = (taken.0, taken.1, more_bytes number taken.0 mid new bytes more taken.2 then_taken)
+
+-- room was made, and some bytes were taken
+pub some_more : (number : ℕ) (start : Counter) (bytes : List ℕ) (place count : ℕ) (pool left : List Entry) (held after : Held) (conn new : Conn) (out roomy sent : Vec ℕ Global) (rejections keeps : List Rejection) (closes is : Option Cause)
+    → closes ≡ is → roomy.items ≡ out.items → TakesBytes number start (take place bytes) (counter_of pool held conn None out rejections)
+    → TakesBytes number (counter_of pool held conn None roomy rejections) (take count (take (length bytes - place) (drop place bytes))) (counter_of left after new closes sent keeps)
+    → TakesBytes number start (take (place + count) bytes) (counter_of left after new is sent keeps)
+some_more number start bytes place count pool left held after conn new out roomy sent rejections keeps closes is ends same taken more =
     let as_before : counter_of pool held conn None roomy rejections ≡ counter_of pool held conn None out rejections =
-    ap (λ (sent : List ℕ). record { pool = pool; connection = record { service = Service.Open held.rest conn; out = sent; rejections = rejections } }) same in
-    up_to_one_more number start bytes place (counter_of pool held conn None out rejections) new below taken
-    (subst (λ (from : Counter). TakesByte number from (get_or bytes place 0) new) as_before more)
+    ap (λ (items : List ℕ). record { pool = pool; connection = record { service = Service.Open held.rest conn; out = items; rejections = rejections } }) same in
+    let rest : take (length bytes - place) (drop place bytes) ≡ drop place bytes = take_all (length bytes - place) (drop place bytes) (omega (arith, length-drop place bytes)) in
+    subst (λ (some : List ℕ). TakesBytes number start some (counter_of left after new is sent keeps)) (sym (take-add place count bytes))
+    (more_bytes number start (counter_of pool held conn None out rejections) (counter_of left after new is sent keeps) (take place bytes) (take count (drop place bytes)) taken
+    (subst (λ (from : Counter). TakesBytes number from (take count (drop place bytes)) (counter_of left after new is sent keeps)) as_before
+    (subst (λ (cause : Option Cause). TakesBytes number (counter_of pool held conn None roomy rejections) (take count (drop place bytes)) (counter_of left after new cause sent keeps)) ends
+    (subst (λ (some : List ℕ). TakesBytes number (counter_of pool held conn None roomy rejections) (take count some) (counter_of left after new closes sent keeps)) rest more))))
+
+-- data up to the next IAC
+pub data_taken : (number : ℕ) (run : List ℕ) (pool : List Entry) (held after : Held) (conn : Conn) (out : Vec ℕ Global) (rejections : List Rejection) → IsRunning held → TakesAll held run [] after
+    → TakesBytes number (counter_of pool held conn None out rejections) run (counter_of pool after conn None out rejections)
+data_taken number [] pool held after conn out rejections running taken = ap (λ (h : Held). counter_of pool h conn None out rejections) taken.1
+data_taken number (byte ∷ run) pool held after conn out rejections running taken =
+    let none = none_completed taken.0.ready taken.1 taken.3 in (
+      counter_of pool taken.0 conn None out rejections,
+      byte_goes_on number pool held taken.0 conn out rejections byte running taken.2 none.0,
+      data_taken number run pool taken.0 after conn out rejections (still_running record_limit held taken.0 byte running taken.2)
+          (subst (λ (items : List WireItem). TakesAll taken.0 run items after) none.1 taken.4),
+    )

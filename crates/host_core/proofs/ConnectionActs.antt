@@ -1,21 +1,25 @@
 -- What acts and notes make of a connection is what they make of its line, and they leave the talk.
 use Rattle.std.proofs.Common.{◌≡◌, ◌≤◌, ℕ, Bool, true, false, List, Option, Some, None, Vec, refl, ap, sym, subst, ◌∙◌, if◌then◌else◌, arith}
+use Rattle.std.specs.Prelude.{IfSome, ◌&&◌}
 use Rattle.std.specs.Vec.{vec_capacity}
 use Rattle.std.specs.declared.alloc.Global.{Global}
 use Rattle.telnet_wire.specs.Reading.{Rest}
 use Rattle.tn3270e_msg.specs.HostTable.{granted}
-use Rattle.host_core.specs.Acts.{Act, Sent, acted, act_on, done, may_act}
+use Rattle.host_core.specs.Acts.{Act, Decision, Sent, acted, decided, decision_on, done, may_act}
 use Rattle.host_core.specs.Application.{Application}
-use Rattle.host_core.specs.Does.{Does, MayWantMemory}
-use Rattle.host_core.specs.Keeps.{DoesOn, WantsMemory}
+use Rattle.host_core.specs.Does.{Does, DoesAnswer, MayWantMemory}
+use Rattle.host_core.specs.Keeps.{AnswersOn, DoesOn, WantsMemory}
 use Rattle.host_core.specs.Connections.{IsSoundConnection, service_of}
 use Rattle.host_core.specs.Notes.{noted, noted_as, may_note}
+use Rattle.host_core.specs.Questions.{act_by, answered_in, has_its_panel, is_asking, is_ticket, ticket_of}
 use Rattle.host_core.specs.Rooms.{out_room}
 use Rattle.host_core.specs.Session.{Conn, is_agreed}
 use Rattle.host_core.specs.State.{Service, Connection, lu_of}
 use Rattle.host_core.specs.declared.acted.Acted.{Acted}
 use Rattle.host_core.specs.declared.acted.Acted.TheVariants as answer
 use Rattle.host_core.specs.declared.connection.HostEnd.{HostEnd}
+use Rattle.host_core.specs.declared.question.Answer.{Answer}
+use Rattle.host_core.specs.declared.question.Ticket.{Ticket}
 use Rattle.host_core.specs.declared.rejection.Rejection.{Rejection}
 use Rattle.host_core.specs.declared.connection.Service.{Service as Kept}
 use Rattle.host_core.specs.declared.connection.Service.TheVariants as kept
@@ -72,18 +76,57 @@ does_connection what now service box old new before after answered rejections vi
     subst (λ (l : Connection). Does (what l.service) l answered (open_connection old.decoder.rest new after.items rejections)) (sym (connection_is now service box old before rejections view is value))
     (on_connection (what (Service.Open old.decoder.rest old.session)) old.decoder.rest old.session new before after answered rejections (subst (λ (s : Kept). IsSoundConnection s before) is sound).1 does)
 
+-- an answer, likewise
+answer_on_connection : (what : Option Sent) (rest : Rest) (old new : Conn) (before after : Vec ℕ Global) (answered : Acted) (rejections : List Rejection) → AnswersOn what old before answered new after
+    → DoesAnswer what (open_connection rest old before.items rejections) answered (open_connection rest new after.items rejections)
+answer_on_connection None rest old new before after answered rejections does = (does.0, same_connection rest new old after.items before.items rejections does.1 does.2)
+answer_on_connection (Some sent) rest old new before after answer.Sent rejections does = same_connection rest new sent.conn after.items _ rejections does.conn does.bytes
+answer_on_connection (Some sent) rest old new before after answer.Memory rejections does = same_connection rest new old after.items before.items rejections does.0 does.1
+answer_on_connection (Some sent) rest old new before after answer.Nothing rejections does = absurd does
+
+pub answers_connection : (what : Service → Option Sent) (now : Connection) (service : Kept) (box : Box HostEnd Global) (old : HostEnd) (new : Conn) (before after : Vec ℕ Global) (answered : Acted) (rejections : List Rejection)
+    → now ≡ record { service = service_of service; out = before.items; rejections = rejections } → service ≡ kept.Open box → old ≡ box.value
+    → AnswersOn (what (Service.Open old.decoder.rest old.session)) old.session before answered new after
+    → DoesAnswer (what now.service) now answered (open_connection old.decoder.rest new after.items rejections)
+answers_connection what now service box old new before after answered rejections view is value does =
+    subst (λ (l : Connection). DoesAnswer (what l.service) l answered (open_connection old.decoder.rest new after.items rejections)) (sym (connection_is now service box old before rejections view is value))
+    (answer_on_connection (what (Service.Open old.decoder.rest old.session)) old.decoder.rest old.session new before after answered rejections does)
+
 -- ---- the talk stays
 
-keeps : (b : Bool) (sent : Sent) (old new : Conn) (before after : Vec ℕ Global) (answered : Acted) → sent.conn.talk ≡ old.talk
-    → DoesOn (if b then Some sent else None) old before answered new after → new.talk ≡ old.talk
-keeps false sent old new before after answered same does = ap (λ (c : Conn). c.talk) does.1
-keeps true sent old new before after answer.Sent same does = ap (λ (c : Conn). c.talk) does.conn ∙ same
-keeps true sent old new before after answer.Memory same does = ap (λ (c : Conn). c.talk) does.0
-keeps true sent old new before after answer.Nothing same does = absurd does
+-- what is sent leaves the talk as it was
+abbrev Talks : Conn → Option Sent → Type 0
+Talks old what = IfSome what (λ (sent : Sent). sent.conn.talk ≡ old.talk)
+
+keeps : (what : Option Sent) (old new : Conn) (before after : Vec ℕ Global) (answered : Acted) → Talks old what → DoesOn what old before answered new after → new.talk ≡ old.talk
+keeps None old new before after answered same does = ap (λ (c : Conn). c.talk) does.1
+keeps (Some sent) old new before after answer.Sent same does = ap (λ (c : Conn). c.talk) does.conn ∙ same
+keeps (Some sent) old new before after answer.Memory same does = ap (λ (c : Conn). c.talk) does.0
+keeps (Some sent) old new before after answer.Nothing same does = absurd does
+
+answer_keeps : (what : Option Sent) (old new : Conn) (before after : Vec ℕ Global) (answered : Acted) → Talks old what → AnswersOn what old before answered new after → new.talk ≡ old.talk
+answer_keeps None old new before after answered same does = ap (λ (c : Conn). c.talk) does.1
+answer_keeps (Some sent) old new before after answer.Sent same does = ap (λ (c : Conn). c.talk) does.conn ∙ same
+answer_keeps (Some sent) old new before after answer.Memory same does = ap (λ (c : Conn). c.talk) does.0
+answer_keeps (Some sent) old new before after answer.Nothing same does = absurd does
 
 done_keeps : (app : Application) (conn : Conn) (act : Act) → (done app conn act).conn.talk ≡ conn.talk
 done_keeps app conn Act.Read = refl
 done_keeps app conn (Act.Show panel message keep values) = refl
+
+decided_talks : (app : Application) (conn : Conn) (may : Bool) (decision : Decision) → Talks conn (if may then decided app conn decision else None)
+decided_talks app conn false decision = tt
+decided_talks app conn true (Decision.Do act) = done_keeps app conn act
+decided_talks app conn true Decision.Asks = tt
+
+answered_talks : (app : Application) (conn : Conn) (act : Act) (ticket asking : Bool) → Talks conn (if ticket then (if asking then Some (done app conn act) else None) else None)
+answered_talks app conn act false asking = tt
+answered_talks app conn act true false = tt
+answered_talks app conn act true true = done_keeps app conn act
+
+note_talks : (text : List ℕ) (conn : Conn) (may : Bool) → Talks conn (if may then Some (noted_as text conn) else None)
+note_talks text conn false = tt
+note_talks text conn true = refl
 
 module _ (now : Connection) (service : Kept) (box : Box HostEnd Global) (old : HostEnd) (new : Conn) (before after : Vec ℕ Global) (answered : Acted) (rejections : List Rejection)
     (view : now ≡ record { service = service_of service; out = before.items; rejections = rejections }) (is : service ≡ kept.Open box) (value : old ≡ box.value) where
@@ -92,9 +135,16 @@ module _ (now : Connection) (service : Kept) (box : Box HostEnd Global) (old : H
 
   pub act_holds : (app : Application) → DoesOn (acted app old.session) old.session before answered new after → granted new.talk.state ≡ lu_of now.service
   act_holds app does =
-      same_claim (keeps (may_act old.session.turn old.session.pending (is_agreed old.session.talk.state)) (done app old.session (act_on app old.session old.session.turn_reason)) old.session new before after answered
-      (done_keeps app old.session (act_on app old.session old.session.turn_reason)) does)
+      same_claim (keeps (acted app old.session) old.session new before after answered
+      (decided_talks app old.session (may_act old.session.turn old.session.pending (is_agreed old.session.talk.state)) (decision_on app old.session old.session.turn_reason)) does)
+
+  pub answer_holds : (app : Application) (session : ℕ) (ticket : Ticket) (said : Answer) → AnswersOn (answered_in app session ticket said old.session) old.session before answered new after
+      → granted new.talk.state ≡ lu_of now.service
+  answer_holds app session ticket said does =
+      same_claim (answer_keeps (answered_in app session ticket said old.session) old.session new before after answered
+      (answered_talks app old.session (act_by app old.session said said.panel) (is_ticket ticket (ticket_of session old.session)) (is_asking app old.session && has_its_panel app said)) does)
 
   pub note_holds : (text : List ℕ) → DoesOn (noted text old.session) old.session before answered new after → granted new.talk.state ≡ lu_of now.service
   note_holds text does =
-      same_claim (keeps (may_note old.session.turn old.session.pending (is_agreed old.session.talk.state)) (noted_as text old.session) old.session new before after answered refl does)
+      same_claim (keeps (noted text old.session) old.session new before after answered
+      (note_talks text old.session (may_note old.session.turn old.session.pending (is_agreed old.session.talk.state))) does)

@@ -10,13 +10,13 @@ use Rattle.host_core.specs.Connections.{service_of}
 use Rattle.host_core.specs.declared.connection.Service.{Service as Kept}
 use Rattle.host_core.specs.Session.{agreed_lu}
 use Rattle.host_core.specs.Sound.{HoldsJust, IsShown, IsSound, NobodyShares}
-use Rattle.host_core.specs.State.{Service, Connection, Host, most_connections, unused, connection_at, service_at, lu_of, phase_of, phase_agreed}
+use Rattle.host_core.specs.State.{Service, Connection, Host, Sessions, counted, most_connections, unused, connection_at, service_at, lu_of, phase_of, phase_agreed}
 use Rattle.host_core.specs.declared.phase.Phase.TheVariants as phase
 use Rattle.host_core.specs.declared.rejection.Rejection.{Rejection}
 
 -- a host with another pool, and another line at a number
 abbrev pub changed : ℕ → List Entry → Connection → Host → Host
-changed number pool connection host = record { panels = host.panels; pool = pool; connections = set host.connections number connection }
+changed number pool connection host = record host { pool = pool; connections = set host.connections number connection }
 
 -- ---- lines
 
@@ -45,10 +45,20 @@ changed_sound number pool connection host below sound here others shown =
     let inside : number < length host.connections = subst (λ (n : ℕ). number < n) (sym sound.connections) below in
     record {
       connections = length-set host.connections number connection ∙ sound.connections;
+      sessions = sound.sessions;
       held = at_each (λ n l. HoldsJust n pool (lu_of l.service)) number host.connections connection inside here
           (λ other ne. λ lu. (λ h. (sound.held other lu).0 ((others other lu ne).0 h), λ e. (others other lu ne).1 ((sound.held other lu).1 e)));
       shown = at_each (λ n l. IsShown host.panels l.service) number host.connections connection inside shown (λ other ne. sound.shown other);
     }
+
+-- another session is counted
+pub counted_sound : (number : ℕ) (host : Host) → IsSound host → IsSound (record host { sessions = counted number host.sessions })
+counted_sound number host sound = record {
+  connections = sound.connections;
+  sessions = length-set host.sessions.latest number host.sessions.next ∙ sound.sessions;
+  held = sound.held;
+  shown = sound.shown;
+}
 
 pub others_stay : (number : ℕ) (pool : List Entry) → OthersHold number pool pool
 others_stay number pool other lu ne = (λ h. h, λ h. h)
@@ -139,12 +149,14 @@ one_more_unused index old connections connection is below so_far =
     ap (λ ls. set ls index connection) so_far ∙ one_put index old connection is below ∙ sym (ap (λ n. replicate n unused ++ drop n old) next)
 
 -- a host whose numbers are all free, where nobody holds an LU
-pub unused_sound : (panels : Panels) (pool : List Entry) (connections : List Connection) → connections ≡ replicate most_connections unused → ((number : ℕ) → HoldsNone pool number)
-    → IsSound (record { panels = panels; pool = pool; connections = connections })
-unused_sound panels pool connections are nobody =
+pub unused_sound : (panels : Panels) (pool : List Entry) (connections : List Connection) (sessions : Sessions) → connections ≡ replicate most_connections unused
+    → length sessions.latest ≡ most_connections → ((number : ℕ) → HoldsNone pool number)
+    → IsSound (record { panels = panels; pool = pool; connections = connections; sessions = sessions })
+unused_sound panels pool connections sessions are counted nobody =
     let there : (number : ℕ) → get_or connections number unused ≡ unused = λ number. ap (λ (ls : List Connection). get_or ls number unused) are ∙ always_unused most_connections number in
     record {
       connections = ap length are ∙ all_unused most_connections;
+      sessions = counted;
       held = λ number. subst (λ (l : Connection). HoldsJust number pool (lu_of l.service)) (sym (there number)) (held_by_none number pool (nobody number));
       shown = λ number. subst (λ (l : Connection). IsShown panels l.service) (sym (there number)) tt;
     }

@@ -1,8 +1,8 @@
 -- What a host learns of fields, and when their values have to grow.
 use Rattle.std.proofs.Common.{◌≡◌, ◌≢◌, ◌<◌, ◌≤◌, ◌+◌, ℕ, zero, suc, Bool, true, false, List, [], ◌∷◌, length, drop, get_or, Option, Some, None, refl, ap, sym, subst, ◌∙◌, arith, lt-ltb, ltb-true}
-use Rattle.std.specs.Prelude.{slice_get, ◌||◌}
+use Rattle.std.specs.Prelude.{slice_get, ◌||◌, ◌&&◌, is_some, unwrap_or, if◌then◌else◌}
 use Rattle.std.specs.List.{list_any}
-use Rattle.std.specs.Option.{option_map_or}
+use Rattle.std.specs.Option.{option_map_or, option_or}
 use Rattle.std.proofs.lemmas.List.{drop_more}
 use Rattle.std.proofs.lemmas.Option.{slice_get_read}
 use Rattle.shadow.specs.Belief.{Shadow}
@@ -11,9 +11,9 @@ use Rattle.panels.specs.Screen.{Values}
 use Rattle.panels.specs.Values.{HasToGrow, set_if, value_of}
 use Rattle.panels.specs.declared.panel.Field.{Field}
 use Rattle.panels.proofs.Setting.{put_here, put_there}
-use Rattle.host_core.specs.Acts.{learned, text_known}
+use Rattle.host_core.specs.Acts.{first_missing, is_blank, is_missing, learned, text_known}
 use Rattle.host_core.specs.Does.{Grow}
-use Rattle.host_core.specs.Learning.{is_longer, needs_room, HasField, HaveFields}
+use Rattle.host_core.specs.Learning.{is_longer, is_missing_now, needs_room, value_now, HasField, HaveFields}
 
 -- ---- a value that is set
 
@@ -46,6 +46,44 @@ learns shadow (field ∷ fields) values zero one text apart at_k known =
     ∙ set_here (text_known shadow field) field.number values text (ap (λ (f : Field). text_known shadow f) (sym same) ∙ known))
 learns shadow (field ∷ fields) values (suc k) one text apart at_k known =
     learns shadow fields (set_if field.number (text_known shadow field) values) k one text (tail_apart field fields apart) at_k known
+
+-- the value that a field has then
+set_or_kept : (known : Option (List ℕ)) (n : ℕ) (values : Values) → value_of (set_if n known values) n ≡ option_or known (value_of values n)
+set_or_kept None n values = refl
+set_or_kept (Some text) n values = put_here values n text
+
+value_learned : (shadow : Shadow) (fields : List Field) (values : Values) (k : ℕ) (one : Field) → HaveNumbersApart fields → slice_get fields k ≡ Some one
+    → value_of (learned shadow fields values) one.number ≡ value_now shadow values one
+value_learned shadow [] values k one apart at_k = absurd (cc)
+value_learned shadow (field ∷ fields) values zero one apart at_k =
+    let same : one ≡ field = cc in
+    subst (λ (f : Field). value_of (learned shadow (field ∷ fields) values) f.number ≡ value_now shadow values f) (sym same)
+    (kept shadow fields (set_if field.number (text_known shadow field) values) field.number (λ j other at_j. apart zero (suc j) field other (omega arith) refl at_j)
+    ∙ set_or_kept (text_known shadow field) field.number values)
+value_learned shadow (field ∷ fields) values (suc k) one apart at_k =
+    value_learned shadow fields (set_if field.number (text_known shadow field) values) k one (tail_apart field fields apart) at_k
+    ∙ ap (λ (value : Option (List ℕ)). option_or (text_known shadow one) value)
+    (set_there (text_known shadow field) field.number one.number values (λ same. apart zero (suc k) field one (omega arith) refl at_k (sym same)))
+
+-- a required field that isn't filled in now is missing then
+missing_among : (shadow : Shadow) (values now : Values) (fields : List Field)
+    → ((k : ℕ) (one : Field) → slice_get fields k ≡ Some one → value_of now one.number ≡ value_now shadow values one)
+    → list_any (is_missing_now shadow values) fields ≡ is_some (first_missing now fields)
+missing_among shadow values now [] are = refl
+missing_among shadow values now (field ∷ fields) are =
+    let here : is_missing now field ≡ is_missing_now shadow values field =
+    ap (λ (value : Option (List ℕ)). field.required && is_blank (unwrap_or value [])) (are zero field refl) in
+    by_test (is_missing now field) here (missing_among shadow values now fields (λ k one at_k. are (suc k) one at_k))
+  where
+    by_test : (b : Bool) → b ≡ is_missing_now shadow values field → list_any (is_missing_now shadow values) fields ≡ is_some (first_missing now fields)
+        → (is_missing_now shadow values field || list_any (is_missing_now shadow values) fields) ≡ is_some (if b then Some field.number else first_missing now fields)
+    by_test true is rest = ap (λ (b : Bool). b || list_any (is_missing_now shadow values) fields) (sym is)
+    by_test false is rest = ap (λ (b : Bool). b || list_any (is_missing_now shadow values) fields) (sym is) ∙ rest
+
+pub missing_now : (shadow : Shadow) (values : Values) (fields : List Field) → HaveNumbersApart fields
+    → list_any (is_missing_now shadow values) fields ≡ is_some (first_missing (learned shadow fields values) fields)
+missing_now shadow values fields apart =
+    missing_among shadow values (learned shadow fields values) fields (λ k one at_k. value_learned shadow fields values k one apart at_k)
 
 abbrev IsAt : (Field → Bool) → List Field → Type 0
 IsAt test fields = (k : ℕ) × (one : Field) × (slice_get fields k ≡ Some one) × (test one ≡ true)

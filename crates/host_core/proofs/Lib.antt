@@ -14,7 +14,8 @@ pub mod Wanting
 pub mod Paintings
 pub mod Measured
 pub mod Knowing
-pub mod Doings
+pub mod Deciding
+mod Doings
 pub mod NoteBytes
 pub mod RecordsTaken
 pub mod TalkSteps

@@ -27,35 +27,35 @@ use Rattle.host_core.specs.declared.pending.Pending.TheVariants as unanswered
 -- ---- the whole screen
 
 -- where what came was believed, nothing waits for an answer then
-ends : (heard : Result Shadow HeardFault) (turn_reason : TurnReason) (old mid : Conn) (cause : Option Cause) → silent mid cause ≡ believed turn_reason old.pending old heard
-    → is_some cause ≡ false → silent (record mid { pending = Pending.Nothing }) cause ≡ believed turn_reason Pending.Nothing old heard
-ends (Ok shadow) turn_reason old mid cause came none = ap (λ (step : HostStep). record step { conn = record step.conn { pending = Pending.Nothing } }) came
-ends (Err fault) turn_reason old mid cause came none =
+ends : (heard : Result Shadow HeardFault) (turn_reason : TurnReason) (cursor : Option ℕ) (old mid : Conn) (cause : Option Cause) → silent mid cause ≡ believed turn_reason old.pending cursor old heard
+    → is_some cause ≡ false → silent (record mid { pending = Pending.Nothing }) cause ≡ believed turn_reason Pending.Nothing cursor old heard
+ends (Ok shadow) turn_reason cursor old mid cause came none = ap (λ (step : HostStep). record step { conn = record step.conn { pending = Pending.Nothing } }) came
+ends (Err fault) turn_reason cursor old mid cause came none =
     let closes : cause ≡ Some BadInbound = ap (λ (step : HostStep). step.closes) came in
     absurd (let opens : is_some cause ≡ true = ap (λ (c : Option Cause). is_some c) closes in cc)
 
 -- where it wasn't, all is as it was
-refuses : (heard : Result Shadow HeardFault) (turn_reason : TurnReason) (old mid : Conn) (cause : Option Cause) → silent mid cause ≡ believed turn_reason old.pending old heard
-    → is_some cause ≡ true → silent mid cause ≡ believed turn_reason Pending.Nothing old heard
-refuses (Ok shadow) turn_reason old mid cause came some =
+refuses : (heard : Result Shadow HeardFault) (turn_reason : TurnReason) (cursor : Option ℕ) (old mid : Conn) (cause : Option Cause) → silent mid cause ≡ believed turn_reason old.pending cursor old heard
+    → is_some cause ≡ true → silent mid cause ≡ believed turn_reason Pending.Nothing cursor old heard
+refuses (Ok shadow) turn_reason cursor old mid cause came some =
     let goes : cause ≡ None = ap (λ (step : HostStep). step.closes) came in
     absurd (let closes : is_some cause ≡ false = ap (λ (c : Option Cause). is_some c) goes in cc)
-refuses (Err fault) turn_reason old mid cause came some = came
+refuses (Err fault) turn_reason cursor old mid cause came some = came
 
-came_in : (parts : InboundParts) (old : Conn) → parts.form ≡ Buffer → believed (once_read old.turn_reason) Pending.Nothing old (hears parts old) ≡ buffer_came parts parts.form old
+came_in : (parts : InboundParts) (old : Conn) → parts.form ≡ Buffer → believed (once_read old.turn_reason) Pending.Nothing parts.cursor old (hears parts old) ≡ buffer_came parts parts.form old
 came_in parts old form = ap (λ (f : Form). buffer_came parts f old) (sym form)
 
 pub buffer_believed : (parts : InboundParts) (turn_reason : TurnReason) (old mid : Conn) (cause : Option Cause) → parts.form ≡ Buffer → turn_reason ≡ once_read old.turn_reason
-    → silent mid cause ≡ believed turn_reason old.pending old (hears parts old) → is_some cause ≡ false
+    → silent mid cause ≡ believed turn_reason old.pending parts.cursor old (hears parts old) → is_some cause ≡ false
     → silent (record mid { pending = Pending.Nothing }) cause ≡ buffer_came parts parts.form old
 buffer_believed parts turn_reason old mid cause form read came none =
-    ends (hears parts old) turn_reason old mid cause came none ∙ ap (λ (o : TurnReason). believed o Pending.Nothing old (hears parts old)) read ∙ came_in parts old form
+    ends (hears parts old) turn_reason parts.cursor old mid cause came none ∙ ap (λ (o : TurnReason). believed o Pending.Nothing parts.cursor old (hears parts old)) read ∙ came_in parts old form
 
 pub buffer_refused : (parts : InboundParts) (turn_reason : TurnReason) (old mid : Conn) (cause : Option Cause) → parts.form ≡ Buffer → turn_reason ≡ once_read old.turn_reason
-    → silent mid cause ≡ believed turn_reason old.pending old (hears parts old) → is_some cause ≡ true
+    → silent mid cause ≡ believed turn_reason old.pending parts.cursor old (hears parts old) → is_some cause ≡ true
     → silent mid cause ≡ buffer_came parts parts.form old
 buffer_refused parts turn_reason old mid cause form read came some =
-    refuses (hears parts old) turn_reason old mid cause came some ∙ ap (λ (o : TurnReason). believed o Pending.Nothing old (hears parts old)) read ∙ came_in parts old form
+    refuses (hears parts old) turn_reason parts.cursor old mid cause came some ∙ ap (λ (o : TurnReason). believed o Pending.Nothing parts.cursor old (hears parts old)) read ∙ came_in parts old form
 
 -- ---- the write that waits for its answer
 

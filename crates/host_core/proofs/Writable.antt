@@ -26,7 +26,7 @@ use Rattle.panels.specs.Screen.{Values, distance_in, item_cell, kept_cell, autos
 use Rattle.panels.specs.Size.{message_start}
 use Rattle.panels.specs.Values.{value_of}
 use Rattle.panels.specs.declared.message.Message.{Message}
-use Rattle.panels.specs.declared.message.Message.TheVariants.{Fresh, Plain, KeyNotActive, Required}
+use Rattle.panels.specs.declared.message.Message.TheVariants.{Fresh, Plain, KeyNotActive, Required, Told}
 use Rattle.panels.specs.declared.panel.Content.{Content}
 use Rattle.panels.specs.declared.panel.Content.TheVariants.{Literal, Show}
 use Rattle.panels.specs.declared.panel.Field.{Field}
@@ -77,6 +77,7 @@ coded_stored text = All-map IsStored (λ character. unwrap_or (code_of character
 message_stored : (fields : List Field) (message : Message) → AreStorable (message_text fields message)
 message_stored fields Fresh = All-nil IsStored
 message_stored fields Plain = All-nil IsStored
+message_stored fields (Told text cursor) = coded_stored text.characters
 message_stored fields KeyNotActive = coded_stored (codes "KEY NOT ACTIVE")
 message_stored fields (Required number) = coded_stored (codes "REQUIRED: " ++ option_map_or (λ (field : Field). field.name) (field_numbered number fields) [])
 

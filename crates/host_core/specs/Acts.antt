@@ -1,4 +1,4 @@
--- What a host does in its turn (our profile): the five rules.
+-- What a host does in its turn (our profile): the six rules.
 use Rattle.std.specs.Prelude.{◌==◌, ◌-◌, ◌&&◌, not, ℕ, Bool, true, false, List, [], ◌∷◌, Option, Some, None, option_and_then, unwrap_or, if◌then◌else◌}
 use Rattle.std.specs.List.{list_any, list_all}
 use Rattle.std.specs.Option.{option_map_or}
@@ -13,9 +13,9 @@ use Rattle.shadow.specs.Meets.{told}
 use Rattle.shadow.specs.Paint.{paint}
 use Rattle.panels.specs.declared.panel.Field.{Field}
 use Rattle.panels.specs.declared.message.Message.{Message}
-use Rattle.panels.specs.declared.message.Message.TheVariants.{Fresh, Plain, KeyNotActive, Required}
+use Rattle.panels.specs.declared.message.Message.TheVariants.{Fresh, Plain, KeyNotActive, Required, Told}
 use Rattle.panels.specs.declared.next.Next.{Next}
-use Rattle.panels.specs.declared.next.Next.TheVariants.{Go, Again}
+use Rattle.panels.specs.declared.next.Next.TheVariants.{Go, Ask, Again}
 use Rattle.panels.specs.Screen.{Values}
 use Rattle.panels.specs.Values.{set_if, value_of}
 use Rattle.tn3270e_msg.specs.Header.{next_number}
@@ -32,6 +32,11 @@ use Rattle.host_core.specs.Session.{Conn, Pending, is_agreed, model_in}
 pub data Act : Type 0 where
   Read : Act
   Show : (panel : ℕ) → Message → (keep : Bool) → Values → Act
+
+-- what the host decides in its turn: an act, or that it asks the application, and does nothing until that has answered
+pub data Decision : Type 0 where
+  Do : Act → Decision
+  Asks : Decision
 
 -- ---- what is known of the panel's fields
 
@@ -77,24 +82,25 @@ first_missing values (field ∷ fields) = if is_missing values field then Some f
 
 -- ---- the rules
 
--- a target is shown fresh; but after Enter, while a required field is missing, the panel is shown again
-abbrev pub unless_missing : ℕ → ℕ → Values → Option ℕ → Act
-unless_missing panel target values None = Act.Show target Fresh false values
-unless_missing panel target values (Some field) = Act.Show panel (Required field) true values
+-- after Enter, while a required field is missing, the panel is shown again in place of what was decided
+abbrev pub unless_missing : ℕ → Decision → Values → Option ℕ → Decision
+unless_missing panel decision values None = decision
+unless_missing panel decision values (Some field) = Decision.Do (Act.Show panel (Required field) true values)
 
-abbrev pub gone_to : Application → Conn → ℕ → Values → Aid → Act
-gone_to app conn target values Enter = unless_missing conn.panel target values (first_missing values (app.fields conn.panel))
-gone_to app conn target values _ = Act.Show target Fresh false values
+abbrev pub once_filled_in : Application → Conn → Decision → Values → Aid → Decision
+once_filled_in app conn decision values Enter = unless_missing conn.panel decision values (first_missing values (app.fields conn.panel))
+once_filled_in app conn decision values _ = decision
 
--- a key without a target isn't active
-abbrev pub led : Application → Conn → Values → Aid → Next → Act
-led app conn values aid Again = Act.Show conn.panel KeyNotActive true values
-led app conn values aid (Go target) = gone_to app conn target values aid
+-- a target is shown fresh, or the application is asked; a key with neither isn't active
+abbrev pub led : Application → Conn → Values → Aid → Next → Decision
+led app conn values aid Again = Decision.Do (Act.Show conn.panel KeyNotActive true values)
+led app conn values aid (Go target) = once_filled_in app conn (Decision.Do (Act.Show target Fresh false values)) values aid
+led app conn values aid Ask = once_filled_in app conn Decision.Asks values aid
 
 -- after Clear: the target of that key, else the same panel
 abbrev pub target_or : ℕ → Next → ℕ
-target_or panel Again = panel
 target_or panel (Go target) = target
+target_or panel _ = panel
 
 -- a message again, after a refusal
 abbrev pub repeated : Message → Message
@@ -102,18 +108,19 @@ repeated Fresh = Plain
 repeated Plain = Plain
 repeated KeyNotActive = KeyNotActive
 repeated (Required field) = Required field
+repeated (Told text field) = Told text field
 
-abbrev pub after_key : Application → Conn → Aid → Bool → Act
-after_key app conn Clear buffered = Act.Show (target_or conn.panel (app.next conn.panel Clear)) Fresh false conn.values
+abbrev pub after_key : Application → Conn → Aid → Bool → Decision
+after_key app conn Clear buffered = Decision.Do (Act.Show (target_or conn.panel (app.next conn.panel Clear)) Fresh false conn.values)
 after_key app conn aid buffered =
-    if is_to_be_read app conn aid && not buffered then Act.Read
+    if is_to_be_read app conn aid && not buffered then Decision.Do Act.Read
     else led app conn (learned conn.shadow (app.fields conn.panel) conn.values) aid (app.next conn.panel aid)
 
 -- at agreement the first panel; after a refusal the same panel, whole
-abbrev pub act_on : Application → Conn → TurnReason → Act
-act_on app conn turn_reasons.Agreement = Act.Show app.start Fresh false conn.values
-act_on app conn (turn_reasons.Key aid buffered) = after_key app conn aid buffered
-act_on app conn turn_reasons.Refusal = Act.Show conn.panel (repeated conn.message) false conn.values
+abbrev pub decision_on : Application → Conn → TurnReason → Decision
+decision_on app conn turn_reasons.Agreement = Decision.Do (Act.Show app.start Fresh false conn.values)
+decision_on app conn (turn_reasons.Key aid buffered) = after_key app conn aid buffered
+decision_on app conn turn_reasons.Refusal = Decision.Do (Act.Show conn.panel (repeated conn.message) false conn.values)
 
 -- ---- what is sent
 
@@ -160,6 +167,9 @@ may_act whose.Host (Pending.Reading number) agreed = false
 may_act whose.Host (Pending.Noting number command) agreed = false
 may_act whose.Terminal pending agreed = false
 
+abbrev pub decided : Application → Conn → Decision → Option Sent
+decided app conn (Decision.Do act) = Some (done app conn act)
+decided app conn Decision.Asks = None
+
 abbrev pub acted : Application → Conn → Option Sent
-acted app conn =
-    if may_act conn.turn conn.pending (is_agreed conn.talk.state) then Some (done app conn (act_on app conn conn.turn_reason)) else None
+acted app conn = if may_act conn.turn conn.pending (is_agreed conn.talk.state) then decided app conn (decision_on app conn conn.turn_reason) else None

@@ -1,5 +1,5 @@
 -- What a host shows, and where its keys lead (our profile).
-use Rattle.std.specs.Prelude.{◌≡◌, ◌⊎◌, ◌<◌, ◌≤◌, ◌-◌, ℕ, Bool, true, false, List, [], ◌∷◌, length, drop, None, slice_get, unwrap_or, All}
+use Rattle.std.specs.Prelude.{◌≡◌, ◌⊎◌, ◌<◌, ◌≤◌, ◌-◌, nat_lt, ℕ, Bool, true, false, List, [], ◌∷◌, length, drop, None, slice_get, unwrap_or, All}
 use Rattle.std.specs.List.{list_any, list_all}
 use Rattle.std.specs.Map.{values_of}
 use Rattle.codes3270.specs.Size.{Shape, alternate_of, cells_in, model_2, most_cells}
@@ -22,12 +22,13 @@ use Rattle.panels.specs.Screen.{Values, screen_of}
 -- The sizes that screens may have: `begins` at the begin of each connection and after Erase/Write, and the alternate size of a model
 -- after Erase/Write Alternate.
 --
--- Panels by their numbers: the first one; the one that is shown to a terminal of a model where one is asked for; the fields of each,
+-- Panels by their numbers: the first one; which numbers are a panel's; the one that is shown to a terminal of a model where one is asked for; the fields of each,
 -- where a key leads from it, and the screen that it asks for; with `keep`, fields keep what the operator left in them.
 pub record Application : Type 0 where
   pub begins : Shape
   pub alternate : Model → Shape
   pub start : ℕ
+  pub has_panel : ℕ → Bool
   pub shown : Model → (panel : ℕ) → ℕ
   pub fields : ℕ → List Field
   pub next : ℕ → Aid → Next
@@ -97,7 +98,7 @@ AsksForScreens app =
 
 -- one without texts and fields, for a number that no panel has
 abbrev pub no_panel : PanelParts
-no_panel = record { model = M2; otherwise = None; texts = []; fields = []; cursor = 0; targets = [] }
+no_panel = record { name = []; model = M2; otherwise = None; texts = []; fields = []; cursor = 0; targets = []; asked = [] }
 
 -- the panel with a number
 abbrev pub panel_at : Panels → ℕ → PanelParts
@@ -108,6 +109,7 @@ application_of set = record {
   begins = model_2;
   alternate = alternate_of;
   start = set.start;
+  has_panel = λ panel. nat_lt panel (length set.panels);
   shown = λ model panel. shown_in set model panel;
   fields = λ panel. (panel_at set panel).fields;
   next = λ panel aid. next_of (panel_at set panel) aid;

@@ -55,3 +55,10 @@ Does None old answer new = (answer ≡ Nothing) × (new ≡ old)
 Does (Some sent) old IsSent new = new ≡ sent_on sent old
 Does (Some sent) old Memory new = (new ≡ old) × MayWantMemory sent old
 Does (Some sent) old Nothing new = ⊥
+
+-- The same of what an application answers; but that takes memory for its values.
+abbrev pub DoesAnswer : Option Sent → Connection → Acted → Connection → Type 0
+DoesAnswer None old answer new = (answer ≡ Nothing) × (new ≡ old)
+DoesAnswer (Some sent) old IsSent new = new ≡ sent_on sent old
+DoesAnswer (Some sent) old Memory new = new ≡ old
+DoesAnswer (Some sent) old Nothing new = ⊥

@@ -23,7 +23,7 @@ use Rattle.tn3270e_msg.specs.HostTable.{granted}
 use Rattle.tn3270e_msg.specs.declared.cause.Cause.{Cause}
 use Rattle.tn3270e_msg.specs.declared.cause.Stop.{Stop}
 use Rattle.tn3270e_msg.specs.declared.cause.Stop.TheVariants.{Going, Memory, Closed as ClosedStop}
-use Rattle.host_core.specs.Acts.{Act, Sent, is_to_be_read, learned, led, repeated, target_or}
+use Rattle.host_core.specs.Acts.{Act, Decision, Sent, is_to_be_read, learned, led, repeated, target_or}
 use Rattle.host_core.specs.Application.{Application}
 use Rattle.host_core.specs.Does.{Grow}
 use Rattle.host_core.specs.Bytes.{Counter, service_after}
@@ -160,15 +160,20 @@ values_shown app conn = if teaches conn.turn_reason then learned conn.shadow (ap
 abbrev pub act_of : Values → Shown → Act
 act_of values shown = Act.Show shown.panel shown.message shown.keep values
 
--- the act by which a panel is shown, once the values of fields are set
-abbrev pub show_for : Application → Conn → TurnReason → Act
-show_for app conn Agreement = Act.Show app.start Fresh false conn.values
-show_for app conn (Key Clear buffered) = Act.Show (target_or conn.panel (app.next conn.panel Clear)) Fresh false conn.values
-show_for app conn (Key aid buffered) = led app conn conn.values aid (app.next conn.panel aid)
-show_for app conn Refusal = Act.Show conn.panel (repeated conn.message) false conn.values
+-- the same, if something is shown; else the application is asked
+abbrev pub decision_of : Values → Option Shown → Decision
+decision_of values None = Decision.Asks
+decision_of values (Some shown) = Decision.Do (act_of values shown)
 
--- the act by which a panel is shown, from before the values of fields are set
-abbrev pub show_once : Application → Conn → Act
+-- what is decided if nothing is read, once the values of fields are set
+abbrev pub show_for : Application → Conn → TurnReason → Decision
+show_for app conn Agreement = Decision.Do (Act.Show app.start Fresh false conn.values)
+show_for app conn (Key Clear buffered) = Decision.Do (Act.Show (target_or conn.panel (app.next conn.panel Clear)) Fresh false conn.values)
+show_for app conn (Key aid buffered) = led app conn conn.values aid (app.next conn.panel aid)
+show_for app conn Refusal = Decision.Do (Act.Show conn.panel (repeated conn.message) false conn.values)
+
+-- the same, from before the values of fields are set
+abbrev pub show_once : Application → Conn → Decision
 show_once app conn = show_for app (record conn { values = values_shown app conn }) conn.turn_reason
 
 -- something was sent: its bytes were appended to what was there
@@ -187,3 +192,10 @@ DoesOn None old before answer new after = (answer ≡ Nothing) × (new ≡ old) 
 DoesOn (Some sent) old before IsSent new after = IsSentOn sent before after new
 DoesOn (Some sent) old before NoMemory new after = (new ≡ old) × (after.items ≡ before.items) × WantsMemory sent old before
 DoesOn (Some sent) old before Nothing new after = ⊥
+
+-- the same of what an application answers
+abbrev pub AnswersOn : Option Sent → Conn → Vec ℕ Global → Acted → Conn → Vec ℕ Global → Type 0
+AnswersOn None old before answer new after = (answer ≡ Nothing) × (new ≡ old) × (after.items ≡ before.items)
+AnswersOn (Some sent) old before IsSent new after = IsSentOn sent before after new
+AnswersOn (Some sent) old before NoMemory new after = (new ≡ old) × (after.items ≡ before.items)
+AnswersOn (Some sent) old before Nothing new after = ⊥

@@ -1,11 +1,11 @@
 -- What a host learns of fields (our profile); only private contracts and proofs need it.
-use Rattle.std.specs.Prelude.{ℕ, ◌-◌, Bool, true, false, nat_lt, List, All, length, Option, Some, None}
-use Rattle.std.specs.Option.{option_map_or}
+use Rattle.std.specs.Prelude.{ℕ, ◌-◌, ◌&&◌, Bool, true, false, nat_lt, List, [], All, length, Option, Some, None, unwrap_or}
+use Rattle.std.specs.Option.{option_map_or, option_or}
 use Rattle.shadow.specs.Belief.{Shadow, HasCell}
 use Rattle.panels.specs.Screen.{Values}
 use Rattle.panels.specs.Values.{value_of}
 use Rattle.panels.specs.declared.panel.Field.{Field}
-use Rattle.host_core.specs.Acts.{text_known}
+use Rattle.host_core.specs.Acts.{is_blank, text_known}
 
 -- the screen of which something is known has the cell of a field's attribute
 abbrev pub HasField : Shadow → Field → Type 0
@@ -22,3 +22,11 @@ is_longer (Some value) text = nat_lt (length value) (length text)
 -- whether the text of a field is known and needs more memory than the field's value has
 abbrev pub needs_room : Shadow → Values → Field → Bool
 needs_room shadow values field = option_map_or (is_longer (value_of values field.number)) (text_known shadow field) false
+
+-- the value of a field once its text is set, if the host knows it
+abbrev pub value_now : Shadow → Values → Field → Option (List ℕ)
+value_now shadow values field = option_or (text_known shadow field) (value_of values field.number)
+
+-- a required field isn't filled in, once the known texts are set
+abbrev pub is_missing_now : Shadow → Values → Field → Bool
+is_missing_now shadow values field = field.required && is_blank (unwrap_or (value_now shadow values field) [])

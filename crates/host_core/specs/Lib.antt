@@ -11,6 +11,7 @@ pub mod State
 pub mod Items
 pub mod Bytes
 pub mod Feeds
+pub mod Questions
 pub mod Does
 pub mod KeepAlive
 pub mod Machine

@@ -36,6 +36,7 @@ pub record Conn : Type 0 where
   pub message : Message  -- and with what message
   pub values : Values  -- of the fields
   pub turn_reason : TurnReason
+  pub cursor : ℕ  -- where the terminal's cursor was when its last data was sent; 0 before
 
 -- at the begin of a connection, when the host has offered TN3270E; nothing is shown yet, and the first panel is to be, in the form in
 -- which a model 2 is shown it
@@ -51,6 +52,7 @@ new_conn app = record {
   message = Fresh;
   values = [];
   turn_reason = Agreement;
+  cursor = 0;
 }
 
 -- the model of the terminal, once it has asked for its type; all are like a model 2 before

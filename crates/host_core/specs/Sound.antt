@@ -31,6 +31,7 @@ PanelsAreShown host = (number : ℕ) → IsShown host.panels (service_at number 
 
 pub record IsSound (host : Host) : Type 0 where
   pub connections : length host.connections ≡ most_connections
+  pub sessions : length host.sessions.latest ≡ most_connections
   pub held : LusAreHeld host
   pub shown : PanelsAreShown host
 

@@ -1,5 +1,5 @@
 -- A host, seen from outside (our profile).
-use Rattle.std.specs.Prelude.{ℕ, List, [], ◌∷◌, Option, Some, None, replicate, slice_set, slice_index_or}
+use Rattle.std.specs.Prelude.{◌+◌, ◌%◌, ◌^◌, ℕ, List, [], ◌∷◌, Option, Some, None, replicate, slice_set, slice_index_or}
 use Rattle.codes3270.specs.declared.size.Model.{Model}
 use Rattle.lu_pool.specs.Holders.{all_free, given_back}
 use Rattle.lu_pool.specs.declared.entry.Entry.{Entry}
@@ -31,10 +31,16 @@ pub record Connection : Type 0 where
   pub out : List ℕ
   pub rejections : List Rejection  -- those that weren't reported yet, the oldest first
 
+-- Sessions are counted: the number of the session that each connection number was opened for last, and that of the next one.
+pub record Sessions : Type 0 where
+  pub latest : List ℕ
+  pub next : ℕ
+
 pub record Host : Type 0 where
   pub panels : Panels
   pub pool : List Entry
   pub connections : List Connection  -- by their numbers
+  pub sessions : Sessions
 
 -- the numbers that there are
 abbrev pub most_connections : ℕ
@@ -98,9 +104,37 @@ service_at number host = (connection_at number host).service
 abbrev pub with_connection : ℕ → Connection → Host → Host
 with_connection number connection host = record host { connections = slice_set host.connections number connection }
 
+-- ---- sessions
+
+-- a connection number is opened for the next session; the count has 64 bits
+abbrev pub counted : ℕ → Sessions → Sessions
+counted number sessions = record { latest = slice_set sessions.latest number sessions.next; next = (sessions.next + 1) % 2 ^ 64 }
+
+abbrev pub session_at : ℕ → Host → ℕ
+session_at number host = slice_index_or host.sessions.latest number 0
+
+-- none is counted yet
+abbrev pub no_sessions : Sessions
+no_sessions = record { latest = replicate most_connections 0; next = 0 }
+
+-- ---- the host, as calls leave it
+
+-- a connection begins, with the next session
+abbrev pub with_opened : ℕ → Host → Host
+with_opened number host = record (with_connection number (opened host.panels) host) { sessions = counted number host.sessions }
+
 -- as it begins: each LU is free, and so is each number
 abbrev pub new_host : Panels → List Entry → Host
-new_host panels pool = record { panels = panels; pool = all_free pool; connections = replicate most_connections unused }
+new_host panels pool = record {
+  panels = panels;
+  pool = all_free pool;
+  connections = replicate most_connections unused;
+  sessions = no_sessions;
+}
+
+-- as it is when it starts again: sessions are counted on, so that no answer to a question from before is taken
+abbrev pub restarted : Host → Host
+restarted host = record (new_host host.panels host.pool) { sessions = host.sessions }
 
 -- a connection is given up: its number is free, and so is its LU
 abbrev pub given_up : ℕ → Host → Host

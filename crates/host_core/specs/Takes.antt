@@ -1,6 +1,6 @@
 -- What a host makes of what a terminal sends: the connection after it, what it says, the LU that it grants, the request that it
 -- rejects, and the cause by which it closes the connection, if it does (RFC 1647, sections 7, 8.1 and 10.4; turns, beliefs and causes are our profile).
-use Rattle.std.specs.Prelude.{◌==◌, ℕ, Bool, true, false, List, [], map, Option, Some, None, Result, Ok, Err, if◌then◌else◌}
+use Rattle.std.specs.Prelude.{◌==◌, ℕ, Bool, true, false, List, [], map, Option, Some, None, Result, Ok, Err, unwrap_or, if◌then◌else◌}
 use Rattle.codes3270.specs.declared.attention.Aid.{Aid}
 use Rattle.codes3270.specs.declared.attention.Aid.TheVariants.{NoAid, Enter, Clear, Pf, Pa}
 use Rattle.codes3270.specs.Size.{cells_in}
@@ -96,11 +96,11 @@ form_awaited (Pending.Writing number command) = Modified
 form_awaited (Pending.Noting number command) = Modified
 form_awaited Pending.Nothing = Modified
 
--- what was heard is believed, and the turn is the host's; what still waits for an answer then
-abbrev pub believed : TurnReason → Pending → Conn → Result Shadow HeardFault → HostStep
-believed turn_reason pending conn (Ok shadow) =
-    quiet (record conn { shadow = shadow; turn = whose.Host; pending = pending; turn_reason = turn_reason })
-believed turn_reason pending conn (Err fault) = closed_by BadInbound conn
+-- what was heard is believed, and the turn is the host's; what still waits for an answer then, and where the cursor is, if the data says it
+abbrev pub believed : TurnReason → Pending → Option ℕ → Conn → Result Shadow HeardFault → HostStep
+believed turn_reason pending cursor conn (Ok shadow) =
+    quiet (record conn { shadow = shadow; turn = whose.Host; pending = pending; turn_reason = turn_reason; cursor = unwrap_or cursor conn.cursor })
+believed turn_reason pending cursor conn (Err fault) = closed_by BadInbound conn
 
 -- the key that was pressed last, and its screen was read
 abbrev pub once_read : TurnReason → TurnReason
@@ -110,17 +110,17 @@ once_read turn_reasons.Refusal = turn_reasons.Refusal
 
 -- the answer to Read Buffer
 abbrev pub buffer_came : InboundParts → Form → Conn → HostStep
-buffer_came parts Buffer conn = believed (once_read conn.turn_reason) Pending.Nothing conn (hears parts conn)
+buffer_came parts Buffer conn = believed (once_read conn.turn_reason) Pending.Nothing parts.cursor conn (hears parts conn)
 buffer_came parts Modified conn = closed_by BadInbound conn
 buffer_came parts AllModified conn = closed_by BadInbound conn
 
 -- a key was pressed; a note that isn't answered yet still waits
 abbrev pub key_came : InboundParts → Aid → Conn → HostStep
 key_came parts NoAid conn = closed_by BadInbound conn
-key_came parts Enter conn = believed (turn_reasons.Key Enter false) conn.pending conn (hears parts conn)
-key_came parts Clear conn = believed (turn_reasons.Key Clear false) conn.pending conn (hears parts conn)
-key_came parts (Pf key) conn = believed (turn_reasons.Key (Pf key) false) conn.pending conn (hears parts conn)
-key_came parts (Pa key) conn = believed (turn_reasons.Key (Pa key) false) conn.pending conn (hears parts conn)
+key_came parts Enter conn = believed (turn_reasons.Key Enter false) conn.pending parts.cursor conn (hears parts conn)
+key_came parts Clear conn = believed (turn_reasons.Key Clear false) conn.pending parts.cursor conn (hears parts conn)
+key_came parts (Pf key) conn = believed (turn_reasons.Key (Pf key) false) conn.pending parts.cursor conn (hears parts conn)
+key_came parts (Pa key) conn = believed (turn_reasons.Key (Pa key) false) conn.pending parts.cursor conn (hears parts conn)
 
 abbrev pub key_data_came : InboundParts → Form → Conn → HostStep
 key_data_came parts Modified conn = key_came parts parts.aid conn

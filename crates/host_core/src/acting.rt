@@ -1,5 +1,5 @@
 //! What a host does in its turn.
-ghost use Rattle.std.specs.Prelude.{◌≡◌, ◌≤◌, ◌<◌, ℕ, Bool, false, true, Some, OnOk, OnErr, length};
+ghost use Rattle.std.specs.Prelude.{◌≡◌, ◌≤◌, ◌<◌, ℕ, Bool, false, true, Some, IfSome, OnOk, OnErr, length};
 ghost use Rattle.std.specs.List.{list_any};
 ghost use Rattle.std.specs.Vec.{vec_capacity};
 ghost use Rattle.codes3270.specs.Size.{cells_in};
@@ -8,13 +8,14 @@ ghost use Rattle.panels.specs.Keys.{IsKey};
 ghost use Rattle.panels.specs.Screen.{Values as FieldValues};
 ghost use Rattle.panels.specs.declared.message.Message.TheVariants.{Fresh};
 ghost use Rattle.panels.specs.declared.next.Next.TheVariants.{Go};
-ghost use Rattle.host_core.specs.Acts.{Act as Doing, acted, done, gone_to, is_in_doubt as in_doubt, is_to_be_read, led, may_act, repeated, target_or, unless_missing};
+ghost use Rattle.host_core.specs.Acts.{Act as Doing, Decision as Decided, acted, decided, done, is_in_doubt as in_doubt, is_to_be_read, led, may_act, once_filled_in, repeated, target_or, unless_missing};
 ghost use Rattle.shadow.specs.Belief.{IsOfSize};
 ghost use Rattle.host_core.specs.Application.{Application, application_of, panel_at};
 ghost use Rattle.host_core.specs.Choices.{CanBeShown};
 ghost use Rattle.host_core.specs.Does.{Grow};
-ghost use Rattle.host_core.specs.Keeps.{DoesOn, act_of, reads, show_for, show_once, teaches, values_shown};
+ghost use Rattle.host_core.specs.Keeps.{DoesOn, act_of, decision_of, reads, show_for, show_once, teaches, values_shown};
 ghost use Rattle.host_core.specs.Learning.{HaveFields};
+ghost use Rattle.host_core.specs.Questions.{is_ask};
 ghost use Rattle.host_core.specs.Session.{is_agreed};
 ghost use Rattle.host_core.specs.Sound.{IsShownOn};
 ghost use Rattle.host_core.specs.declared.turn_reason.TurnReason.TheVariants.{Key as KeyPressed};
@@ -61,26 +62,34 @@ fn repeated(message: Message) -> Message
         Message::Fresh | Message::Plain => Message::Plain,
         Message::KeyNotActive => Message::KeyNotActive,
         Message::Required(field) => Message::Required(field),
+        Message::Told(text, field) => Message::Told(text, field),
     }
 }
 
-/// A target is shown fresh; but while a required field is missing, the panel is shown again.
-fn unless_missing(panel: usize, target: usize, missing: Option<usize>) -> Shown
-    ensures act { (values : FieldValues) → act_of values result ≡ unless_missing panel target values missing }
-    ensures can_be_done { (count : ℕ) → panel < count → target < count → CanBeShown count result }
+/// While a required field is missing, the panel is shown again in place of what was decided.
+fn unless_missing(panel: usize, decided: Option<Shown>, missing: Option<usize>) -> Option<Shown>
+    ensures decision { (values : FieldValues) → decision_of values result ≡ unless_missing panel (decision_of values decided) values missing }
+    ensures can_be_done { (count : ℕ) → panel < count → IfSome decided (CanBeShown count) → IfSome result (CanBeShown count) }
 {
     match missing {
-        None => Shown {
-            panel: target,
-            message: Message::Fresh,
-            keep: false,
-        },
-        Some(field) => Shown {
+        None => decided,
+        Some(field) => Some(Shown {
             panel,
             message: Message::Required(field),
             keep: true,
-        },
+        }),
     }
+}
+
+/// A panel is shown fresh.
+fn fresh(panel: usize) -> Option<Shown>
+    ensures { result ≡ Some (record { panel = panel; message = Fresh; keep = false }) }
+{
+    Some(Shown {
+        panel,
+        message: Message::Fresh,
+        keep: false,
+    })
 }
 
 /// Law: an identifier is a key's, or none's.
@@ -101,7 +110,7 @@ fn aid_is_real(aid: &Aid)
 }
 
 /// Where a key leads.
-fn next_of(panels: &PanelSet, panel: usize, aid: &Aid) -> Next
+pub(crate) fn next_of(panels: &PanelSet, panel: usize, aid: &Aid) -> Next
     requires { panel < length panels.now.panels }
     ensures next { result ≡ (application_of panels.now).next panel aid.now }
     ensures target { (target : ℕ) → result ≡ Go target → target < length panels.now.panels }
@@ -141,7 +150,7 @@ impl Session {
     /// The first required field that is missing, after Enter.
     fn missing_after(&self, panels: &PanelSet, aid: &Aid) -> Option<usize>
         requires { self.now.panel < length panels.now.panels }
-        ensures { (target : ℕ) → gone_to (application_of panels.now) self.now target self.now.values aid.now ≡ unless_missing self.now.panel target self.now.values result }
+        ensures { (decision : Decided) → once_filled_in (application_of panels.now) self.now decision self.now.values aid.now ≡ unless_missing self.now.panel decision self.now.values result }
     {
         match aid {
             Aid::Enter => first_missing(&self.values, panel_in(panels, self.panel).fields()),
@@ -149,22 +158,24 @@ impl Session {
         }
     }
 
-    /// Where a key leads once the values of fields are set; a key without a target isn't active.
-    fn led(&self, panels: &PanelSet, aid: &Aid, next: Next) -> Shown
+    /// Where a key leads once the values of fields are set; a key that leads nowhere isn't active. None if the application is
+    /// asked.
+    fn led(&self, panels: &PanelSet, aid: &Aid, next: Next) -> Option<Shown>
         requires panel { self.now.panel < length panels.now.panels }
         requires target { (target : ℕ) → next ≡ Go target → target < length panels.now.panels }
-        ensures act { act_of self.now.values result ≡ led (application_of panels.now) self.now self.now.values aid.now next }
-        ensures can_be_done { CanBeShown (length panels.now.panels) result }
+        ensures decision { decision_of self.now.values result ≡ led (application_of panels.now) self.now self.now.values aid.now next }
+        ensures can_be_done { IfSome result (CanBeShown (length panels.now.panels)) }
     {
         match next {
-            Next::Again => Shown {
+            Next::Again => Some(Shown {
                 panel: self.panel,
                 message: Message::KeyNotActive,
                 keep: true,
-            },
+            }),
             Next::Go(target) => {
-                unless_missing(self.panel, target, self.missing_after(panels, aid))
+                unless_missing(self.panel, fresh(target), self.missing_after(panels, aid))
             }
+            Next::Ask => unless_missing(self.panel, None, self.missing_after(panels, aid)),
         }
     }
 
@@ -175,7 +186,7 @@ impl Session {
         ensures can_be_done { CanBeShown (length panels.now.panels) result }
     {
         let target = match next_of(panels, self.panel, &Aid::Clear) {
-            Next::Again => self.panel,
+            Next::Again | Next::Ask => self.panel,
             Next::Go(target) => target,
         };
         Shown {
@@ -185,14 +196,14 @@ impl Session {
         }
     }
 
-    /// What is shown after a key, once the values of fields are set.
-    fn after_key(&self, panels: &PanelSet, aid: &Aid) -> Shown
+    /// What is shown after a key, once the values of fields are set. None if the application is asked.
+    fn after_key(&self, panels: &PanelSet, aid: &Aid) -> Option<Shown>
         requires { self.now.panel < length panels.now.panels }
-        ensures act { (buffered : Bool) → act_of self.now.values result ≡ show_for (application_of panels.now) self.now (KeyPressed aid.now buffered) }
-        ensures can_be_done { CanBeShown (length panels.now.panels) result }
+        ensures decision { (buffered : Bool) → decision_of self.now.values result ≡ show_for (application_of panels.now) self.now (KeyPressed aid.now buffered) }
+        ensures can_be_done { IfSome result (CanBeShown (length panels.now.panels)) }
     {
         match aid {
-            Aid::Clear => self.after_clear(panels),
+            Aid::Clear => Some(self.after_clear(panels)),
             Aid::NoAid | Aid::Enter | Aid::Pf(_) | Aid::Pa(_) => {
                 self.led(panels, aid, next_of(panels, self.panel, aid))
             }
@@ -200,28 +211,25 @@ impl Session {
     }
 
     /// What is to be shown, once the values of fields are set: at agreement the first panel, after a refusal the same panel, whole.
-    fn shown(&self, panels: &PanelSet) -> Shown
+    /// None if the application is asked.
+    fn shown(&self, panels: &PanelSet) -> Option<Shown>
         requires { self.now.panel < length panels.now.panels }
-        ensures act { act_of self.now.values result ≡ show_for (application_of panels.now) self.now self.now.turn_reason }
-        ensures can_be_done { CanBeShown (length panels.now.panels) result }
+        ensures decision { decision_of self.now.values result ≡ show_for (application_of panels.now) self.now self.now.turn_reason }
+        ensures can_be_done { IfSome result (CanBeShown (length panels.now.panels)) }
     {
         match self.turn_reason {
-            TurnReason::Agreement => Shown {
-                panel: panels.start(),
-                message: Message::Fresh,
-                keep: false,
-            },
+            TurnReason::Agreement => fresh(panels.start()),
             TurnReason::Key(aid, _) => self.after_key(panels, &aid),
-            TurnReason::Refusal => Shown {
+            TurnReason::Refusal => Some(Shown {
                 panel: self.panel,
                 message: repeated(self.message),
                 keep: false,
-            },
+            }),
         }
     }
 
     /// Whether the screen is read before anything is shown.
-    fn reads_first(&self, panels: &PanelSet) -> bool
+    pub(crate) fn reads_first(&self, panels: &PanelSet) -> bool
         requires panel { self.now.panel < length panels.now.panels }
         requires fields { HaveFields self.now.shadow (panel_at panels.now self.now.panel).fields }
         ensures { result ≡ reads (application_of panels.now) self.now self.now.turn_reason }
@@ -261,7 +269,7 @@ impl Session {
     }
 
     /// Whether it may act: in its turn, once the session is agreed and its last command answered.
-    fn may_act(&self) -> bool
+    pub(crate) fn may_act(&self) -> bool
         ensures may { result ≡ may_act self.now.turn self.now.pending (is_agreed self.now.talk.state) }
         // Nothing waits for its answer then, so that what is believed has the size of the screen.
         ensures known { result ≡ true → IsOfSize (cells_in self.now.shape) self.now.shadow }
@@ -277,7 +285,7 @@ impl Session {
 
     /// Law: the screen of which something is known has the cells of the attributes of the panel's fields, since it has the panel's
     /// size.
-    fn fields_are_believed(&self, panels: &PanelSet)
+    pub(crate) fn fields_are_believed(&self, panels: &PanelSet)
         requires panel { IsShownOn panels.now self.now }
         requires known { IsOfSize (cells_in self.now.shape) self.now.shadow }
         ensures { HaveFields self.now.shadow (panel_at panels.now self.now.panel).fields }
@@ -304,7 +312,8 @@ impl Session {
     fn show_in_turn(&mut self, panels: &PanelSet, out: &mut Vec<u8>) -> Acted
         requires panel { IsShownOn panels.now self.old }
         requires fields { HaveFields self.old.shadow (panel_at panels.now self.old.panel).fields }
-        ensures acted { DoesOn (Some (done (application_of panels.now) self.old (show_once (application_of panels.now) self.old))) self.old out.old result self.new out.new }
+        requires shows { is_ask (show_once (application_of panels.now) self.old) ≡ false }
+        ensures acted { DoesOn (decided (application_of panels.now) self.old (show_once (application_of panels.now) self.old)) self.old out.old result self.new out.new }
         ensures panel { IsShownOn panels.now self.new }
         ensures capacity { vec_capacity out.old ≤ vec_capacity out.new }
     {
@@ -314,7 +323,9 @@ impl Session {
         if self.learn(panels).is_err() {
             return Acted::Memory;
         }
-        let shown = self.shown(panels);
+        let Some(shown) = self.shown(panels) else {
+            unreachable!()
+        };
         self.show(panels, shown, out);
         Acted::Sent
     }
@@ -333,6 +344,9 @@ impl Session {
         self.fields_are_believed(panels);
         if self.reads_first(panels) {
             return self.read_in_turn(out);
+        }
+        if self.asks(panels) {
+            return Acted::Nothing;
         }
         self.show_in_turn(panels, out)
     }

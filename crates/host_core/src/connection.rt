@@ -1,16 +1,17 @@
 //! A connection number, as the host keeps it.
-ghost use Rattle.std.specs.Prelude.{◌≡◌, ◌≤◌, ◌<◌, ◌∷◌, ◌++◌, [], ℕ, length, drop, None, OnOk, OnErr};
+ghost use Rattle.std.specs.Prelude.{◌≡◌, ◌≤◌, ◌<◌, ◌∷◌, ◌++◌, [], ℕ, length, drop, None, IfOk, OnOk, OnErr};
 ghost use Rattle.std.specs.Vec.{vec_capacity};
 ghost use Rattle.telnet_wire.specs.Items.{sent_bytes};
 ghost use Rattle.host_core.specs.Application.{application_of};
 ghost use Rattle.tn3270e_msg.specs.HostTable.{granted};
-ghost use Rattle.host_core.specs.Does.{Does, acted_by, noted_by};
+ghost use Rattle.host_core.specs.Does.{Does, DoesAnswer, acted_by, noted_by};
 ghost use Rattle.host_core.specs.Feeds.{Feeds};
 ghost use Rattle.host_core.specs.KeepAlive.{kept_alive, kept_alive_answer, may_keep_alive, no_operation};
 ghost use Rattle.host_core.specs.Keeps.{IsRunning, IsLeft, OthersHold, counter_of, cause_of, claim};
 ghost use Rattle.host_core.specs.Connections.{StaysShown, ShadowIf};
 ghost use Rattle.host_core.specs.Measuring.{whole_length};
 ghost use Rattle.host_core.specs.Notes.{IsNoteText};
+ghost use Rattle.host_core.specs.Questions.{answered_by, question_of};
 ghost use Rattle.host_core.specs.Rejections.{oldest, without_oldest};
 ghost use Rattle.host_core.specs.Rooms.{HasRoomFor, out_room};
 ghost use Rattle.host_core.specs.Sound.{HoldsJust, IsShown};
@@ -21,6 +22,7 @@ use crate::acted::Acted;
 use crate::feeding::feed_open;
 use crate::measuring::ScreenMeasure;
 use crate::phase::Phase;
+use crate::question::{Answer, Question, Ticket};
 use crate::rejection::{MOST_REJECTIONS, Rejection};
 use crate::room::OUT_ROOM;
 use crate::session::Session;
@@ -199,6 +201,43 @@ impl Connection {
         match &mut self.service {
             Service::Free | Service::Closed(_) => Acted::Nothing,
             Service::Open(end) => end.session.act(panels, &mut self.out),
+        }
+    }
+
+    /// The question that is open, if one is.
+    pub(crate) fn question(
+        &self,
+        panels: &PanelSet,
+        session: u64,
+    ) -> Result<Option<Question>, Memory>
+        requires { IsShown panels.now self.now.service }
+        ensures { IfOk result (λ question. question ≡ question_of (application_of panels.now) session self.now.service) }
+    {
+        match &self.service {
+            Service::Free | Service::Closed(_) => Ok(None),
+            Service::Open(end) => end.session.question(panels, session),
+        }
+    }
+
+    /// Takes an answer, as the host does.
+    pub(crate) fn answer(
+        &mut self,
+        panels: &PanelSet,
+        session: u64,
+        ticket: Ticket,
+        answer: &Answer,
+    ) -> Acted
+        requires { IsShown panels.now self.old.service }
+        ensures answered { DoesAnswer (answered_by (application_of panels.now) session ticket answer.now self.old.service) self.old result self.new }
+        ensures held { lu_of self.new.service ≡ lu_of self.old.service }
+        ensures shown { IsShown panels.now self.new.service }
+    {
+        match &mut self.service {
+            Service::Free | Service::Closed(_) => Acted::Nothing,
+            Service::Open(end) => {
+                end.session
+                    .answer_to(panels, session, ticket, answer, &mut self.out)
+            }
         }
     }
 

@@ -1,5 +1,6 @@
 //! How a connection that is open takes bytes.
-ghost use Rattle.std.specs.Prelude.{◌≡◌, ◌≤◌, None, IfNone, IfSome, length, take};
+ghost use Rattle.std.specs.Prelude.{◌≡◌, ◌<◌, ◌≤◌, ℕ, List, None, IfNone, IfSome, length, take, Vec};
+ghost use Rattle.std.specs.declared.alloc.Global.{Global};
 ghost use Rattle.std.specs.Vec.{vec_capacity};
 ghost use Rattle.tn3270e_msg.specs.HostTable.{granted};
 ghost use Rattle.host_core.specs.Bytes.{TakesByte, TakesBytes};
@@ -8,7 +9,10 @@ ghost use Rattle.host_core.specs.Keeps.{IsLeft, IsRunning, OthersHold, cause_of,
 ghost use Rattle.tn3270e_msg.specs.Writing.{HasRoomForReply};
 ghost use Rattle.host_core.specs.Rooms.{out_room};
 ghost use Rattle.host_core.specs.Sound.{HoldsJust};
+ghost use Rattle.host_core.specs.Session.{Conn};
 ghost use Rattle.host_core.specs.Takes.{freed_if};
+ghost use Rattle.host_core.specs.declared.rejection.Rejection.{Rejection as Rejected};
+ghost use Rattle.lu_pool.specs.declared.entry.Entry.{Entry};
 
 use crate::rejection::{MOST_REJECTIONS, Rejection};
 use crate::session::Session;
@@ -42,24 +46,84 @@ pub(crate) fn feed_open(
     ensures left { IsLeft (cause_of result.stop) decoder.new }
     ensures capacity { vec_capacity out.old ≤ vec_capacity out.new }
 {
-    for (taken, byte) in bytes.iter().enumerate() {
+    let mut taken = 0;
+    while taken < bytes.len() {
         if out.reserve(REPLY_ROOM).is_err() {
             return Fed {
                 taken,
                 stop: Stop::Memory,
             };
         }
-        if let Some(cause) = take_byte(pool, number, decoder, session, out, rejections, *byte) {
+        let (count, closes) = take_some(
+            pool,
+            number,
+            decoder,
+            session,
+            out,
+            rejections,
+            &bytes[taken..],
+        );
+        taken += count;
+        if let Some(cause) = closes {
             return Fed {
-                taken: taken + 1,
+                taken,
                 stop: Stop::Closed(cause),
             };
         }
     }
     Fed {
-        taken: bytes.len(),
+        taken,
         stop: Stop::Going,
     }
+}
+
+/// Takes the data up to the next IAC, which needs no room, and the byte after it. Answers how many bytes these are, and the cause by
+/// which the last closes the connection, if it does.
+fn take_some(
+    pool: &mut Pool,
+    number: usize,
+    decoder: &mut Decoder,
+    session: &mut Session,
+    out: &mut Vec<u8>,
+    rejections: &mut ArrayVec<Rejection, MOST_REJECTIONS>,
+    bytes: &[u8],
+) -> (usize, Option<Cause>)
+    requires running { IsRunning decoder.old }
+    requires room { HasRoomForReply out.old }
+    requires holder { HoldsJust number pool.old (granted session.old.talk.state) }
+    requires some { 0 < length bytes.now }
+    ensures some { 0 < result.0 }
+    ensures few { result.0 ≤ length bytes.now }
+    ensures taken { TakesBytes number (counter_of pool.old decoder.old session.old None out.old rejections.old.items) (take result.0 bytes.now) (counter_of pool.new decoder.new session.new result.1 out.new rejections.new.items) }
+    ensures holds { HoldsJust number pool.new (claim result.1 session.new) }
+    ensures others { OthersHold number pool.old pool.new }
+    ensures panel { session.new.panel ≡ session.old.panel }
+    ensures shape { session.new.shape ≡ session.old.shape }
+    ensures left { IsLeft result.1 decoder.new }
+    ensures capacity { vec_capacity out.old ≤ vec_capacity out.new }
+{
+    let count = take_data(decoder, bytes);
+    match bytes.get(count) {
+        Some(byte) => {
+            let closes = take_byte(pool, number, decoder, session, out, rejections, *byte);
+            (count + 1, closes)
+        }
+        None => (count, None),
+    }
+}
+
+/// Takes the data up to the next IAC, and answers how many bytes these are. Of a single byte it takes none.
+fn take_data(decoder: &mut Decoder, bytes: &[u8]) -> usize
+    requires { IsRunning decoder.old }
+    ensures few { result ≤ length bytes.now }
+    ensures taken { (number : ℕ) (pool : List Entry) (session : Conn) (out : Vec ℕ Global) (rejections : List Rejected) → TakesBytes number (counter_of pool decoder.old session None out rejections) (take result bytes.now) (counter_of pool decoder.new session None out rejections) }
+    ensures running { IsRunning decoder.new }
+{
+    // A byte alone is pushed for less.
+    if bytes.len() < 2 {
+        return 0;
+    }
+    decoder.push_data(bytes)
 }
 
 /// Takes a byte, and answers the cause by which it closes the connection, if it does.

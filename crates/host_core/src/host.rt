@@ -1,21 +1,24 @@
 //! The host: panels, a pool of LUs, and the connections that it serves.
 ghost use Rattle.std.specs.Prelude.{◌≡◌, ◌≤◌, ◌<◌, length, drop, replicate, IfOk, OnOk, OnErr};
 ghost use Rattle.host_core.specs.Application.{application_of};
-ghost use Rattle.host_core.specs.Does.{Does, acted_by, noted_by};
+ghost use Rattle.host_core.specs.Does.{Does, DoesAnswer, acted_by, noted_by};
 ghost use Rattle.host_core.specs.Feeds.{Feeds, counter_at, with_counter};
 ghost use Rattle.host_core.specs.KeepAlive.{kept_alive, kept_alive_answer};
 ghost use Rattle.host_core.specs.Measuring.{whole_length};
 ghost use Rattle.host_core.specs.Notes.{IsNoteText};
+ghost use Rattle.host_core.specs.Questions.{answered_by, question_of};
 ghost use Rattle.host_core.specs.Rejections.{oldest, without_oldest};
 ghost use Rattle.host_core.specs.Sound.{IsSound, NobodyShares};
-ghost use Rattle.host_core.specs.State.{new_host, most_connections, opened, unused, given_up, connection_at, service_at, with_connection, model_of, phase_of, turn_of, pending_of, shadow_of};
+ghost use Rattle.host_core.specs.State.{new_host, most_connections, restarted, session_at, unused, given_up, connection_at, service_at, with_connection, with_opened, model_of, phase_of, turn_of, pending_of, shadow_of};
 ghost use Rattle.host_core.specs.declared.phase.Phase.TheVariants as phase;
 
 use crate::acted::Acted;
 use crate::connection::Connection;
 use crate::measuring::ScreenMeasure;
 use crate::phase::Phase;
+use crate::question::{Answer, Question, Ticket};
 use crate::rejection::Rejection;
+use crate::sessions::Sessions;
 use crate::turn::Turn;
 use codes3270::Model as TerminalModel;
 use lu_pool::Pool;
@@ -38,6 +41,7 @@ pub struct Host {
     panels: PanelSet,
     pool: Pool,
     connections: Vec<Connection>,
+    sessions: Sessions,
     // What is believed of a screen on a number that isn't open.
     nothing_known: Shadow,
 }
@@ -50,9 +54,9 @@ impl Model for Host {
 
     ghost Value = { Stands };
 
-    ghost view = { λ host. record { panels = host.panels; pool = host.pool; connections = host.connections.items } };
+    ghost view = { λ host. record { panels = host.panels; pool = host.pool; connections = host.connections.items; sessions = host.sessions } };
 
-    ghost invariant = { λ host. IsSound (record { panels = host.panels; pool = host.pool; connections = host.connections.items })
+    ghost invariant = { λ host. IsSound (record { panels = host.panels; pool = host.pool; connections = host.connections.items; sessions = host.sessions })
         × (host.nothing_known ≡ NothingKnown) };
 }
 
@@ -81,6 +85,7 @@ impl Host {
     pub fn new(alloc: Global, panels: PanelSet, pool: Pool) -> Result<Host, Memory>
         ensures { IfOk result (λ host. host ≡ new_host panels pool) }
     {
+        let sessions = Sessions::new(alloc)?;
         let connections = unused_connections(alloc)?;
         let mut pool = pool;
         pool.free_all();
@@ -88,6 +93,7 @@ impl Host {
             panels,
             pool,
             connections,
+            sessions,
             nothing_known: Shadow::blank(),
         })
     }
@@ -97,10 +103,12 @@ impl Host {
     pub fn open(&mut self, conn: usize) -> Result<(), Memory>
         requires number { conn < most_connections }
         requires free { phase_of (service_at conn self.old) ≡ phase.Free }
-        ensures opened { OnOk result (self.new ≡ with_connection conn (opened self.old.panels) self.old) }
+        ensures opened { OnOk result (self.new ≡ with_opened conn self.old) }
         ensures unchanged { OnErr result (self.new ≡ self.old) }
     {
-        self.connections[conn].open(&self.panels)
+        self.connections[conn].open(&self.panels)?;
+        self.sessions.count(conn);
+        Ok(())
     }
 
     /// Takes bytes that came on a connection, up to one for which there is no room or that closes the connection, and answers
@@ -118,7 +126,7 @@ impl Host {
     }
 
     /// Does what the host does in its turn: it reads the screen, or shows a panel. Nothing if it isn't the host's turn, a command
-    /// waits for its answer, or the ends haven't agreed.
+    /// waits for its answer, the ends haven't agreed, or a question to the application is open.
     ///
     /// Memory is needed only if the bytes that wait to be sent leave less of the connection's room than the largest such command
     /// takes (1,024 bytes may wait), or if the value of some field has to grow: the field has none yet, or a shorter one than the
@@ -129,6 +137,38 @@ impl Host {
         ensures others { self.new ≡ with_connection conn (connection_at conn self.new) self.old }
     {
         self.connections[conn].act(&self.panels)
+    }
+
+    /// The question that is open on a connection: the operator has pressed a key that the panel asks the application about, and the
+    /// host waits for its answer. None if no question is open: then [`act`](Host::act) does what there is to do.
+    ///
+    /// What the application learns stands on the operator's screen now. A question stays open until it is answered or the
+    /// connection closes. Memory is needed for the texts; if it is refused, ask again.
+    pub fn question(&self, conn: usize) -> Result<Option<Question>, Memory>
+        requires number { conn < most_connections }
+        ensures question { IfOk result (λ question. question ≡ question_of (application_of self.now.panels) (session_at conn self.now) (service_at conn self.now)) }
+    {
+        let session = self.sessions.at(conn);
+        self.connections[conn].question(&self.panels, session)
+    }
+
+    /// Takes the application's answer to the question with a ticket, and shows the operator what it says. Nothing if that question
+    /// isn't open any more, or if the answer names a panel that there isn't. Memory is needed for the values of fields; if it is
+    /// refused, nothing has changed.
+    pub fn answer(&mut self, conn: usize, ticket: Ticket, answer: &Answer) -> Acted
+        requires number { conn < most_connections }
+        ensures answered { DoesAnswer (answered_by (application_of self.old.panels) (session_at conn self.old) ticket answer.now (service_at conn self.old)) (connection_at conn self.old) result (connection_at conn self.new) }
+        ensures others { self.new ≡ with_connection conn (connection_at conn self.new) self.old }
+    {
+        let session = self.sessions.at(conn);
+        self.connections[conn].answer(&self.panels, session, ticket, answer)
+    }
+
+    /// What the host serves.
+    pub fn panels(&self) -> &PanelSet
+        ensures { result.now ≡ self.now.panels }
+    {
+        &self.panels
     }
 
     /// Sends a note, of at most 131 characters of code page 037, into the last row while the operator has the turn. What is
@@ -247,9 +287,9 @@ impl Host {
         self.connections[conn].whole_length(&self.panels, measure)
     }
 
-    /// Starts again: all numbers and all LUs are free.
+    /// Starts again: all numbers and all LUs are free. Sessions are counted on.
     pub fn restart(&mut self)
-        ensures { self.new ≡ new_host self.old.panels self.old.pool }
+        ensures { self.new ≡ restarted self.old }
     {
         clear_each(&mut self.connections);
         self.pool.free_all();

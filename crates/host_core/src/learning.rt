@@ -22,7 +22,7 @@ use shadow::{Fact, Shadow};
 use telnet_wire::Memory;
 
 /// The text of a field, which is shorter than the largest screen.
-type FieldText = ArrayVec<u8, MOST_CELLS>;
+pub(crate) type FieldText = ArrayVec<u8, MOST_CELLS>;
 
 /// Whether a fact tells a text.
 fn is_settled(fact: Option<Fact>) -> bool
@@ -68,7 +68,7 @@ fn text_at(shadow: &Shadow, attr: Addr) -> FieldText
 }
 
 /// The text of a field, without nulls, where it is known.
-fn text_known(shadow: &Shadow, field: &Field) -> Option<FieldText>
+pub(crate) fn text_known(shadow: &Shadow, field: &Field) -> Option<FieldText>
     requires stored { CanBeStored shadow.now }
     requires there { HasField shadow.now field.now }
     ensures text { option_map (λ bytes. bytes.items) result ≡ text_known shadow.now field.now }
@@ -125,7 +125,11 @@ fn learn(values: &mut Values, shadow: &Shadow, field: &Field) -> Result<(), Memo
 }
 
 /// Sets the values of fields whose texts are known, one after another. If memory is refused, some are set and others not.
-fn learn_each(values: &mut Values, shadow: &Shadow, fields: &[Field]) -> Result<(), Memory>
+pub(crate) fn learn_each(
+    values: &mut Values,
+    shadow: &Shadow,
+    fields: &[Field],
+) -> Result<(), Memory>
     requires stored { CanBeStored shadow.now }
     requires there { HaveFields shadow.now fields.now }
     requires numbers { HaveNumbersApart fields.now }
@@ -163,7 +167,7 @@ pub(crate) fn learn_all(
 }
 
 /// Whether a value is blanks, or nothing.
-fn is_blank(value: &[u8]) -> bool
+pub(crate) fn is_blank(value: &[u8]) -> bool
     ensures { result ≡ is_blank value.now }
 {
     value.iter().all(|byte| *byte == BLANK)

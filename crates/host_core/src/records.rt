@@ -1,5 +1,5 @@
 //! What a host makes of the records of a terminal: data and responses.
-ghost use Rattle.std.specs.Prelude.{◌≡◌, true, drop, IfNone};
+ghost use Rattle.std.specs.Prelude.{◌≡◌, true, drop, IfNone, unwrap_or};
 ghost use Rattle.codes3270.specs.Size.{cells_in};
 ghost use Rattle.datastream.specs.Grammar.{IsSpelt};
 ghost use Rattle.shadow.specs.Belief.{IsOfSize};
@@ -15,7 +15,7 @@ use crate::pending::Pending;
 use crate::session::Session;
 use crate::turn::Turn;
 use crate::turn_reason::TurnReason;
-use codes3270::{Aid, Size};
+use codes3270::{Addr, Aid, Size};
 use datastream::{Command, CommandCode, Form, Inbound, read_command, read_inbound};
 use shadow::Shadow;
 use shadow::laws::{what_is_believed_can_be_stored, what_is_believed_has_a_size};
@@ -30,6 +30,13 @@ fn once_read(turn_reason: TurnReason) -> TurnReason
         TurnReason::Agreement => TurnReason::Agreement,
         TurnReason::Refusal => TurnReason::Refusal,
     }
+}
+
+/// Where the cursor is once data was sent: where that says, if it says it.
+fn cursor_after(inbound: &Inbound<'_>, cursor: Addr) -> Addr
+    ensures { result ≡ unwrap_or inbound.now.cursor cursor }
+{
+    inbound.cursor().unwrap_or(cursor)
 }
 
 /// The write in a record, after its header; it leaves a screen of this size.
@@ -166,7 +173,7 @@ impl Session {
     fn believe(&mut self, inbound: &Inbound<'_>, turn_reason: TurnReason) -> Option<Cause>
         requires size { inbound.now.size ≡ self.old.shape }
         requires known { IsOfSize (cells_in self.old.shape) self.old.shadow }
-        ensures came { silent self.new result ≡ believed turn_reason self.old.pending self.old (hears inbound.now self.old) }
+        ensures came { silent self.new result ≡ believed turn_reason self.old.pending inbound.now.cursor self.old (hears inbound.now self.old) }
         ensures talk { self.new.talk ≡ self.old.talk }
         ensures panel { self.new.panel ≡ self.old.panel }
         ensures shape { self.new.shape ≡ self.old.shape }
@@ -175,6 +182,7 @@ impl Session {
         // What is sent can be stored, and so what is believed of it; and that has its size.
         what_is_believed_can_be_stored();
         what_is_believed_has_a_size();
+        let cursor = cursor_after(inbound, self.cursor);
         // For the contract: the data has a form that terminals send.
         let _is_sent = inbound.form();
         if self.shadow.heard(inbound).is_err() {
@@ -182,6 +190,7 @@ impl Session {
         }
         self.turn = Turn::Host;
         self.turn_reason = turn_reason;
+        self.cursor = cursor;
         None
     }
 

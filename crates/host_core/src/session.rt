@@ -9,7 +9,7 @@ use crate::pending::Pending;
 use crate::room::RECORD_ROOM;
 use crate::turn::Turn;
 use crate::turn_reason::TurnReason;
-use codes3270::{Model as TerminalModel, Size};
+use codes3270::{Addr, Model as TerminalModel, Size};
 use panels::{Message, PanelSet, Values};
 use shadow::Shadow;
 use std::alloc::Global;
@@ -34,6 +34,8 @@ pub(crate) struct Session {
     pub(crate) message: Message,
     pub(crate) values: Values,
     pub(crate) turn_reason: TurnReason,
+    // Where it was when the terminal's last data was sent.
+    pub(crate) cursor: Addr,
     // The record that was sent last, its header first; it has room for the largest.
     pub(crate) sent: Vec<u8>,
 }
@@ -58,6 +60,7 @@ impl Model for Session {
       message = s.message;
       values = s.values;
       turn_reason = s.turn_reason;
+      cursor = s.cursor;
     } };
 
     ghost invariant = { λ s. IsKept s.size s.pending s.sent.items × (record_room ≤ vec_capacity s.sent) × CanBeStored s.shadow × BelievesTheSize s.size s.pending s.sent.items s.shadow };
@@ -82,6 +85,7 @@ impl Session {
             message: Message::Fresh,
             values: Values::new(alloc),
             turn_reason: TurnReason::Agreement,
+            cursor: Addr::first(),
             sent,
         })
     }

@@ -6,7 +6,7 @@ use Rattle.std.proofs.lemmas.List.{length-take-le}
 use Rattle.jobs3270.specs.Counting.{Input, Output, more}
 use Rattle.jobs3270.specs.Runs.{ReadWhole, NotRead, too_many_bytes, no_text, most_bytes, RefusesInput, IsInput, EndsPrinting, HasCause}
 use Rattle.jobs3270.specs.declared.fault.Fault.{Fault}
-use Rattle.jobs3270.specs.declared.fault.Fault.TheVariants.{InputNotRead, Panels, Pool, NotHex, NotUnderstood, NoMemory, SocketFailed, CannotListen, TurnsOver, OutputFailed}
+use Rattle.jobs3270.specs.declared.fault.Fault.TheVariants.{InputNotRead, Panels, Pool, NotHex, NotUnderstood, NoMemory, SocketFailed, CannotListen, NotAnApplication, TurnsOver, OutputFailed, Live}
 use Rattle.jobs3270.specs.declared.task.Task.{Task}
 
 -- one read more, where as many were counted before as there were rounds
@@ -48,7 +48,9 @@ without_input task Came (NotUnderstood line) in_old in_new out why came = absurd
 without_input task Came NoMemory in_old in_new out why came = (came, record { kept = Keeps-refl out.got; sound = refl })
 without_input task Came SocketFailed in_old in_new out why came = absurd why
 without_input task Came (CannotListen address kind) in_old in_new out why came = absurd why
+without_input task Came (NotAnApplication reason) in_old in_new out why came = absurd why
 without_input task Came TurnsOver in_old in_new out why came = absurd why
+without_input task Came (Live fault) in_old in_new out why came = absurd why
 without_input task Came OutputFailed in_old in_new out why came = absurd why
 
 -- where there is one the run ends as its printing does
@@ -63,5 +65,7 @@ with_input task Came (Some (NotUnderstood line)) in_old in_new out_old out_new t
 with_input task Came (Some NoMemory) in_old in_new out_old out_new text is came ends = ((text, came), ends)
 with_input task Came (Some SocketFailed) in_old in_new out_old out_new text is came ends = absurd ends
 with_input task Came (Some (CannotListen address kind)) in_old in_new out_old out_new text is came ends = absurd ends
+with_input task Came (Some (NotAnApplication reason)) in_old in_new out_old out_new text is came ends = absurd ends
 with_input task Came (Some TurnsOver) in_old in_new out_old out_new text is came ends = absurd ends
+with_input task Came (Some (Live fault)) in_old in_new out_old out_new text is came ends = absurd ends
 with_input task Came (Some OutputFailed) in_old in_new out_old out_new text is came ends = (text, is, came, ends)

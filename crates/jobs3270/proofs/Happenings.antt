@@ -98,6 +98,7 @@ happens (event.Up number count) old answer new comes =
     (host_is_gone comes.fed.stop number _ ∙ terminal_is_told (is_senders (transits_at number old).up) comes.fed.taken (terminal_at number old.slots) _)
 happens (event.Down number count) old answer new comes = came_down (terminal_at number old.slots) number _ old answer new comes
 happens (event.Act number) old answer new acts = as_many _ old new acts.leaves refl
+happens (event.Answer number ticket said) old answer new acts = as_many _ old new acts.leaves refl
 happens (event.Note number text) old answer new acts = as_many _ old new acts.leaves refl
 happens (event.KeepAlive number) old answer new is = as_many _ old new is.1 refl
 happens (event.Lose number) old answer new is = as_many _ old new is.1 refl

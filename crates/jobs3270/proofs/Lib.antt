@@ -23,3 +23,6 @@ pub mod TextTyped
 pub mod Checking
 pub mod Appended
 pub mod ScrapeLemmas
+pub mod LiveLemmas
+pub mod LiveReads
+mod Replies

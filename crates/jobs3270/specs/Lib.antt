@@ -28,3 +28,7 @@ pub mod Scrapes
 pub mod Timing
 pub mod Selfruns
 pub mod Checks
+pub mod Live
+pub mod LiveFaults
+pub mod LiveSessions
+pub mod Applications

@@ -1,5 +1,6 @@
 -- The values of options (our profile).
 use Rattle.std.specs.Prelude.{ℕ, ◌==◌, ◌&&◌, Bool, true, false, nat_le, List, [], ◌∷◌, Option, Some, None, is_some, option_map, if◌then◌else◌}
+use Rattle.std.specs.List.{after_first, before_first}
 use Rattle.std.specs.Option.{option_and_then, option_map_or}
 use Rattle.std.specs.Net.Reader.{read_ipv4, read_ipv6, whole_value}
 use Rattle.std.specs.declared.net.ip_addr.IpAddr.{IpAddr}
@@ -10,6 +11,7 @@ use Rattle.tn3270e_msg.specs.Lu.{lu_of}
 use Rattle.jobs3270.specs.ScriptLines.{number_of}
 use Rattle.jobs3270.specs.declared.job_table.ValueKind.{ValueKind}
 use Rattle.jobs3270.specs.declared.job_table.ValueKind.TheVariants as kind
+use Rattle.jobs3270.specs.declared.tty_size.TtySize.{TtySize}
 
 -- ports that need no privilege
 abbrev pub port_numbered : ℕ → Option ℕ
@@ -22,6 +24,10 @@ service_port_numbered number = if nat_le 1 number && nat_le number 65535 then So
 -- time limits in seconds; 0 is none
 abbrev pub seconds_numbered : ℕ → Option ℕ
 seconds_numbered number = if nat_le number 1000000 then Some number else None
+
+-- how long an application may take for a reply, in seconds
+abbrev pub reply_time_numbered : ℕ → Option ℕ
+reply_time_numbered number = if nat_le 1 number && nat_le number 3600 then Some number else None
 
 abbrev pub turns_numbered : ℕ → Option ℕ
 turns_numbered number = if nat_le 1 number && nat_le number 1000000 then Some number else None
@@ -44,6 +50,9 @@ service_port_of word = option_and_then service_port_numbered (number_of word)
 abbrev pub seconds_of : List ℕ → Option ℕ
 seconds_of word = option_and_then seconds_numbered (number_of word)
 
+abbrev pub reply_time_of : List ℕ → Option ℕ
+reply_time_of word = option_and_then reply_time_numbered (number_of word)
+
 abbrev pub turns_of : List ℕ → Option ℕ
 turns_of word = option_and_then turns_numbered (number_of word)
 
@@ -56,6 +65,23 @@ address_of word =
     option_map_or (λ octets. Some (ip.V4 (record { octets = octets }))) (whole_value (read_ipv4 word))
     (option_map (λ segments. ip.V6 (record { segments = segments })) (whole_value (read_ipv6 word)))
 
+-- the letter between rows and columns
+abbrev pub is_x : ℕ → Bool
+is_x char = char == 120
+
+-- how many rows or columns a tty may have
+abbrev pub tty_side_numbered : ℕ → Option ℕ
+tty_side_numbered number = if nat_le 1 number && nat_le number 9999 then Some number else None
+
+abbrev pub tty_side_of : List ℕ → Option ℕ
+tty_side_of word = option_and_then tty_side_numbered (number_of word)
+
+-- the size of a tty, as `24x80`: its rows and its columns
+abbrev pub tty_size_of : List ℕ → Option TtySize
+tty_size_of word =
+    option_and_then (λ rows. option_map (λ columns. record { rows = rows; columns = columns }) (tty_side_of (after_first is_x word)))
+    (tty_side_of (before_first is_x word))
+
 -- the word is a value of this kind
 abbrev pub is_value : ValueKind → List ℕ → Bool
 is_value kind.Port word = is_some (port_of word)
@@ -65,7 +91,10 @@ is_value kind.LuName word = is_some (lu_of word)
 is_value kind.Address word = is_some (address_of word)
 is_value kind.Seconds word = is_some (seconds_of word)
 is_value kind.Model word = is_some (model_of word)
+is_value kind.ReplyTime word = is_some (reply_time_of word)
+is_value kind.Url word = true
 is_value kind.File word = true
+is_value kind.TtySize word = is_some (tty_size_of word)
 is_value kind.Flag word = false
 
 -- the values of options that aren't given
@@ -75,6 +104,9 @@ usual_turns = 10000
 
 abbrev pub usual_model : Model
 usual_model = M2
+
+abbrev pub usual_reply_time : ℕ
+usual_reply_time = 30
 
 abbrev pub usual_negotiate : ℕ
 usual_negotiate = 30

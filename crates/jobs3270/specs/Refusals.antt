@@ -49,7 +49,10 @@ value_after kind.LuName = codes " NAME"
 value_after kind.Address = codes " ADDRESS"
 value_after kind.Seconds = codes " SECONDS"
 value_after kind.Model = codes " M"
+value_after kind.ReplyTime = codes " SECONDS"
+value_after kind.Url = codes " URL"
 value_after kind.File = codes " FILE"
+value_after kind.TtySize = codes " ROWSxCOLUMNS"
 value_after kind.Flag = []
 
 -- an option of a usage line, in brackets if it may be left out

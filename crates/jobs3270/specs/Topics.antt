@@ -18,11 +18,12 @@ name_of topic.Check = codes "check"
 name_of topic.Host = codes "host"
 name_of topic.Serve = codes "serve"
 name_of topic.Term = codes "term"
+name_of topic.Operate = codes "operate"
 name_of topic.Help = codes "help"
 
 -- the jobs of the program
 abbrev pub jobs : List Topic
-jobs = topic.Script ∷ topic.Show ∷ topic.Selfrun ∷ topic.Check ∷ topic.Host ∷ topic.Serve ∷ topic.Term ∷ topic.Help ∷ []
+jobs = topic.Script ∷ topic.Show ∷ topic.Selfrun ∷ topic.Check ∷ topic.Host ∷ topic.Serve ∷ topic.Term ∷ topic.Operate ∷ topic.Help ∷ []
 
 -- the job with this name
 abbrev pub topic_named : List ℕ → Option Topic
@@ -34,6 +35,7 @@ topic_named name =
     if bytes_eq name (codes "host") then Some topic.Host else
     if bytes_eq name (codes "serve") then Some topic.Serve else
     if bytes_eq name (codes "term") then Some topic.Term else
+    if bytes_eq name (codes "operate") then Some topic.Operate else
     if bytes_eq name (codes "help") then Some topic.Help else
     None
 
@@ -68,8 +70,11 @@ options_of topic.Host = needed (codes "port") kind.Port ∷ optional (codes "tur
 options_of topic.Serve =
     needed (codes "port") kind.ServicePort ∷ optional (codes "listen") kind.Address ∷ optional (codes "panels") kind.File
     ∷ optional (codes "negotiate") kind.Seconds ∷ optional (codes "keepalive") kind.Seconds ∷ optional (codes "idle") kind.Seconds
+    ∷ optional (codes "application") kind.Url ∷ optional (codes "application-timeout") kind.ReplyTime
     ∷ optional (codes "metrics") kind.ServicePort ∷ optional (codes "quiet") kind.Flag ∷ []
 options_of topic.Term = needed (codes "port") kind.Port ∷ optional (codes "lu") kind.LuName ∷ optional (codes "model") kind.Model ∷ []
+options_of topic.Operate =
+    needed (codes "port") kind.Port ∷ optional (codes "lu") kind.LuName ∷ optional (codes "model") kind.Model ∷ optional (codes "raw") kind.TtySize ∷ []
 options_of _ = []
 
 -- the name of the word that a job may be given without an option: the job that `help` is asked for, the file that `check` reads

@@ -13,16 +13,19 @@ use Rattle.clap.specs.declared.error.kind.ErrorKind.{ErrorKind}
 use Rattle.clap.specs.declared.error.kind.ErrorKind.TheVariants as kind
 use Rattle.codes3270.specs.declared.size.Model.{Model}
 use Rattle.tn3270e_msg.specs.Lu.{lu_of}
-use Rattle.jobs3270.specs.OptionValues.{address_of, model_of, port_of, seconds_of, service_port_of, this_machine, turns_of, usual_idle, usual_keepalive, usual_model, usual_negotiate, usual_turns}
+use Rattle.jobs3270.specs.OptionValues.{address_of, model_of, port_of, reply_time_of, seconds_of, service_port_of, this_machine, tty_size_of, turns_of, usual_idle, usual_keepalive, usual_model, usual_negotiate, usual_reply_time, usual_turns}
 use Rattle.jobs3270.specs.Topics.{OptionRow, jobs, name_of, operand_of, options_of, takes_value, topic_named}
 use Rattle.jobs3270.specs.declared.job.Job.{Job}
 use Rattle.jobs3270.specs.declared.job.Job.TheVariants as job
+use Rattle.jobs3270.specs.declared.job.LiveOptions.{LiveOptions}
 use Rattle.jobs3270.specs.declared.job.Topic.{Topic}
 use Rattle.jobs3270.specs.declared.job.Topic.TheVariants as topic
 use Rattle.jobs3270.specs.declared.job.WordFault.{WordFault}
 use Rattle.jobs3270.specs.declared.job.WordFault.TheVariants.{Refused, Memory}
+use Rattle.jobs3270.specs.declared.service.ApplicationChoice.{ApplicationChoice}
 use Rattle.jobs3270.specs.declared.service.Service.{Service}
 use Rattle.jobs3270.specs.declared.service.TimeLimits.{TimeLimits}
+use Rattle.jobs3270.specs.declared.tty_size.TtySize.{TtySize}
 
 -- ---- the command line
 
@@ -79,6 +82,10 @@ given_address options = option_map_or address_of (first_of (codes "listen") opti
 abbrev pub given_seconds : (name : List ℕ) → (usual : ℕ) → List Row → Option ℕ
 given_seconds name usual options = option_map_or seconds_of (first_of name options) (Some usual)
 
+-- none if the word is no size of a tty
+abbrev pub given_tty : List Row → Option (Option TtySize)
+given_tty options = option_map_or (λ word. option_map Some (tty_size_of word)) (first_of (codes "raw") options) (Some None)
+
 -- none if the word is no port
 abbrev pub given_metrics : List Row → Option (Option ℕ)
 given_metrics options = option_map_or (λ word. option_map Some (service_port_of word)) (first_of (codes "metrics") options) (Some None)
@@ -104,6 +111,23 @@ given_service options =
       metrics = metrics;
     }) (given_metrics options)) (given_limits options)) (given_address options)) (given_service_port options)
 
+abbrev pub given_live_options : List Row → Option LiveOptions
+given_live_options options =
+    option_and_then (λ port. option_and_then (λ lu. option_and_then (λ model. option_map (λ tty. record {
+      port = port;
+      lu = lu;
+      model = model;
+      tty = tty;
+    }) (given_tty options)) (given_model options)) (given_lu options)) (given_port options)
+
+abbrev pub given_reply_time : List Row → Option ℕ
+given_reply_time options = option_map_or reply_time_of (first_of (codes "application-timeout") options) (Some usual_reply_time)
+
+-- which application decides
+abbrev pub given_application : List Row → Option ApplicationChoice
+given_application options =
+    option_map (λ reply_time. record { url = first_of (codes "application") options; reply_time = reply_time }) (given_reply_time options)
+
 -- the topic after `help`: the whole program if no job is named
 abbrev pub given_topic : List Row → Option Topic
 given_topic options = option_map_or topic_named (first_of (codes "job") options) (Some topic.Program)
@@ -118,9 +142,12 @@ job_of topic.Show options = option_map (λ model. job.Show model) (given_model o
 job_of topic.Selfrun options = option_map (λ turns. job.Selfrun turns) (given_turns options)
 job_of topic.Check options = Some (job.Check (first_of (codes "file") options))
 job_of topic.Host options = option_and_then (λ port. option_map (λ turns. job.Host port turns) (given_turns options)) (given_port options)
-job_of topic.Serve options = option_map (λ service. job.Serve service (first_of (codes "panels") options)) (given_service options)
+job_of topic.Serve options =
+    option_and_then (λ service. option_map (λ application. job.Serve service (first_of (codes "panels") options) application) (given_application options))
+    (given_service options)
 job_of topic.Term options =
     option_and_then (λ port. option_and_then (λ lu. option_map (λ model. job.Term port lu model) (given_model options)) (given_lu options)) (given_port options)
+job_of topic.Operate options = option_map (λ live. job.Operate live) (given_live_options options)
 job_of topic.Help options = option_map (λ topic. job.Help topic) (given_topic options)
 
 abbrev pub job_named : List ℕ → List Row → Option Job

@@ -1,15 +1,19 @@
 //! Reads the program's arguments.
-ghost use Rattle.std.specs.Prelude.{◌≡◌, [], IfOk, IfErr, Some, map, option_map, string_bytes, true};
+ghost use Rattle.std.specs.Prelude.{◌≡◌, [], IfOk, IfErr, Some, codes, map, option_map, string_bytes, true};
 ghost use Rattle.clap.specs.Walk.{first_of, rows_of};
 ghost use Rattle.clap.specs.Simple.{new_rule, subcommand_rows_of};
 ghost use Rattle.clap.specs.Matches.{found_of};
 ghost use Rattle.jobs3270.specs.Topics.{row_of};
-ghost use Rattle.jobs3270.specs.Words.{HasNoJob, IsJobOf, program, job_by, job_named, job_of, given_address, given_limits, given_lu, given_metrics, given_model, given_port, given_seconds, given_service, given_service_port, given_topic, given_turns, is_quiet, job_shape, operand_rules, option_rule, topic_of};
+ghost use Rattle.jobs3270.specs.Words.{HasNoJob, IsJobOf, program, job_by, job_named, job_of, given_address, given_application, given_limits, given_live_options, given_lu, given_metrics, given_model, given_port, given_reply_time, given_seconds, given_service, given_service_port, given_topic, given_tty, given_turns, is_quiet, job_shape, operand_rules, option_rule, topic_of};
 ghost use Rattle.jobs3270.specs.ClapCommands.{AddsArguments, AddsJobs, IsArgument, IsCommand, IsJob, IsMatch, MayFail, job_or_fault};
 
-use crate::job::{FileName, Job, Port, Seconds, ServicePort, Topic, Turns, WordFault, model_of};
+use crate::job::{
+    FileName, Job, LiveOptions, Port, ReplyTime, Seconds, ServicePort, Topic, Turns, UrlText,
+    WordFault, model_of,
+};
 use crate::job_table::{JobOption, name_of, operand_of, options_of, topic_named};
-use crate::service::{Service, TimeLimits, address_of};
+use crate::service::{ApplicationChoice, Service, TimeLimits, address_of};
+use crate::tty_size::TtySize;
 use clap::error::ErrorKind;
 use clap::{Arg, ArgAction, ArgMatches, Command};
 use codes3270::Model;
@@ -106,7 +110,7 @@ fn bare<'a>(alloc: Global) -> Command<'a>
 }
 
 /// The jobs of the program.
-static JOBS: [Topic; 8] = [
+static JOBS: [Topic; 9] = [
     Topic::Script,
     Topic::Show,
     Topic::Selfrun,
@@ -114,6 +118,7 @@ static JOBS: [Topic; 8] = [
     Topic::Host,
     Topic::Serve,
     Topic::Term,
+    Topic::Operate,
     Topic::Help,
 ];
 
@@ -174,6 +179,16 @@ fn model_in(options: &ArgMatches<'_>) -> Option<Model>
     match given(options, "model") {
         Some(word) => model_of(word),
         None => Some(Model::M2),
+    }
+}
+
+/// The value of `--raw`, if it is given. None if it is no size of a tty.
+fn tty_in(options: &ArgMatches<'_>) -> Option<Option<TtySize>>
+    ensures { result ≡ given_tty (rows_of (found_of options.now)) }
+{
+    match given(options, "raw") {
+        Some(word) => Some(Some(TtySize::read(word)?)),
+        None => Some(None),
     }
 }
 
@@ -248,6 +263,45 @@ fn service_in(options: &ArgMatches<'_>) -> Option<Service>
     })
 }
 
+/// What `operate` connects to, and its tty.
+fn live_options_in(options: &ArgMatches<'_>) -> Option<LiveOptions>
+    ensures { result ≡ given_live_options (rows_of (found_of options.now)) }
+{
+    Some(LiveOptions {
+        port: port_in(options)?,
+        lu: lu_in(options)?,
+        model: model_in(options)?,
+        tty: tty_in(options)?,
+    })
+}
+
+/// The value of `--application`, if it is given.
+fn url_in<'a>(options: &ArgMatches<'a>) -> Option<UrlText<'a>>
+    ensures { result ≡ first_of (codes "application") (rows_of (found_of options.now)) }
+{
+    Some(UrlText::new(given(options, "application")?))
+}
+
+/// The value of `--application-timeout`; the usual time if it isn't given.
+fn reply_time_in(options: &ArgMatches<'_>) -> Option<ReplyTime>
+    ensures { result ≡ given_reply_time (rows_of (found_of options.now)) }
+{
+    match given(options, "application-timeout") {
+        Some(word) => ReplyTime::read(word),
+        None => Some(ReplyTime::usual()),
+    }
+}
+
+/// Which application decides for `serve`.
+fn application_in<'a>(options: &ArgMatches<'a>) -> Option<ApplicationChoice<'a>>
+    ensures { result ≡ given_application (rows_of (found_of options.now)) }
+{
+    Some(ApplicationChoice {
+        url: url_in(options),
+        reply_time: reply_time_in(options)?,
+    })
+}
+
 /// The topic after `help`: the whole program if no job is named. None if the word is no job's name.
 fn topic_in(options: &ArgMatches<'_>) -> Option<Topic>
     ensures { result ≡ given_topic (rows_of (found_of options.now)) }
@@ -291,12 +345,14 @@ fn job_of<'a>(topic: Topic, options: &ArgMatches<'a>) -> Option<Job<'a>>
         Topic::Serve => Job::Serve {
             service: service_in(options)?,
             panels: file_in(options, "panels"),
+            application: application_in(options)?,
         },
         Topic::Term => Job::Term {
             port: port_in(options)?,
             lu: lu_in(options)?,
             model: model_in(options)?,
         },
+        Topic::Operate => Job::Operate(live_options_in(options)?),
         Topic::Help => Job::Help(topic_in(options)?),
     };
     Some(job)
@@ -352,8 +408,8 @@ fn matches_of<'a>(alloc: Global, words: &'a [String]) -> Result<ArgMatches<'a>, 
 
 /// The job of the program's arguments: `script` if there are none.
 ///
-/// Refused if the command line doesn't take them, or if a port, a number of turns or seconds, an address, an LU's name, a model or a
-/// job's name isn't valid; Memory if memory is refused.
+/// Refused if the command line doesn't take them, or if a port, a number of turns or seconds, an address, an LU's name, a model, a size or
+/// a job's name isn't valid; Memory if memory is refused.
 pub fn words<'a>(alloc: Global, words: &'a [String]) -> Result<Job<'a>, WordFault>
     ensures job { IfOk result (λ job. IsJobOf (map string_bytes words.now) (Some job)) }
     ensures fault { IfErr result (HasNoJob (map string_bytes words.now)) }

@@ -1,7 +1,9 @@
 //! Why a run ends early: the line that it prints, and its exit status.
 ghost use Rattle.std.specs.Prelude.{◌≡◌};
-ghost use Rattle.jobs3270.specs.Faults.{reason_of, status_of};
+ghost use Rattle.jobs3270.specs.Faults.{reason_of, status_of, url_reason};
 
+use crate::live_fault::LiveFault;
+use application_http::EndpointFault;
 use lu_pool::PoolFault;
 use panels::PanelFault;
 use std::alloc::AllocError;
@@ -29,10 +31,14 @@ pub enum Fault {
     SocketFailed,
     /// The system refused to listen at this address, with an error of this kind.
     CannotListen(SocketAddr, ErrorKind),
+    /// The URL is no application's, for this reason.
+    NotAnApplication(EndpointFault),
     /// The turns are used up.
     TurnsOver,
     /// The output didn't take all that was printed.
     OutputFailed,
+    /// A live terminal ends other than by its operator.
+    Live(LiveFault),
 }
 
 /// Why the system refuses to listen, in words.
@@ -47,6 +53,22 @@ fn reason_of(kind: ErrorKind) -> &'static str
     }
 }
 
+/// Why a URL is no application's, in words.
+fn url_reason(why: EndpointFault) -> &'static str
+    ensures { result.now ≡ url_reason why }
+{
+    match why {
+        EndpointFault::Memory => "no memory",
+        EndpointFault::NotUrl(_) => "--application: not a URL",
+        EndpointFault::NotHttp => "--application: the URL doesn't begin with http://",
+        EndpointFault::HasUser => "--application: the URL has a user name or a password",
+        EndpointFault::HasFragment => "--application: the URL has a fragment, behind #",
+        EndpointFault::NotThisMachine => {
+            "--application: the URL's host is not this machine: localhost, 127.x.x.x or [::1]"
+        }
+    }
+}
+
 impl Fault {
     /// The exit status of the program.
     pub fn status(&self) -> u8
@@ -55,10 +77,12 @@ impl Fault {
         match self {
             Fault::InputNotRead | Fault::Panels(_) | Fault::Pool(_) => 1,
             Fault::NotHex(_) | Fault::NotUnderstood(_) => 1,
+            Fault::NotAnApplication(_) => 2,
             Fault::NoMemory => 3,
             Fault::SocketFailed | Fault::CannotListen(_, _) => 4,
             Fault::TurnsOver => 5,
             Fault::OutputFailed => 6,
+            Fault::Live(fault) => fault.status(),
         }
     }
 }
@@ -83,8 +107,10 @@ impl fmt::Display for Fault {
                 let reason = reason_of(*kind);
                 write!(f, "cannot listen on {address}: {reason}")
             }
+            Fault::NotAnApplication(why) => f.write_str(url_reason(*why)),
             Fault::TurnsOver => f.write_str("turns over"),
             Fault::OutputFailed => f.write_str("output failed"),
+            Fault::Live(fault) => write!(f, "{fault}"),
         }
     }
 }

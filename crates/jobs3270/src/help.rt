@@ -19,6 +19,7 @@ jobs:
   host      serve panels to terminals that connect to 127.0.0.1, for a number of turns
   serve     serve panels to terminals that connect, without end
   term      be a terminal of the host at 127.0.0.1, and do commands
+  operate   be a terminal of the host at 127.0.0.1, for an operator at a tty
   help      print this text, or with a job's name the help of that job
 
 options:
@@ -39,7 +40,7 @@ const SHOW: &str = "usage: panel3270 show [--model M] < INPUT
 Apply commands of the 3270 data stream to a blank screen, and print it.
 
 options:
-  --model M   the model of the screen, 2 to 5; 2 if it isn't given
+  --model M   the model of the screen, 2 to 5 [default: 2]
 
 INPUT is commands, one a line: pairs of hexadecimal digits, and blanks; no tab, CR or comment.";
 
@@ -48,7 +49,7 @@ const SELFRUN: &str = "usage: panel3270 selfrun [--turns N] < INPUT
 Serve panels to four terminals, of models 2 to 5, over sockets of this machine. The terminals do commands. Print what their operators see.
 
 options:
-  --turns N   the number of turns, 1 to 1000000; 10000 if it isn't given
+  --turns N   the number of turns, 1 to 1000000 [default: 10000]
 
 INPUT is panels in TOML, a line %%, and commands, one a line.";
 
@@ -58,7 +59,7 @@ Serve panels to terminals that connect to 127.0.0.1, for a number of turns.
 
 options:
   --port P    the port, 1024 to 65535
-  --turns N   the number of turns, 1 to 1000000; 10000 if it isn't given
+  --turns N   the number of turns, 1 to 1000000 [default: 10000]
 
 INPUT is panels in TOML.";
 
@@ -74,15 +75,18 @@ Serve panels to terminals that connect, without end, and log each connection on 
 
 options:
   --port P              the port, 1 to 65535
-  --listen ADDRESS      the IPv4 or IPv6 address to listen on; 127.0.0.1 if it isn't given
-  --panels FILE         the file that has the panels; INPUT if it isn't given
-  --negotiate SECONDS   drop a connection that agrees on no session in this time; 30 if it isn't given
-  --keepalive SECONDS   test the connection of a terminal that sends nothing for this time; 60 if it isn't given
-  --idle SECONDS        drop a connection that sends nothing for this time; 0 if it isn't given
-  --metrics P           the port of 127.0.0.1 that answers with metrics, 1 to 65535; none if it isn't given
+  --listen ADDRESS      the IPv4 or IPv6 address to listen on [default: 127.0.0.1]
+  --panels FILE         the file that has the panels [default: INPUT]
+  --negotiate SECONDS   drop a connection without a session after this time [default: 30]
+  --keepalive SECONDS   test a connection that sends nothing for this time [default: 60]
+  --idle SECONDS        drop a connection that sends nothing for this time [default: 0]
+  --application URL     the application of this machine for keys that panels ask about, as http://127.0.0.1:8080/bank
+  --application-timeout SECONDS
+                        the time that an answer may take, 1 to 3600 [default: 30]
+  --metrics P           the port of 127.0.0.1 that answers with metrics, 1 to 65535
   --quiet               log no connection
 
-SECONDS is 0 to 1000000; 0 is no limit.
+Other SECONDS are 0 to 1000000; 0 is no limit.
 INPUT is panels in TOML.";
 
 const TERM: &str = "usage: panel3270 term --port P [--lu NAME] [--model M] < INPUT
@@ -91,10 +95,23 @@ Be a terminal of the host at 127.0.0.1, and do commands.
 
 options:
   --port P    the port, 1024 to 65535
-  --lu NAME   the LU to ask for: 1 to 8 of A to Z, 0 to 9, @, # and $, the first no digit; any LU if it isn't given
-  --model M   the model of the terminal, 2 to 5; 2 if it isn't given
+  --lu NAME   the LU to ask for: 1 to 8 of A to Z, 0 to 9, @, # and $, the first no digit [default: any LU]
+  --model M   the model of the terminal, 2 to 5 [default: 2]
 
 INPUT is commands, one a line.";
+
+const OPERATE: &str =
+    "usage: panel3270 operate --port P [--lu NAME] [--model M] [--raw ROWSxCOLUMNS]
+
+Be a terminal of the host at 127.0.0.1, for an operator at this tty. Start it by the script bin/operate PORT [LU].
+
+options:
+  --port P             the port, 1024 to 65535
+  --lu NAME            the LU to ask for: 1 to 8 of A to Z, 0 to 9, @, # and $, the first no digit [default: any LU]
+  --model M            the model of the terminal, 2 to 5 [default: 2]
+  --raw ROWSxCOLUMNS   the size of the tty, which is in raw mode: bin/operate says so
+
+The status row has the keyboard's lock, the LU and the cursor. Ctrl-] ends the program.";
 
 const HELP: &str = "usage: panel3270 help [JOB]
 
@@ -115,6 +132,7 @@ fn help_text(topic: Topic) -> &'static str
         Topic::Host => HOST,
         Topic::Serve => SERVE,
         Topic::Term => TERM,
+        Topic::Operate => OPERATE,
         Topic::Help => HELP,
     }
 }

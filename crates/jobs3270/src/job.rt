@@ -1,9 +1,10 @@
 //! The jobs of the program, with the values of their options.
 ghost use Rattle.std.specs.Prelude.{◌≡◌, ◌≤◌, IfSome};
-ghost use Rattle.jobs3270.specs.OptionValues.{model_numbered, model_of, port_numbered, service_port_numbered, service_port_of, seconds_numbered, seconds_of, turns_numbered, port_of, turns_of, usual_idle, usual_keepalive, usual_negotiate, usual_turns};
+ghost use Rattle.jobs3270.specs.OptionValues.{model_numbered, model_of, port_numbered, service_port_numbered, service_port_of, reply_time_numbered, reply_time_of, seconds_numbered, seconds_of, turns_numbered, port_of, turns_of, usual_idle, usual_keepalive, usual_negotiate, usual_reply_time, usual_turns};
 
 use crate::script_line::number_of;
-use crate::service::Service;
+use crate::service::{ApplicationChoice, Service};
+use crate::tty_size::TtySize;
 use codes3270::Model;
 use std::marker;
 use tn3270e_msg::Lu;
@@ -244,6 +245,60 @@ pub(crate) fn model_of(word: &str) -> Option<Model>
     model_numbered(number_of(word)?)
 }
 
+/// How long an application may take for a reply, in seconds, 1 to 3,600. Contracts see it as a number.
+#[derive(Clone, Copy)]
+pub struct ReplyTime {
+    number: u32,
+}
+
+impl marker::Model for ReplyTime {
+    ghost use Rattle.std.specs.Prelude.{ℕ, ◌≤◌};
+
+    ghost Value = { ℕ };
+
+    ghost view = { λ time. time.number };
+
+    ghost invariant = { λ time. (1 ≤ time.number) × (time.number ≤ 3600) };
+
+    ghost inverse = { λ number. record { number = number } };
+}
+
+impl ReplyTime {
+    /// This number of seconds; None unless it is 1 to 3,600.
+    pub fn new(number: u32) -> Option<ReplyTime>
+        ensures { result ≡ reply_time_numbered number }
+    {
+        match number {
+            1..=3_600 => Some(ReplyTime { number }),
+            _ => None,
+        }
+    }
+
+    /// The time if the option isn't given.
+    pub fn usual() -> ReplyTime
+        ensures { result ≡ usual_reply_time }
+    {
+        ReplyTime { number: 30 }
+    }
+
+    /// A number of seconds in decimal digits; None if the word isn't such a number.
+    pub(crate) fn read(word: &str) -> Option<ReplyTime>
+        ensures { result ≡ reply_time_of word.now }
+    {
+        let number = u32::try_from(number_of(word)?).ok()?;
+        ReplyTime::new(number)
+    }
+
+    /// The number, 1 to 3,600.
+    pub fn get(self) -> u32
+        ensures value { result ≡ self }
+        ensures in_range { (1 ≤ result) × (result ≤ 3600) }
+    {
+        let ReplyTime { number } = self;
+        number
+    }
+}
+
 /// The name of a file, as a word of the command line. Contracts see it as that text.
 #[derive(Drop)]
 pub struct FileName<'a> {
@@ -274,6 +329,36 @@ impl<'a> FileName<'a> {
     }
 }
 
+/// A URL, as a word of the command line. Contracts see it as that text.
+#[derive(Drop)]
+pub struct UrlText<'a> {
+    text: &'a str,
+}
+
+impl<'a> marker::Model for UrlText<'a> {
+    ghost use Rattle.std.specs.Prelude.{ℕ, List};
+
+    ghost Value = { List ℕ };
+
+    ghost view = { λ url. url.text.now };
+}
+
+impl<'a> UrlText<'a> {
+    /// The URL with this text.
+    pub fn new(text: &'a str) -> UrlText<'a>
+        ensures { result ≡ text.entry.now }
+    {
+        UrlText { text }
+    }
+
+    /// Its text.
+    pub fn as_str(&self) -> &'a str
+        ensures { result.now ≡ self.now }
+    {
+        self.text
+    }
+}
+
 /// A topic of the program's help.
 #[derive(Clone, Copy)]
 pub enum Topic {
@@ -293,8 +378,23 @@ pub enum Topic {
     Serve,
     /// The job `term`.
     Term,
+    /// The job `operate`.
+    Operate,
     /// The job `help`.
     Help,
+}
+
+/// What a live terminal connects to, and its tty.
+#[derive(Clone, Copy)]
+pub struct LiveOptions {
+    /// The port of the host.
+    pub port: Port,
+    /// The LU that the terminal requests; any if there is none.
+    pub lu: Option<Lu>,
+    /// The model of the terminal.
+    pub model: Model,
+    /// The size of the tty, which is in raw mode; if there is none, it isn't known that there is such a tty.
+    pub tty: Option<TtySize>,
 }
 
 /// A job of the program.
@@ -323,6 +423,7 @@ pub enum Job<'a> {
     Serve {
         service: Service,
         panels: Option<FileName<'a>>,
+        application: ApplicationChoice<'a>,
     },
     /// Runs a terminal of a model at a host, and does the commands of a script.
     Term {
@@ -330,6 +431,8 @@ pub enum Job<'a> {
         lu: Option<Lu>,
         model: Model,
     },
+    /// Runs a terminal at a host, for an operator at a tty.
+    Operate(LiveOptions),
     /// Prints help.
     Help(Topic),
     /// Prints the program's version.

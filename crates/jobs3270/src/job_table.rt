@@ -19,10 +19,16 @@ pub(crate) enum ValueKind {
     Address,
     /// A time limit in seconds, 0 to 1,000,000.
     Seconds,
+    /// A time for a reply in seconds, 1 to 3,600.
+    ReplyTime,
+    /// A URL.
+    Url,
     /// The number of a model, 2 to 5.
     Model,
     /// The name of a file.
     File,
+    /// The size of a tty.
+    TtySize,
     /// None: the option is a flag.
     Flag,
 }
@@ -78,7 +84,7 @@ static HOST: [JobOption<'static>; 2] = [
     },
 ];
 
-static SERVE: [JobOption<'static>; 8] = [
+static SERVE: [JobOption<'static>; 10] = [
     JobOption {
         name: "port",
         word: "--port",
@@ -116,6 +122,18 @@ static SERVE: [JobOption<'static>; 8] = [
         required: false,
     },
     JobOption {
+        name: "application",
+        word: "--application",
+        kind: ValueKind::Url,
+        required: false,
+    },
+    JobOption {
+        name: "application-timeout",
+        word: "--application-timeout",
+        kind: ValueKind::ReplyTime,
+        required: false,
+    },
+    JobOption {
         name: "metrics",
         word: "--metrics",
         kind: ValueKind::ServicePort,
@@ -150,6 +168,33 @@ static TERM: [JobOption<'static>; 3] = [
     },
 ];
 
+static OPERATE: [JobOption<'static>; 4] = [
+    JobOption {
+        name: "port",
+        word: "--port",
+        kind: ValueKind::Port,
+        required: true,
+    },
+    JobOption {
+        name: "lu",
+        word: "--lu",
+        kind: ValueKind::LuName,
+        required: false,
+    },
+    JobOption {
+        name: "model",
+        word: "--model",
+        kind: ValueKind::Model,
+        required: false,
+    },
+    JobOption {
+        name: "raw",
+        word: "--raw",
+        kind: ValueKind::TtySize,
+        required: false,
+    },
+];
+
 /// The options of a job.
 pub(crate) fn options_of(topic: Topic) -> &'static [JobOption<'static>]
     ensures { map row_of result.now ≡ options_of topic }
@@ -160,6 +205,7 @@ pub(crate) fn options_of(topic: Topic) -> &'static [JobOption<'static>]
         Topic::Host => &HOST,
         Topic::Serve => &SERVE,
         Topic::Term => &TERM,
+        Topic::Operate => &OPERATE,
         Topic::Program | Topic::Script | Topic::Check | Topic::Help => &[],
     }
 }
@@ -172,7 +218,7 @@ pub(crate) fn operand_of<'a>(topic: Topic) -> Option<&'a str>
         Topic::Help => Some("job"),
         Topic::Check => Some("file"),
         Topic::Program | Topic::Script | Topic::Show | Topic::Selfrun => None,
-        Topic::Host | Topic::Serve | Topic::Term => None,
+        Topic::Host | Topic::Serve | Topic::Term | Topic::Operate => None,
     }
 }
 
@@ -189,6 +235,7 @@ pub(crate) fn name_of<'a>(topic: Topic) -> &'a str
         Topic::Host => "host",
         Topic::Serve => "serve",
         Topic::Term => "term",
+        Topic::Operate => "operate",
         Topic::Help => "help",
     }
 }
@@ -205,6 +252,7 @@ pub(crate) fn topic_named(name: &str) -> Option<Topic>
         "host" => Some(Topic::Host),
         "serve" => Some(Topic::Serve),
         "term" => Some(Topic::Term),
+        "operate" => Some(Topic::Operate),
         "help" => Some(Topic::Help),
         _ => None,
     }

@@ -1,4 +1,4 @@
-//! The jobs of the program panel3270, over streams and sockets: show, script, selfrun, host, serve, term and help. This crate makes
+//! The jobs of the program panel3270, over streams and sockets: show, script, selfrun, host, serve, term, operate and help. This crate makes
 //! everything that the program prints and its exit status; the program itself passes its arguments and streams.
 //!
 //! A job reads from a [`Source`] and writes to a [`Sink`], which count failures. [`CountedReader`] and [`CountedWriter`] make these of
@@ -19,8 +19,12 @@
 //! proved of the bytes on a socket.
 #![tactic(auto)]
 
+mod application;
+mod application_fault;
+mod application_reply;
 mod check;
 mod command_line;
+mod exchange;
 mod fault;
 mod file_fault;
 mod help;
@@ -31,6 +35,9 @@ mod job;
 mod job_table;
 pub mod laws;
 mod limits;
+mod live;
+mod live_fault;
+mod live_session;
 mod log;
 mod metered;
 mod metrics;
@@ -58,16 +65,25 @@ mod streams;
 mod task;
 mod term;
 mod term_line;
+mod tty_size;
 mod uptime;
 
+pub use application_fault::{Absence, ApplicationFault, Told};
+pub use application_reply::AnswerFault;
 pub use check::run_check;
 pub use command_line::words;
 pub use fault::Fault;
 pub use file_fault::{FileFault, refuse_file};
 pub use help::{run_help, run_version};
 pub use input::{MOST_BYTES, MOST_READS};
-pub use job::{FileName, Job, Port, Seconds, ServicePort, Topic, Turns, WordFault};
+pub use job::{
+    FileName, Job, LiveOptions, Port, ReplyTime, Seconds, ServicePort, Topic, Turns, UrlText,
+    WordFault,
+};
 pub use limits::{Activity, Due, Overdue};
+pub use live::{Asked, LiveTerminal};
+pub use live_fault::LiveFault;
+pub use live_session::{OperatorSession, run_operate};
 pub use log::Log;
 pub use metrics::{ClosedCounts, EndCounts, Metrics, RejectedCounts, TrafficCounts};
 pub use notice::{Client, Ending, Notice, Usage};
@@ -78,10 +94,11 @@ pub use script::{host_of, run_script};
 pub use script_line::{ScriptCommand, typed_text};
 pub use selfrun::run_selfrun;
 pub use server::{Server, Watcher, patience};
-pub use service::{Service, TimeLimits};
+pub use service::{ApplicationChoice, Service, TimeLimits};
 pub use serving::{run_host, run_serve};
 pub use show::run_show;
 pub use streams::{Answer, CountedReader, CountedWriter, Sink, Source, WriteFailed};
 pub use task::end_by;
 pub use term::{Wire, operate, run_term};
 pub use term_line::TerminalCommand;
+pub use tty_size::TtySize;

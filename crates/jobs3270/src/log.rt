@@ -1,6 +1,7 @@
 //! The log of a server.
+use crate::application_fault::{ApplicationFault, put_application_line};
 use crate::fault::Fault;
-use crate::notice::{Notice, put_notice};
+use crate::notice::{Client, Notice, put_notice};
 use crate::server::{Server, Watcher};
 use crate::streams::Sink;
 use host_core::Host;
@@ -45,12 +46,36 @@ fn line_of(alloc: Global, clock: &impl Clock, notice: &Notice) -> Result<String,
     Ok(line)
 }
 
+/// The line of a question without an answer, at this time.
+fn application_line_of(
+    alloc: Global,
+    clock: &impl Clock,
+    client: &Client,
+    fault: &ApplicationFault,
+) -> Result<String, AllocError> {
+    let mut time = String::with_capacity(alloc, TIME_ROOM)?;
+    put_time(&mut time, clock)?;
+    let mut line = String::with_capacity(alloc, LINE_ROOM)?;
+    put_application_line(&mut line, time.as_str(), client, fault)?;
+    Ok(line)
+}
+
 impl<C: Clock, E: Sink> Watcher for Log<'_, C, E> {
     fn notice(&mut self, notice: &Notice) -> Result<(), Fault> {
         if self.quiet {
             return Ok(());
         }
         let line = line_of(self.alloc, self.clock, notice)?;
+        // Terminals are served even if the log can't be written.
+        let _ = self.lines.write_all(line.as_bytes());
+        Ok(())
+    }
+
+    fn unanswered(&mut self, client: &Client, fault: &ApplicationFault) -> Result<(), Fault> {
+        if self.quiet {
+            return Ok(());
+        }
+        let line = application_line_of(self.alloc, self.clock, client, fault)?;
         // Terminals are served even if the log can't be written.
         let _ = self.lines.write_all(line.as_bytes());
         Ok(())

@@ -2,11 +2,12 @@
 ghost use Rattle.std.specs.Prelude.{◌<◌};
 ghost use Rattle.host_core.specs.State.{most_connections};
 
+use crate::application_fault::ApplicationFault;
 use crate::fault::Fault;
 use crate::job::ServicePort;
 use crate::metrics::Metrics;
 use crate::metrics_port::MetricsPort;
-use crate::notice::Notice;
+use crate::notice::{Client, Notice};
 use crate::server::{Server, Watcher};
 use host_core::{Host, MOST_CONNECTIONS, ScreenMeasure};
 use std::alloc::Global;
@@ -60,6 +61,10 @@ impl<W: Watcher> Watcher for Metered<'_, W> {
     fn notice(&mut self, notice: &Notice) -> Result<(), Fault> {
         self.metrics.count(notice);
         self.watcher.notice(notice)
+    }
+
+    fn unanswered(&mut self, client: &Client, fault: &ApplicationFault) -> Result<(), Fault> {
+        self.watcher.unanswered(client, fault)
     }
 
     fn shown(&mut self, host: &Host, conn: usize) -> Result<(), Fault> {

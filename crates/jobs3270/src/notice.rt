@@ -61,7 +61,7 @@ pub enum Notice {
 }
 
 /// Adds the number and the peer of a connection.
-fn put_client(text: &mut String, client: &Client) -> Result<(), AllocError>
+pub(crate) fn put_client(text: &mut String, client: &Client) -> Result<(), AllocError>
     ensures { OnOk result (string_bytes text.new ≡ string_bytes text.old ++ client_part client.now) }
 {
     let conn = client.conn;

@@ -104,7 +104,7 @@ fn send_all<U: Sink>(terminal: &mut Terminal, up: &mut U) -> bool
 }
 
 /// Whether memory was refused.
-fn is_memory(stop: Stop) -> bool
+pub(crate) fn is_memory(stop: Stop) -> bool
     ensures { result ≡ is_memory stop }
 {
     match stop {
@@ -114,7 +114,7 @@ fn is_memory(stop: Stop) -> bool
 }
 
 /// Feeds a terminal bytes, and answers what stopped it.
-fn feed_all(terminal: &mut Terminal, bytes: &[u8]) -> Stop
+pub(crate) fn feed_all(terminal: &mut Terminal, bytes: &[u8]) -> Stop
     ensures { FeedsAll terminal.new.room result terminal.old.terminal bytes.now terminal.new.terminal }
 {
     terminal.feed(bytes).stop

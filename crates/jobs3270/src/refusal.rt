@@ -6,10 +6,11 @@ ghost use Rattle.jobs3270.specs.Topics.{kind_named, options_of};
 ghost use Rattle.jobs3270.specs.Runs.{IsToldIn};
 ghost use Rattle.jobs3270.specs.Refusals.{awaited_after, has_value, is_equals, is_option, may_follow, name_after, of_files, of_job, of_options, of_topics, options_after, refusal_text, refused_text, words_refused, wrong_word};
 
-use crate::job::{Port, Seconds, ServicePort, Topic, Turns, model_of};
+use crate::job::{Port, ReplyTime, Seconds, ServicePort, Topic, Turns, model_of};
 use crate::job_table::{ValueKind, kind_named, options_of, topic_named};
 use crate::service::address_of;
 use crate::streams::Sink;
+use crate::tty_size::TtySize;
 use std::fmt;
 use tn3270e_msg::Lu;
 
@@ -44,6 +45,7 @@ fn name_after(topic: Topic) -> &'static str
         Topic::Host => " host",
         Topic::Serve => " serve",
         Topic::Term => " term",
+        Topic::Operate => " operate",
         Topic::Help => " help",
     }
 }
@@ -58,9 +60,10 @@ fn options_after(topic: Topic) -> &'static str
         Topic::Check => " [FILE]",
         Topic::Host => " --port P [--turns N]",
         Topic::Serve => {
-            " --port P [--listen ADDRESS] [--panels FILE] [--negotiate SECONDS] [--keepalive SECONDS] [--idle SECONDS] [--metrics P] [--quiet]"
+            " --port P [--listen ADDRESS] [--panels FILE] [--negotiate SECONDS] [--keepalive SECONDS] [--idle SECONDS] [--application URL] [--application-timeout SECONDS] [--metrics P] [--quiet]"
         }
         Topic::Term => " --port P [--lu NAME] [--model M]",
+        Topic::Operate => " --port P [--lu NAME] [--model M] [--raw ROWSxCOLUMNS]",
         Topic::Help => " [JOB]",
         Topic::Program | Topic::Script => "",
     }
@@ -80,7 +83,10 @@ fn is_value(kind: ValueKind, word: &str) -> bool
         ValueKind::Address => address_of(word).is_some(),
         ValueKind::Seconds => Seconds::read(word).is_some(),
         ValueKind::Model => model_of(word).is_some(),
+        ValueKind::ReplyTime => ReplyTime::read(word).is_some(),
+        ValueKind::Url => true,
         ValueKind::File => true,
+        ValueKind::TtySize => TtySize::read(word).is_some(),
         ValueKind::Flag => false,
     }
 }
@@ -219,7 +225,7 @@ fn of_job<'a>(topic: Topic, name: &'a str, words: &'a [String]) -> Refusal<'a>
         Topic::Help => of_topics(words),
         Topic::Check => of_files(words),
         Topic::Program | Topic::Script | Topic::Show => of_options(topic, name, words),
-        Topic::Selfrun | Topic::Host | Topic::Serve | Topic::Term => {
+        Topic::Selfrun | Topic::Host | Topic::Serve | Topic::Term | Topic::Operate => {
             of_options(topic, name, words)
         }
     }

@@ -34,7 +34,7 @@ fn is_socket_command(command: &ScriptCommand) -> bool
             Event::Connect(_, _) | Event::Key(_, _) | Event::Lose(_) => true,
             Event::Up(_, _) | Event::Down(_, _) | Event::Act(_) | Event::Note(_, _) => false,
             Event::KeepAlive(_) | Event::HostSees(_) | Event::TermSees(_) => false,
-            Event::RestartTerm(_) | Event::RestartHost => false,
+            Event::RestartTerm(_) | Event::RestartHost | Event::Answer(_, _, _) => false,
         },
     }
 }
@@ -148,16 +148,18 @@ impl LoopbackRun {
     }
 
     /// Makes an event happen, unless it is skipped.
-    fn happen(&mut self, net: &impl Net, event: Event) -> Result<Stepped, Fault> {
+    fn happen(&mut self, net: &impl Net, event: &Event) -> Result<Stepped, Fault> {
         match event {
-            Event::Connect(terminal, wanted) => self.connect(net, terminal, wanted),
-            Event::Key(terminal, key) => self.press(terminal, key),
-            Event::Lose(conn) => self.lose(conn),
+            Event::Connect(terminal, wanted) => self.connect(net, *terminal, *wanted),
+            Event::Key(terminal, key) => self.press(*terminal, *key),
+            Event::Lose(conn) => self.lose(*conn),
             Event::Up(_, _) | Event::Down(_, _) | Event::Act(_) | Event::Note(_, _) => {
                 Ok(Stepped::Skipped)
             }
             Event::KeepAlive(_) | Event::HostSees(_) | Event::TermSees(_) => Ok(Stepped::Skipped),
-            Event::RestartTerm(_) | Event::RestartHost => Ok(Stepped::Skipped),
+            Event::RestartTerm(_) | Event::RestartHost | Event::Answer(_, _, _) => {
+                Ok(Stepped::Skipped)
+            }
         }
     }
 
@@ -201,7 +203,7 @@ impl LoopbackRun {
         match command {
             ScriptCommand::Nothing => Ok(()),
             ScriptCommand::Happen(event) => {
-                let answer = self.happen(net, event)?;
+                let answer = self.happen(net, &event)?;
                 put_answer(text, answer)?;
                 Ok(())
             }

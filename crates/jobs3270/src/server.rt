@@ -4,12 +4,16 @@ ghost use Rattle.host_core.specs.State.{most_connections, phase_of, service_at};
 ghost use Rattle.host_core.specs.declared.phase.Phase.TheVariants as phase;
 ghost use Rattle.jobs3270.specs.Notices.{is_bound, is_new, is_shown};
 
+use crate::application_fault::ApplicationFault;
 use crate::fault::Fault;
 use crate::limits::{Activity, Due, are_applied};
 use crate::notice::{Client, Ending, Notice, Usage, bound_in_turn, ending_of};
 use crate::service::TimeLimits;
 use crate::sockets::Sockets;
-use host_core::{Acted, Host, MOST_CONNECTIONS, Phase, Rejection, Served, Turn, serve_turn};
+use host_core::{
+    Acted, Answer, Host, MOST_CONNECTIONS, PanelSet, Phase, Question, Rejection, Served, Ticket,
+    Turn, serve_turn,
+};
 use mio::net::{TcpListener, TcpStream};
 use mio::{Events, Interest, Poll, Token};
 use std::alloc::{AllocError, Global};
@@ -38,6 +42,9 @@ pub trait Watcher {
     /// Handles one notice. A fault ends the turn.
     fn notice(&mut self, notice: &Notice) -> Result<(), Fault>;
 
+    /// Handles that a question to the application has no answer. A fault ends the turn.
+    fn unanswered(&mut self, client: &Client, fault: &ApplicationFault) -> Result<(), Fault>;
+
     /// Handles that the host showed a screen on a connection. A fault ends the turn.
     fn shown(&mut self, host: &Host, conn: usize) -> Result<(), Fault>
         requires { conn < most_connections };
@@ -52,6 +59,10 @@ pub(crate) struct Unwatched;
 
 impl Watcher for Unwatched {
     fn notice(&mut self, _notice: &Notice) -> Result<(), Fault> {
+        Ok(())
+    }
+
+    fn unanswered(&mut self, _client: &Client, _fault: &ApplicationFault) -> Result<(), Fault> {
         Ok(())
     }
 
@@ -218,6 +229,65 @@ impl Server {
         self.poll
             .registry()
             .register(listener, Token(token), Interest::READABLE)
+    }
+
+    /// The server's time, in milliseconds.
+    pub(crate) fn now(&self) -> u64 {
+        self.now
+    }
+
+    /// What the host serves.
+    pub(crate) fn panels(&self) -> &PanelSet {
+        self.host.panels()
+    }
+
+    /// Whether a number has a connection.
+    pub(crate) fn is_connected(&self, conn: usize) -> bool
+        requires { conn < most_connections }
+    {
+        self.sockets.is_connected(conn)
+    }
+
+    /// The question that is open on a connection, if one is. NoMemory if memory is refused.
+    pub(crate) fn question(&self, conn: usize) -> Result<Option<Question>, Fault>
+        requires { conn < most_connections }
+    {
+        match self.host.question(conn) {
+            Ok(question) => Ok(question),
+            Err(_) => Err(Fault::NoMemory),
+        }
+    }
+
+    /// Hands the host the answer to a question. A fault of the watcher, to whom a screen that it shows is told.
+    pub(crate) fn answer<W: Watcher>(
+        &mut self,
+        conn: usize,
+        ticket: Ticket,
+        answer: &Answer,
+        watcher: &mut W,
+    ) -> Result<Acted, Fault>
+        requires { conn < most_connections }
+    {
+        let before = self.host.phase(conn);
+        let pending = self.host.pending(conn);
+        let acted = self.host.answer(conn, ticket, answer);
+        if is_shown(pending, self.host.pending(conn), self.host.turn(conn)) {
+            self.report_screen(conn, &before, watcher)?;
+        }
+        Ok(acted)
+    }
+
+    /// Hands the watcher why a connection's question has no answer.
+    pub(crate) fn report_unanswered<W: Watcher>(
+        &self,
+        conn: usize,
+        fault: &ApplicationFault,
+        watcher: &mut W,
+    ) -> Result<(), Fault> {
+        match self.info(conn) {
+            Some(info) => watcher.unanswered(&info.client, fault),
+            None => Ok(()),
+        }
     }
 
     /// What an open connection took so far; None if the number has no connection.

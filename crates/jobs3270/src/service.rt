@@ -2,7 +2,7 @@
 ghost use Rattle.std.specs.Prelude.{◌≡◌};
 ghost use Rattle.jobs3270.specs.OptionValues.{address_of};
 
-use crate::job::{Seconds, ServicePort};
+use crate::job::{ReplyTime, Seconds, ServicePort, UrlText};
 use std::net::IpAddr;
 
 /// How long a connection may be silent. 0 seconds: without limit.
@@ -29,6 +29,15 @@ pub struct Service {
     pub quiet: bool,
     /// The port of 127.0.0.1 that answers with metrics, if one does.
     pub metrics: Option<ServicePort>,
+}
+
+/// Which application decides for `serve`.
+#[derive(Drop)]
+pub struct ApplicationChoice<'a> {
+    /// The application's URL, if there is an application.
+    pub url: Option<UrlText<'a>>,
+    /// How long it may take for a reply.
+    pub reply_time: ReplyTime,
 }
 
 /// The IPv4 or IPv6 address that a word writes, if it writes one.

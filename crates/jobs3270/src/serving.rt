@@ -1,6 +1,7 @@
 //! `host` and `serve`: serve the panels of the input to the terminals that connect.
 ghost use Rattle.std.specs.Prelude.{◌≡◌};
 
+use crate::application::Application;
 use crate::fault::Fault;
 use crate::input::read_whole;
 use crate::job::{Port, ServicePort, Turns};
@@ -9,10 +10,11 @@ use crate::metered::Metered;
 use crate::notice::Notice;
 use crate::script::host_of;
 use crate::server::{Server, Unwatched, Watcher, patience};
-use crate::service::{Service, TimeLimits};
+use crate::service::{ApplicationChoice, Service};
 use crate::streams::{Sink, Source};
 use crate::task::end_by;
 use crate::uptime::Uptime;
+use application_http::{Endpoint, EndpointFault};
 use std::alloc::Global;
 use std::fmt;
 use std::net::{Ipv4Addr, Net, SocketAddr};
@@ -120,48 +122,82 @@ fn begin_at<N: Net, I: Source>(
     Server::new(net, alloc, host_of(alloc, text.as_str())?, address)
 }
 
-/// Serves without end.
-fn serve_on<R: Wait + Clock, W: Watcher>(
-    rt: &R,
-    server: &mut Server,
-    limits: &TimeLimits,
-    watcher: &mut W,
-) -> Result<(), Fault> {
-    let mut uptime = Uptime::new();
-    let mut moved = false;
-    for _ in rt.forever() {
-        moved = server.turn(patience(moved), watcher)?;
-        uptime.read(rt);
-        moved |= server.keep_time(uptime.millis(), moved, limits, watcher)?;
-        moved |= watcher.turned(server, uptime.millis());
-    }
-    unreachable!()
-}
-
-/// Tells the watcher that the server listens, and serves without end.
-fn serve_watched<R: Wait + Clock, W: Watcher>(
-    rt: &R,
-    server: &mut Server,
-    service: &Service,
-    address: SocketAddr,
-    watcher: &mut W,
-) -> Result<(), Fault> {
-    watcher.notice(&Notice::Listening(address))?;
-    serve_on(rt, server, &service.limits, watcher)
-}
-
-/// The same, and answers with metrics at this port.
-fn serve_metered<R: Net + Wait + Clock, W: Watcher>(
-    rt: &R,
+/// The application that is chosen, if one is. NotAnApplication if its URL is none; NoMemory if memory is refused.
+fn application_of(
     alloc: Global,
-    server: &mut Server,
-    service: &Service,
-    address: SocketAddr,
-    port: ServicePort,
-    watcher: &mut W,
-) -> Result<(), Fault> {
-    let mut metered = Metered::new(rt, alloc, server, port, watcher)?;
-    serve_watched(rt, server, service, address, &mut metered)
+    choice: &ApplicationChoice<'_>,
+) -> Result<Option<Application>, Fault> {
+    let Some(url) = &choice.url else {
+        return Ok(None);
+    };
+    match Endpoint::parse(alloc, url.as_str()) {
+        Ok(endpoint) => Ok(Some(Application::new(alloc, endpoint, choice.reply_time)?)),
+        Err(EndpointFault::Memory) => Err(Fault::NoMemory),
+        Err(why) => Err(Fault::NotAnApplication(why)),
+    }
+}
+
+/// What is served, and for whom it is decided.
+#[derive(Drop)]
+struct Serving {
+    server: Server,
+    application: Option<Application>,
+}
+
+impl Serving {
+    /// Does what there is to do with the application. Answers whether something was done.
+    fn consult<N: Net, W: Watcher>(&mut self, net: &N, watcher: &mut W) -> Result<bool, Fault> {
+        match &mut self.application {
+            Some(application) => application.turn(net, &mut self.server, watcher),
+            None => Ok(false),
+        }
+    }
+
+    /// Serves without end.
+    fn serve_on<R: Net + Wait + Clock, W: Watcher>(
+        &mut self,
+        rt: &R,
+        service: &Service,
+        watcher: &mut W,
+    ) -> Result<(), Fault> {
+        let mut uptime = Uptime::new();
+        let mut moved = false;
+        for _ in rt.forever() {
+            moved = self.server.turn(patience(moved), watcher)?;
+            uptime.read(rt);
+            let now = uptime.millis();
+            moved |= self.server.keep_time(now, moved, &service.limits, watcher)?;
+            moved |= self.consult(rt, watcher)?;
+            moved |= watcher.turned(&self.server, now);
+        }
+        unreachable!()
+    }
+
+    /// Tells the watcher that the server listens, and serves without end.
+    fn serve_watched<R: Net + Wait + Clock, W: Watcher>(
+        &mut self,
+        rt: &R,
+        service: &Service,
+        address: SocketAddr,
+        watcher: &mut W,
+    ) -> Result<(), Fault> {
+        watcher.notice(&Notice::Listening(address))?;
+        self.serve_on(rt, service, watcher)
+    }
+
+    /// The same, and answers with metrics at this port.
+    fn serve_metered<R: Net + Wait + Clock, W: Watcher>(
+        &mut self,
+        rt: &R,
+        alloc: Global,
+        service: &Service,
+        address: SocketAddr,
+        port: ServicePort,
+        watcher: &mut W,
+    ) -> Result<(), Fault> {
+        let mut metered = Metered::new(rt, alloc, &self.server, port, watcher)?;
+        self.serve_watched(rt, service, address, &mut metered)
+    }
 }
 
 /// Serves the panels of the input without end, with a log on `faults`.
@@ -169,14 +205,19 @@ fn serve<R: Net + Wait + Clock, I: Source, E: Sink>(
     rt: &R,
     alloc: Global,
     service: &Service,
+    choice: &ApplicationChoice<'_>,
     input: &mut I,
     faults: &mut E,
 ) -> Result<(), Fault> {
+    let application = application_of(alloc, choice)?;
     let address = SocketAddr::new(service.listen, service.port.get());
     if !service.listen.is_loopback() {
         let _ = faults.write_line(Exposed(address));
     }
-    let mut server = begin_at(rt, alloc, address, input)?;
+    let mut serving = Serving {
+        server: begin_at(rt, alloc, address, input)?,
+        application,
+    };
     let mut log = Log {
         clock: rt,
         alloc,
@@ -184,8 +225,8 @@ fn serve<R: Net + Wait + Clock, I: Source, E: Sink>(
         quiet: service.quiet,
     };
     match service.metrics {
-        Some(port) => serve_metered(rt, alloc, &mut server, service, address, port, &mut log),
-        None => serve_watched(rt, &mut server, service, address, &mut log),
+        Some(port) => serving.serve_metered(rt, alloc, service, address, port, &mut log),
+        None => serving.serve_watched(rt, service, address, &mut log),
     }
 }
 
@@ -194,16 +235,21 @@ fn serve<R: Net + Wait + Clock, I: Source, E: Sink>(
 /// a warning. The log says when the server listens; and of each connection that it begins, is refused an LU, is bound to one, and is
 /// over, with the reason. If the service has a port for metrics, that port of 127.0.0.1 answers with them.
 ///
+/// If an application is chosen, it is asked about the keys that panels ask about, and the log says why a question has no answer. Without
+/// one these keys are never answered.
+///
 /// Returns the exit status if it can't begin or go on: 1 if the input can't be read (as for [`run_show`](crate::run_show)), if it
-/// defines no panels, or if their LUs are no pool; 3 if memory is refused; 4 if the system refuses to listen, or to wait for sockets.
+/// defines no panels, or if their LUs are no pool; 2 if the application's URL is none; 3 if memory is refused; 4 if the system refuses
+/// to listen, or to wait for sockets.
 pub fn run_serve<R: Net + Wait + Clock, I: Source, E: Sink>(
     rt: &R,
     alloc: Global,
     service: &Service,
+    application: &ApplicationChoice<'_>,
     input: &mut I,
     faults: &mut E,
 ) -> u8 {
-    match serve(rt, alloc, service, input, faults) {
+    match serve(rt, alloc, service, application, input, faults) {
         Ok(()) => 0,
         Err(fault) => end_by(fault, faults),
     }

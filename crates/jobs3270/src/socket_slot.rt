@@ -22,7 +22,7 @@ fn is_held_back(waiting: usize) -> bool
 }
 
 /// Whether an error means only that the call did nothing this time.
-fn is_passing(kind: ErrorKind) -> bool
+pub(crate) fn is_passing(kind: ErrorKind) -> bool
     ensures { result ≡ is_passing kind }
 {
     matches!(kind, ErrorKind::WouldBlock | ErrorKind::Interrupted)
@@ -168,6 +168,13 @@ impl<S: RawRead + RawWrite + Drop> SocketSlot<S> {
     {
         self.socket = None;
         self.waiting = 0;
+    }
+
+    /// The socket, if there is a connection.
+    pub(crate) fn into_socket(self) -> Option<S>
+        ensures { result ≡ self.socket }
+    {
+        self.socket
     }
 
     /// Sets the number of bytes that wait to be sent.

@@ -3,9 +3,9 @@
 #![tactic(auto)]
 
 use jobs3270::{
-    CountedReader, CountedWriter, Fault, FileName, Job, Refusal, Service, Sink, WordFault, end_by,
-    refusal_of, refuse_file, refuse_words, run_check, run_help, run_host, run_script, run_selfrun,
-    run_serve, run_show, run_term, run_version, words,
+    ApplicationChoice, CountedReader, CountedWriter, Fault, FileName, Job, LiveOptions, Refusal, Service, Sink,
+    WordFault, end_by, refusal_of, refuse_file, refuse_words, run_check, run_help, run_host,
+    run_operate, run_script, run_selfrun, run_serve, run_show, run_term, run_version, words,
 };
 use std::env;
 use std::fs::File;
@@ -43,18 +43,27 @@ fn serve<R: Net + Wait + Clock>(
     waiting: &R,
     service: &Service,
     panels: Option<FileName<'_>>,
+    application: &ApplicationChoice<'_>,
 ) -> u8 {
     let alloc = rt.alloc();
     let mut faults = CountedWriter::new(rt.stderr());
     let Some(panels) = panels else {
         let mut input = CountedReader::new(rt.stdin());
-        return run_serve(waiting, alloc, service, &mut input, &mut faults);
+        return run_serve(
+            waiting,
+            alloc,
+            service,
+            application,
+            &mut input,
+            &mut faults,
+        );
     };
     match open(rt, panels.as_str()) {
         Ok(file) => run_serve(
             waiting,
             alloc,
             service,
+            application,
             &mut CountedReader::new(file),
             &mut faults,
         ),
@@ -81,6 +90,14 @@ fn check(rt: &HostRuntime, file: Option<FileName<'_>>) -> u8 {
     }
 }
 
+/// Is an operator's terminal at this tty.
+fn operate(rt: &HostRuntime, options: &LiveOptions) -> u8 {
+    let input = CountedReader::new(rt.stdin());
+    let out = CountedWriter::new(rt.stdout());
+    let mut faults = CountedWriter::new(rt.stderr());
+    run_operate(rt, rt.alloc(), options, input, out, &mut faults)
+}
+
 /// Does a job, and returns the exit status.
 fn do_job<R: Net + Wait + Clock>(rt: &HostRuntime, waiting: &R, job: Job<'_>) -> u8 {
     let alloc = rt.alloc();
@@ -95,10 +112,15 @@ fn do_job<R: Net + Wait + Clock>(rt: &HostRuntime, waiting: &R, job: Job<'_>) ->
         }
         Job::Check { file } => check(rt, file),
         Job::Host { port, turns } => run_host(rt, alloc, port, turns, &mut input, &mut faults),
-        Job::Serve { service, panels } => serve(rt, waiting, &service, panels),
+        Job::Serve {
+            service,
+            panels,
+            application,
+        } => serve(rt, waiting, &service, panels, &application),
         Job::Term { port, lu, model } => {
             run_term(rt, port, model, lu, &mut input, &mut out, &mut faults)
         }
+        Job::Operate(options) => operate(rt, &options),
         Job::Help(topic) => run_help(topic, &mut out, &mut faults),
         Job::Version => run_version(&mut out, &mut faults),
     }

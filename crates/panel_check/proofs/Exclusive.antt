@@ -1,6 +1,6 @@
 -- The readers accept a text or refuse it, and never both.
-use Rattle.std.proofs.Common.{◌≡◌, ◌∙◌, sym, subst, ℕ, List, None}
-use Rattle.std.proofs.lemmas.Option.{same_Some, none-some}
+use Rattle.std.proofs.Common.{◌≡◌, ◌∙◌, sym, subst, ℕ, List}
+use Rattle.std.proofs.lemmas.Option.{same_Some}
 use Rattle.lu_pool.specs.Reading.{HasFault}
 use Rattle.panels.specs.Defines.{DefinesOnce}
 use Rattle.panels.specs.Draft.{draft_of}

@@ -1,5 +1,5 @@
 -- What a report prints (our profile).
-use Rattle.std.specs.Prelude.{ℕ, ◌-◌, ◌==◌, Bool, true, false, List, [], ◌∷◌, ◌++◌, Option, Some, None, length, codes, decimal, string_bytes, if◌then◌else◌}
+use Rattle.std.specs.Prelude.{ℕ, ◌-◌, ◌==◌, List, [], ◌∷◌, ◌++◌, Option, Some, None, length, codes, decimal, string_bytes, if◌then◌else◌}
 use Rattle.panel_check.specs.declared.finding.Cause.{Cause}
 use Rattle.panel_check.specs.declared.finding.Finding.{Finding}
 use Rattle.panel_check.specs.declared.judge.Sizes.{Sizes}

@@ -5,11 +5,12 @@ use crate::lines::Lines;
 use crate::lus::check_lus;
 use crate::names::check_names;
 use crate::notes::Notes;
-use crate::rules::{FIELD_RULES, TOP_RULES, check_keys, panel_rules, text_rules};
+use crate::rules::check_keys;
 use crate::spot::Spot;
 use crate::survey::{PanelEntry, Survey};
 use crate::targets::check_targets;
 use panels::TreeFault;
+use panels::rules::{field_rules, panel_rules, text_rules, top_rules};
 use std::alloc::{AllocError, Global};
 use toml::Table;
 use toml::de::Error;
@@ -50,11 +51,11 @@ fn check_key_values(notes: &mut Notes, panel: &PanelEntry, index: usize) -> Resu
 
 /// Notes the faults of all keys and their values.
 fn check_shape(notes: &mut Notes, survey: &Survey) -> Result<(), AllocError> {
-    check_keys(notes, &TOP_RULES, survey.top, Spot::Top, "")?;
+    check_keys(notes, top_rules(), survey.top, Spot::Top, "")?;
     for (index, panel) in survey.panels.iter().enumerate() {
         check_keys(
             notes,
-            panel_rules(panel),
+            panel_rules(panel.table),
             panel.table,
             panel.spot,
             panel.place.as_str(),
@@ -66,7 +67,7 @@ fn check_shape(notes: &mut Notes, survey: &Survey) -> Result<(), AllocError> {
         for field in &panel.fields {
             check_keys(
                 notes,
-                &FIELD_RULES,
+                field_rules(),
                 field.table,
                 field.spot,
                 field.place.as_str(),

@@ -1,7 +1,7 @@
 //! The faults of the names of panels, fields and keys, and of how many tables there are.
 use crate::notes::Notes;
 use crate::spot::Spot;
-use crate::survey::{PanelEntry, Survey, text_at};
+use crate::survey::{PanelEntry, Survey, text_at, values_at};
 use crate::wording::{Nearest, quote};
 use panels::TreeFault;
 use std::alloc::AllocError;
@@ -78,24 +78,74 @@ fn check_key_names(notes: &mut Notes, panel: &PanelEntry, index: usize) -> Resul
         return Ok(());
     };
     for key in keys.keys() {
-        if KEY_NAMES.iter().any(|known| *known == key.as_str()) {
+        if !is_key_name(key.as_str()) {
+            let place = panel.place.as_str();
+            note_no_key(notes, Spot::Keys(index), key.as_str(), place, key.as_str())?;
+        }
+    }
+    Ok(())
+}
+
+fn is_key_name(name: &str) -> bool {
+    KEY_NAMES.iter().any(|known| *known == name)
+}
+
+/// Notes, at a key of a table, a name that is of no key of the keyboard.
+fn note_no_key(
+    notes: &mut Notes,
+    spot: Spot,
+    key: &str,
+    place: &str,
+    name: &str,
+) -> Result<(), AllocError> {
+    let quoted = quote(notes.alloc, name)?;
+    let mut message = format!(in notes.alloc; "no key is named {quoted}")?;
+    let mut nearest = Nearest::to(notes.alloc, name);
+    for known in &KEY_NAMES {
+        nearest.offer(*known)?;
+    }
+    nearest.put(&mut message)?;
+    notes.at_key(TreeFault::BadKey, spot, key, place, message)
+}
+
+/// Notes a key in a panel's `asks` that may not be there.
+fn check_asked(
+    notes: &mut Notes,
+    panel: &PanelEntry,
+    name: &str,
+    is_repeated: bool,
+) -> Result<(), AllocError> {
+    let (spot, place) = (panel.spot, panel.place.as_str());
+    if name == "clear" {
+        let message = String::from_str(notes.alloc, "'clear' leaves no fields to ask about")?;
+        notes.at_key(TreeFault::BadKey, spot, "asks", place, message)?;
+    } else if !is_key_name(name) {
+        note_no_key(notes, spot, "asks", place, name)?;
+    }
+    let quoted = quote(notes.alloc, name)?;
+    if is_repeated {
+        let message = format!(in notes.alloc; "key {quoted} is named twice")?;
+        notes.at_key(TreeFault::TwiceNamed, spot, "asks", place, message)?;
+    }
+    if panel.keys().is_some_and(|keys| keys.contains_key(name)) {
+        let message = format!(in notes.alloc; "key {quoted} leads to a panel in 'keys', too")?;
+        notes.at_key(TreeFault::TwiceNamed, spot, "asks", place, message)?;
+    }
+    Ok(())
+}
+
+/// Notes the keys in a panel's `asks` that may not be there.
+fn check_asks(notes: &mut Notes, panel: &PanelEntry) -> Result<(), AllocError> {
+    let mut seen = Vec::new(notes.alloc);
+    for value in values_at(panel.table, "asks") {
+        let Some(name) = value.as_str() else {
             continue;
+        };
+        let is_repeated = seen.contains(&name);
+        check_asked(notes, panel, name, is_repeated)?;
+        if is_key_name(name) && !is_repeated {
+            seen.push(name)?;
         }
-        let quoted = quote(notes.alloc, key.as_str())?;
-        let mut message = format!(in notes.alloc; "no key is named {quoted}")?;
-        let mut nearest = Nearest::to(notes.alloc, key.as_str());
-        for known in &KEY_NAMES {
-            nearest.offer(*known)?;
-        }
-        nearest.put(&mut message)?;
-        let spot = Spot::Keys(index);
-        notes.at_key(
-            TreeFault::BadKey,
-            spot,
-            key.as_str(),
-            panel.place.as_str(),
-            message,
-        )?;
     }
     Ok(())
 }
@@ -152,7 +202,8 @@ fn check_panel(
             )?;
         }
     }
-    check_key_names(notes, panel, index)
+    check_key_names(notes, panel, index)?;
+    check_asks(notes, panel)
 }
 
 /// Notes the faults of names, and of how many tables there are.

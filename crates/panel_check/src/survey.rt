@@ -21,7 +21,7 @@ pub(crate) fn is_set(table: &Table, key: &str) -> bool {
         .unwrap_or(false)
 }
 
-fn values_at<'a>(table: &'a Table, key: &str) -> &'a [Value] {
+pub(crate) fn values_at<'a>(table: &'a Table, key: &str) -> &'a [Value] {
     match table.get(key).and_then(|value| value.as_array()) {
         Some(values) => values.as_slice(),
         None => &[],

@@ -2,7 +2,7 @@
 use crate::finding::Cause;
 use crate::notes::Notes;
 use crate::spot::Spot;
-use crate::survey::{PanelEntry, Survey, text_at};
+use crate::survey::{PanelEntry, Survey, text_at, values_at};
 use crate::wording::{Nearest, quote};
 use panels::TreeFault;
 use std::alloc::AllocError;
@@ -194,9 +194,19 @@ fn reached(notes: &Notes, survey: &Survey, start: usize) -> Result<Vec<usize>, A
     Ok(found)
 }
 
-/// Warns of the panels that no keys lead to.
+/// Whether the panel at an index asks an application.
+fn asks_at(survey: &Survey, index: usize) -> bool {
+    let panel = survey.panels.get(index);
+    panel.is_some_and(|panel| !values_at(panel.table, "asks").is_empty())
+}
+
+/// Warns of the panels that no keys lead to, unless an application may lead there.
 fn warn_of_unreached(notes: &mut Notes, survey: &Survey, start: usize) -> Result<(), AllocError> {
     let found = reached(notes, survey, start)?;
+    // An application may show any panel.
+    if found.iter().any(|index| asks_at(survey, *index)) {
+        return Ok(());
+    }
     for (index, panel) in survey.panels.iter().enumerate() {
         if found.contains(&index) {
             continue;

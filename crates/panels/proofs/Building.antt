@@ -2,7 +2,7 @@
 use Rattle.std.proofs.Common.{◌≡◌, ℕ, ◌+◌, ◌<◌, ◌≤◌, map, take, drop, List, [], ◌∷◌, ◌++◌, length, Some, refl, ap, get_or, subst, sym, ◌∙◌, inl, inr, arith, length-append}
 use Rattle.std.specs.Prelude.{slice_get, ◌⊎◌}
 use Rattle.std.proofs.Math.Seq.{get_or-append_seam}
-use Rattle.std.proofs.lemmas.List.{get_or_append_left, at_drop_all, append-nil, get_or-take, length-take-le}
+use Rattle.std.proofs.lemmas.List.{get_or_append_left, at_drop_all, append-nil, append_assoc, drop_more, get_or-take, length-take-le}
 use Rattle.std.proofs.lemmas.Option.{slice_get_within, get_or_from_slice_get, slice_get-get_or, slice_get_read, same_Some}
 use Rattle.panels.specs.Defines.{IsEachOf}
 
@@ -64,3 +64,9 @@ read_below read xs i x same below is = slice_get_read xs (length xs) i x refl be
 -- what is done is the whole, where nothing is left
 pub all_done : {X Y : Type 0} (f : X → Y) (whole done : List Y) (xs : List X) (k : ℕ) → length xs ≤ k → whole ≡ done ++ map f (drop k xs) → done ≡ whole
 all_done f whole done xs k past is = sym (is ∙ at_drop_all (λ rest. done ++ map f rest) xs k past ∙ append-nil done)
+
+-- so is a list of answers, one for each of the things that are left
+pub answered_more : {X Y : Type 0} (f : X → Y) (xs : List X) (ys : List Y) (k : ℕ) (d : X) (y : Y) → k < length xs → y ≡ f (get_or xs k d)
+    → ys ++ map f (drop k xs) ≡ (ys ++ y ∷ []) ++ map f (drop (k + 1) xs)
+answered_more f xs ys k d y low is =
+    ap (λ rest. ys ++ map f rest) (drop_more xs k d low) ∙ ap (λ first. ys ++ first ∷ map f (drop (k + 1) xs)) (sym is) ∙ sym (append_assoc ys (y ∷ []) (map f (drop (k + 1) xs)))

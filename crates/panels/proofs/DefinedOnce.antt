@@ -26,6 +26,7 @@ use Rattle.panels.specs.Keys.{IsKey, name_of_key}
 use Rattle.panels.specs.Panel.{PanelParts, Panels, target_at, target_of}
 use Rattle.panels.specs.Passes.{IsFaultless}
 use Rattle.panels.proofs.Faultless.{draft_of_each, named_is_part, no_fault}
+use Rattle.panels.proofs.Naming.{twice_named}
 
 -- ---- lists
 
@@ -48,7 +49,8 @@ one_each IsOf drafts xs ys are also one =
 
 twice : (draft : DraftText) (name : List ℕ) (earlier later : Part) → IsFaultless draft → IsNamedBefore earlier later → name_at earlier draft.panels ≡ Some name
     → name_at later draft.panels ≡ Some name → ⊥
-twice draft name earlier later clean before is also = no_fault draft later fault.TwiceNamed clean (named_is_part later draft.panels name also) (earlier, name, before, is, also)
+twice draft name earlier later clean before is also = no_fault draft later fault.TwiceNamed clean (named_is_part later draft.panels name also)
+    (twice_named later draft.panels (earlier, name, before, is, also))
 
 one_panel_named : (draft : DraftText) (name : List ℕ) (p q : ℕ) → IsFaultless draft → IsPanelNamed draft.panels name p → IsPanelNamed draft.panels name q → p ≡ q
 one_panel_named draft name p q clean is also =
@@ -218,9 +220,9 @@ one_list_of_targets draft panel p one other clean is also =
 
 -- ---- panels
 
-abbrev panel_parts : Model → Option ℕ → List TextItem → List FieldItem → ℕ → List (Option ℕ) → PanelParts
-panel_parts model otherwise texts fields cursor targets =
-    record { model = model; otherwise = otherwise; texts = texts; fields = fields; cursor = cursor; targets = targets }
+abbrev panel_parts : List ℕ → Model → Option ℕ → List TextItem → List FieldItem → ℕ → List (Option ℕ) → List Bool → PanelParts
+panel_parts name model otherwise texts fields cursor targets asked =
+    record { name = name; model = model; otherwise = otherwise; texts = texts; fields = fields; cursor = cursor; targets = targets; asked = asked }
 
 one_panel : (draft : DraftText) (panel : DraftPanel) (p : ℕ) (one other : PanelParts) → IsFaultless draft → slice_get draft.panels p ≡ Some panel → IsPanelOf draft.panels p panel one
     → IsPanelOf draft.panels p panel other → one ≡ other
@@ -235,12 +237,14 @@ one_panel draft panel p one other clean there is also =
     one_cursor shape draft panel p panel.cursor one.fields one.cursor other.cursor clean there is.fields is.cursor
     (subst (λ list. IsCursorBy panel.cursor list other.cursor) (sym fields) also.cursor) in
     let otherwise : one.otherwise ≡ other.otherwise = one_otherwise draft (otherwise_of panel) one.otherwise other.otherwise clean is.otherwise also.otherwise in
-    ap (λ model. panel_parts model one.otherwise one.texts one.fields one.cursor one.targets) (is.model ∙ sym also.model)
-    ∙ ap (λ place. panel_parts other.model place one.texts one.fields one.cursor one.targets) otherwise
-    ∙ ap (λ list. panel_parts other.model other.otherwise list one.fields one.cursor one.targets) texts
-    ∙ ap (λ list. panel_parts other.model other.otherwise other.texts list one.cursor one.targets) fields
-    ∙ ap (λ place. panel_parts other.model other.otherwise other.texts other.fields place one.targets) cursor
-    ∙ ap (λ list. panel_parts other.model other.otherwise other.texts other.fields other.cursor list) (one_list_of_targets draft panel p one other clean is also)
+    ap (λ name. panel_parts name one.model one.otherwise one.texts one.fields one.cursor one.targets one.asked) (is.name ∙ sym also.name)
+    ∙ ap (λ model. panel_parts other.name model one.otherwise one.texts one.fields one.cursor one.targets one.asked) (is.model ∙ sym also.model)
+    ∙ ap (λ place. panel_parts other.name other.model place one.texts one.fields one.cursor one.targets one.asked) otherwise
+    ∙ ap (λ list. panel_parts other.name other.model other.otherwise list one.fields one.cursor one.targets one.asked) texts
+    ∙ ap (λ list. panel_parts other.name other.model other.otherwise other.texts list one.cursor one.targets one.asked) fields
+    ∙ ap (λ place. panel_parts other.name other.model other.otherwise other.texts other.fields place one.targets one.asked) cursor
+    ∙ ap (λ list. panel_parts other.name other.model other.otherwise other.texts other.fields other.cursor list one.asked) (one_list_of_targets draft panel p one other clean is also)
+    ∙ ap (panel_parts other.name other.model other.otherwise other.texts other.fields other.cursor other.targets) (is.asked ∙ sym also.asked)
 
 abbrev panel_set : ℕ → List (List ℕ) → List PanelParts → Panels
 panel_set start lus panels = record { start = start; lus = lus; panels = panels }

@@ -31,7 +31,7 @@ sides_range first size cell low high = grind (arith, nat_tests)
 given : (n : ℕ) (b : Bool) → b ≡ true → cond b (Some n) None ≡ Some n
 given n b is = rw is refl
 
-distance_there : (extent : Extent) (cell : ℕ) → IsCellOf extent cell → distance_in extent cell ≡ Some (cell + 1 - extent.first)
+pub distance_there : (extent : Extent) (cell : ℕ) → IsCellOf extent cell → distance_in extent cell ≡ Some (cell + 1 - extent.first)
 distance_there extent cell has =
     given (cell + 1 - extent.first) (is_in_range extent.first (extent.first + extent.length) (cell + 1)) (sides_range extent.first extent.length cell has.0 has.1)
 
@@ -52,7 +52,7 @@ three : (i j : ℕ) → (i < j) ⊎ ((j < i) ⊎ (i ≡ j))
 three i j = grind arith
 
 -- no other field has it
-only_field : (panel : PanelParts) (i j cell : ℕ) (field other : Field) → HasItemsApart panel → slice_get panel.fields i ≡ Some field → slice_get panel.fields j ≡ Some other
+pub only_field : (panel : PanelParts) (i j cell : ℕ) (field other : Field) → HasItemsApart panel → slice_get panel.fields i ≡ Some field → slice_get panel.fields j ≡ Some other
     → IsCellOf field.extent cell → IsCellOf other.extent cell → other ≡ field
 only_field panel i j cell field other apart at_i at_j has other_has =
     elim (three i j) [
@@ -65,7 +65,7 @@ only_field panel i j cell field other apart at_i at_j has other_has =
     ]
 
 -- and no text
-no_text : (panel : PanelParts) (values : Values) (i cell : ℕ) (field : Field) (P : Want → Type 0) → HasItemsApart panel → slice_get panel.fields i ≡ Some field → IsCellOf field.extent cell
+pub no_text : (panel : PanelParts) (values : Values) (i cell : ℕ) (field : Field) (P : Want → Type 0) → HasItemsApart panel → slice_get panel.fields i ≡ Some field → IsCellOf field.extent cell
     → Answers P (first_some (text_cell values cell) panel.texts)
 no_text panel values i cell field P apart at_i has =
     first_answers P (text_cell values cell) panel.texts (λ j text at_j w is.
@@ -100,13 +100,13 @@ wanted_of_field panel values message i cell field apart at_i has =
     (no_text panel values i cell field (λ w. w ≡ cell_of_field values message cell field) apart at_i has)
     (left_answers (λ w. w ≡ cell_of_field values message cell field) fields behind there (field_answers panel values message i cell field apart at_i has)))
 
-kept_first : (attr : Attr) (distance : ℕ) → distance ≡ 0 → kept_cell attr distance ≡ want.Attr attr
+pub kept_first : (attr : Attr) (distance : ℕ) → distance ≡ 0 → kept_cell attr distance ≡ want.Attr attr
 kept_first attr distance is = rw is refl
 
 kept_later : (attr : Attr) (b : Bool) → b ≡ false → cond b (want.Attr attr) want.Keep ≡ want.Keep
 kept_later attr b is = rw is refl
 
-some_distance : (first cell : ℕ) → first ≤ cell → ((cell + 1 - first) == 0) ≡ false
+pub some_distance : (first cell : ℕ) → first ≤ cell → ((cell + 1 - first) == 0) ≡ false
 some_distance first cell below = grind (arith, nat_tests)
 
 -- ---- the cell behind it
@@ -118,7 +118,7 @@ split : (a b : ℕ) → (a ≤ b) ⊎ (b < a)
 split a b = grind arith
 
 -- an item that has it, and not the cell before, starts there
-starts : (extent : Extent) (cell : ℕ) → 1 ≤ cell → IsCellOf extent cell → ¬ IsCellOf extent (cell - 1) → cell + 1 - extent.first ≡ 0
+pub starts : (extent : Extent) (cell : ℕ) → 1 ≤ cell → IsCellOf extent cell → ¬ IsCellOf extent (cell - 1) → cell + 1 - extent.first ≡ 0
 starts extent cell some has not_before =
     let low = has.0 in
     let high = has.1 in
@@ -130,15 +130,15 @@ starts extent cell some has not_before =
 past_end : (first size : ℕ) → first + size + 1 ≤ first + size → ⊥
 past_end first size is = omega arith
 
-some_behind : (extent : Extent) → 1 ≤ extent.first + extent.length
+pub some_behind : (extent : Extent) → 1 ≤ extent.first + extent.length
 some_behind extent =
     let some = extent.has_cells in
     omega arith
 
-item_first : (attr : Attr) (content : List ℕ) (distance : ℕ) → distance ≡ 0 → item_cell attr content distance ≡ want.Attr attr
+pub item_first : (attr : Attr) (content : List ℕ) (distance : ℕ) → distance ≡ 0 → item_cell attr content distance ≡ want.Attr attr
 item_first attr content distance is = rw is refl
 
-texts_behind : (panel : PanelParts) (values : Values) (i : ℕ) (field : Field) → HasItemsApart panel → slice_get panel.fields i ≡ Some field
+pub texts_behind : (panel : PanelParts) (values : Values) (i : ℕ) (field : Field) → HasItemsApart panel → slice_get panel.fields i ≡ Some field
     → Answers IsAttribute (first_some (text_cell values (field.extent.first + field.extent.length)) panel.texts)
 texts_behind panel values i field apart at_i =
     first_answers IsAttribute (text_cell values (field.extent.first + field.extent.length)) panel.texts (λ j text at_j w is.
@@ -146,7 +146,7 @@ texts_behind panel values i field apart at_i =
     let first = starts text.extent (field.extent.first + field.extent.length) (some_behind field.extent) has (λ before. apart.both j i text field at_j at_i _ before (last_cell field.extent)) in
     (autoskip_attr text.bright, w_is ∙ item_first (autoskip_attr text.bright) (shown values text.content) _ first))
 
-other_field : (panel : PanelParts) (i j : ℕ) (field other : Field) → HasItemsApart panel → slice_get panel.fields i ≡ Some field → slice_get panel.fields j ≡ Some other
+pub other_field : (panel : PanelParts) (i j : ℕ) (field other : Field) → HasItemsApart panel → slice_get panel.fields i ≡ Some field → slice_get panel.fields j ≡ Some other
     → IsCellOf other.extent (field.extent.first + field.extent.length) → ¬ IsCellOf other.extent (field.extent.first + field.extent.length - 1)
 other_field panel i j field other apart at_i at_j has = λ before.
     let same = only_field panel i j (field.extent.first + field.extent.length - 1) field other apart at_i at_j (last_cell field.extent) before in
@@ -163,7 +163,7 @@ fields_behind panel values message i field apart at_i =
 not_above : (a b : ℕ) → nat_lt a b ≡ false → a ≤ b → a - b ≡ 0
 not_above a b is most = grind (arith, nat_tests)
 
-message_behind : (start : ℕ) (panel : PanelParts) (message : Message) (field : Field) → field.extent.first + field.extent.length ≤ start
+pub message_behind : (start : ℕ) (panel : PanelParts) (message : Message) (field : Field) → field.extent.first + field.extent.length ≤ start
     → Answers IsAttribute (message_cell start panel.fields message (field.extent.first + field.extent.length))
 message_behind start panel message field above = λ w is.
     let cell = field.extent.first + field.extent.length in
@@ -178,7 +178,7 @@ stopper_answers cell fields =
 same_number : (a : ℕ) → (a == a) ≡ true
 same_number a = grind (arith, nat_tests)
 
-stopper_is_some : (panel : PanelParts) (i : ℕ) (field : Field) → slice_get panel.fields i ≡ Some field
+pub stopper_is_some : (panel : PanelParts) (i : ℕ) (field : Field) → slice_get panel.fields i ≡ Some field
     → is_some (first_some (stopper_cell (field.extent.first + field.extent.length)) panel.fields) ≡ true
 stopper_is_some panel i field at_i =
     first_is_some (stopper_cell (field.extent.first + field.extent.length)) panel.fields i field at_i
@@ -187,7 +187,7 @@ stopper_is_some panel i field at_i =
 before_end : (cell end start cells : ℕ) → cell ≤ end → end ≤ start → start < cells → cell < cells
 before_end cell end start cells below above before = omega arith
 
-field_above : (panel : PanelParts) (i : ℕ) (field : Field) → IsLaidOut panel → slice_get panel.fields i ≡ Some field
+pub field_above : (panel : PanelParts) (i : ℕ) (field : Field) → IsLaidOut panel → slice_get panel.fields i ≡ Some field
     → field.extent.first + field.extent.length ≤ message_start (shape_of panel)
 field_above panel i field laid at_i = all_at (λ (field : Field). IsAbove (shape_of panel) field.extent) panel.fields i field laid.fields at_i
 
@@ -207,31 +207,31 @@ wanted_behind panel values message i field apart laid at_i =
 
 -- ---- so it is kept whole
 
-on_screen : (panel : PanelParts) (i : ℕ) (field : Field) → IsLaidOut panel → slice_get panel.fields i ≡ Some field → (cell : ℕ) → cell ≤ field.extent.first + field.extent.length
+pub on_screen : (panel : PanelParts) (i : ℕ) (field : Field) → IsLaidOut panel → slice_get panel.fields i ≡ Some field → (cell : ℕ) → cell ≤ field.extent.first + field.extent.length
     → cell < cells_in (shape_of panel)
 on_screen panel i field laid at_i cell below = before_end cell _ _ _ below (field_above panel i field laid at_i) (start_before_end (shape_of panel) (cells_some panel.model))
 
-first_has : (extent : Extent) → IsCellOf extent (extent.first - 1)
+pub first_has : (extent : Extent) → IsCellOf extent (extent.first - 1)
 first_has extent =
     let some = extent.has_cells in
     let after = extent.after_attribute in
     (omega arith, omega arith)
 
-first_distance : (extent : Extent) → extent.first - 1 + 1 - extent.first ≡ 0
+pub first_distance : (extent : Extent) → extent.first - 1 + 1 - extent.first ≡ 0
 first_distance extent =
     let after = extent.after_attribute in
     omega arith
 
-character_has : (first size cell : ℕ) → first ≤ cell → cell < first + size → (first ≤ cell + 1) × (cell + 1 ≤ first + size)
+pub character_has : (first size cell : ℕ) → first ≤ cell → cell < first + size → (first ≤ cell + 1) × (cell + 1 ≤ first + size)
 character_has first size cell low high = (omega arith, omega arith)
 
-at_most : (first size : ℕ) → first - 1 ≤ first + size
+pub at_most : (first size : ℕ) → first - 1 ≤ first + size
 at_most first size = omega arith
 
-at_end : (n : ℕ) → n ≤ n
+pub at_end : (n : ℕ) → n ≤ n
 at_end n = omega arith
 
-less_at_most : (a b : ℕ) → a < b → a ≤ b
+pub less_at_most : (a b : ℕ) → a < b → a ≤ b
 less_at_most a b less = omega arith
 
 pub fields_kept_whole : FieldsAreKeptWhole

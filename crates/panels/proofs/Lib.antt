@@ -18,6 +18,8 @@ pub mod Screens
 pub mod MessageRow
 pub mod Answering
 pub mod KeptFields
+pub mod FieldsWanted
 pub mod NothingElseKept
 pub mod DefinedOnce
 pub mod Setting
+pub mod MessageTexts

@@ -1,15 +1,17 @@
 -- Names that are there, twice, or not.
-use Rattle.std.proofs.Common.{◌≡◌, ◌<◌, ℕ, zero, suc, List, [], ◌∷◌, length, map, get_or, Option, Some, None, Bool, true, false, not, refl, sym, ◌∙◌, subst, inl, inr, arith}
-use Rattle.std.specs.Prelude.{◌⊎◌, ◌≢◌, IsTrue, MatchOption, is_some, slice_get, option_map, Contains}
+use Rattle.std.proofs.Common.{◌≡◌, ◌<◌, ◌+◌, ◌-◌, ◌||◌, ℕ, zero, suc, List, [], ◌∷◌, length, map, drop, take, get_or, Bor, Option, Some, None, Bool, true, false, not, refl, ap, sym, ◌∙◌, subst, inl, inr, arith}
+use Rattle.std.specs.List.{list_any}
+use Rattle.std.specs.Prelude.{bytes_eq, ◌⊎◌, ◌≢◌, IsTrue, MatchOption, is_some, slice_get, option_map, Contains}
 use Rattle.std.specs.Option.{option_and_then, option_map_or}
 use Rattle.std.proofs.lemmas.Bool.{false≢true}
+use Rattle.std.proofs.lemmas.List.{drop_more, take_rest}
 use Rattle.std.proofs.lemmas.Option.{none-some, same_Some, slice_get_within}
 use Rattle.panels.specs.declared.fault.TreeFault.{TreeFault}
 use Rattle.panels.specs.declared.fault.TreeFault.TheVariants.{BadName, NoTarget}
 use Rattle.panels.specs.declared.fault.Part.{Part}
 use Rattle.panels.specs.declared.fault.Part.TheVariants.{Top, Panel, Text, Field, Keys}
 use Rattle.panels.specs.Draft.{DraftItem, DraftPanel, DraftText}
-use Rattle.panels.specs.Faults.{HasFault, HasLostCursor, HasLostOtherwise, has_bad_name, IsNamedBefore, IsTwiceNamed, NamesPanel, NamesField, name_at}
+use Rattle.panels.specs.Faults.{HasFault, HasLostCursor, HasLostOtherwise, asks_twice, has_bad_name, IsNamedBefore, IsNamedTwice, IsTwiceNamed, NamesPanel, NamesField, name_at}
 use Rattle.panels.specs.Index.{NameIndex, part_named, IsLater, IsIndexTo}
 use Rattle.panels.specs.Items.{is_name}
 use Rattle.panels.specs.Walk.{is_letter_of}
@@ -68,7 +70,7 @@ or_before a b c rel second =
     ]
 
 twice_later : (panels : List DraftPanel) (part end : Part) (index : NameIndex) (o : Option (List ℕ)) → name_at part panels ≡ o → IsIndexTo panels end index
-    → ((name : List ℕ) → name_at part panels ≡ Some name → IsNamedBefore part end) → IsLater index o part → IsTwiceNamed part panels
+    → ((name : List ℕ) → name_at part panels ≡ Some name → IsNamedBefore part end) → IsLater index o part → IsNamedTwice part panels
 twice_later panels part end index None own is ends later = absurd later
 twice_later panels part end index (Some name) own is ends (first, found, differs) =
     let known = is.first name part own (ends name own) in
@@ -79,7 +81,7 @@ twice_later panels part end index (Some name) own is ends (first, found, differs
     ]
 
 later_twice : (panels : List DraftPanel) (part end : Part) (index : NameIndex) → IsIndexTo panels end index
-    → ((name : List ℕ) → name_at part panels ≡ Some name → IsNamedBefore part end) → IsTwiceNamed part panels → IsLater index (name_at part panels) part
+    → ((name : List ℕ) → name_at part panels ≡ Some name → IsNamedBefore part end) → IsNamedTwice part panels → IsLater index (name_at part panels) part
 later_twice panels part end index is ends (earlier, name, before, has, own) =
     let known = is.first name earlier has (before_through earlier part end before (ends name own)) in
     subst (λ o. IsLater index o part) (sym own) (known.0, known.1, not_itself known.0 part (or_before known.0 earlier part known.2 before))
@@ -104,20 +106,28 @@ field_ends panels p i name has =
     inl (slice_get_within panels p panel there)
 
 is_twice : (panels : List DraftPanel) (part end : Part) (index : NameIndex) → IsIndexTo panels end index → ((name : List ℕ) → name_at part panels ≡ Some name → IsNamedBefore part end)
-    → (IsLater index (name_at part panels) part → IsTwiceNamed part panels) × (IsTwiceNamed part panels → IsLater index (name_at part panels) part)
+    → (IsLater index (name_at part panels) part → IsNamedTwice part panels) × (IsNamedTwice part panels → IsLater index (name_at part panels) part)
 is_twice panels part end index is ends = (twice_later panels part end index _ refl is ends, later_twice panels part end index is ends)
 
-pub panel_is_twice : (panels : List DraftPanel) (part : Part) (p : ℕ) (index : NameIndex) → part ≡ Panel p → IsIndexTo panels (Panel (length panels)) index
-    → (IsLater index (name_at part panels) part → IsTwiceNamed part panels) × (IsTwiceNamed part panels → IsLater index (name_at part panels) part)
-panel_is_twice panels part p index same is =
-    is_twice panels part (Panel (length panels)) index is
-    (subst (λ q. (name : List ℕ) → name_at q panels ≡ Some name → IsNamedBefore q (Panel (length panels))) (sym same) (λ name has. panel_ends panels p name has))
+-- a part that has a name is named twice so
+pub twice_named : (part : Part) (panels : List DraftPanel) → IsNamedTwice part panels → IsTwiceNamed part panels
+twice_named Top panels is = is
+twice_named (Panel p) panels is = is
+twice_named (Text p i) panels is = is
+twice_named (Field p i) panels is = is
+twice_named (Keys p) panels (earlier, name, before, has, own) = absurd (none-some name own)
 
-pub field_is_twice : (panels : List DraftPanel) (part : Part) (p i : ℕ) (index : NameIndex) → part ≡ Field p i → IsIndexTo panels (Field (length panels) 0) index
-    → (IsLater index (name_at part panels) part → IsTwiceNamed part panels) × (IsTwiceNamed part panels → IsLater index (name_at part panels) part)
+abbrev pub IsTwiceBy : List DraftPanel → NameIndex → Part → Type 0
+IsTwiceBy panels index part =
+    (IsLater index (name_at part panels) part → IsTwiceNamed part panels) × (IsTwiceNamed part panels → IsLater index (name_at part panels) part)
+
+pub panel_is_twice : (panels : List DraftPanel) (part : Part) (p : ℕ) (index : NameIndex) → part ≡ Panel p → IsIndexTo panels (Panel (length panels)) index → IsTwiceBy panels index part
+panel_is_twice panels part p index same is =
+    subst (IsTwiceBy panels index) (sym same) (is_twice panels (Panel p) (Panel (length panels)) index is (λ name has. panel_ends panels p name has))
+
+pub field_is_twice : (panels : List DraftPanel) (part : Part) (p i : ℕ) (index : NameIndex) → part ≡ Field p i → IsIndexTo panels (Field (length panels) 0) index → IsTwiceBy panels index part
 field_is_twice panels part p i index same is =
-    is_twice panels part (Field (length panels) 0) index is
-    (subst (λ q. (name : List ℕ) → name_at q panels ≡ Some name → IsNamedBefore q (Field (length panels) 0)) (sym same) (λ name has. field_ends panels p i name has))
+    subst (IsTwiceBy panels index) (sym same) (is_twice panels (Field p i) (Field (length panels) 0) index is (λ name has. field_ends panels p i name has))
 
 -- a name that the index doesn't have is of none
 pub no_panel : (panels : List DraftPanel) (index : NameIndex) (name : List ℕ) → IsIndexTo panels (Panel (length panels)) index → part_named index name ≡ None → ¬ NamesPanel name panels
@@ -215,3 +225,12 @@ bad_name draft fault part r of_fault tells =
 pub none_named : (N : Type 0) (F : ℕ → Type 0) (o : Option ℕ) → MatchOption o N F → is_some o ≡ false → N
 none_named N F None is none = is
 none_named N F (Some p) is none = absurd (false≢true (sym none))
+
+-- whether a name stands twice from one on
+pub twice_from : (names : List (Bor (List ℕ))) (k : ℕ) (d : Bor (List ℕ)) (among : Bool) → k < length names
+    → among ≡ list_any (bytes_eq (get_or names k d).now) (map (λ name. name.now) (take (length names - (k + 1)) (drop (k + 1) names)))
+    → asks_twice (map (λ name. name.now) (drop k names)) ≡ (among || asks_twice (map (λ name. name.now) (drop (k + 1) names)))
+twice_from names k d among low is =
+    let rest = asks_twice (map (λ name. name.now) (drop (k + 1) names)) in
+    let whole = ap (λ list. list_any (bytes_eq (get_or names k d).now) (map (λ name. name.now) list)) (take_rest names (k + 1)) in
+    ap (λ rest. asks_twice (map (λ name. name.now) rest)) (drop_more names k d low) ∙ ap (λ b. b || rest) (sym (is ∙ whole))

@@ -13,13 +13,13 @@ use Rattle.datastream.specs.Wanted.{WantedScreen}
 use Rattle.datastream.specs.declared.wanted.Want.{Want}
 use Rattle.datastream.specs.declared.wanted.Want.TheVariants as want
 use Rattle.panels.specs.declared.message.Message.{Message}
-use Rattle.panels.specs.declared.message.Message.TheVariants.{Fresh, Plain, KeyNotActive, Required}
+use Rattle.panels.specs.declared.message.Message.TheVariants.{Fresh, Plain, KeyNotActive, Required, Told}
 use Rattle.panels.specs.declared.panel.Field.{Field}
 use Rattle.panels.specs.declared.panel.TextItem.{TextItem}
 use Rattle.panels.specs.declared.extent.Extent.{Extent}
 use Rattle.panels.specs.Size.{message_start}
 use Rattle.panels.specs.Panel.{PanelParts, IsAbove, IsLaidOut, shape_of}
-use Rattle.panels.specs.Screen.{Values, item_cell, autoskip_attr, field_numbered, first_some, text_cell, field_cell, stopper_cell, coded, message_text, wanted_cell, wanted_cursor}
+use Rattle.panels.specs.Screen.{Values, item_cell, autoskip_attr, field_numbered, first_some, text_cell, field_cell, stopper_cell, coded, message_text, field_meant, wanted_cell, wanted_cursor}
 use Rattle.panels.specs.Put.{ArePut, IsPut, FitsOn, field_spoken, row_cell, text_with}
 use Rattle.panels.proofs.Placing.{cells_some, start_before_end}
 
@@ -148,12 +148,7 @@ text_is fields Fresh = refl
 text_is fields Plain = refl
 text_is fields KeyNotActive = refl
 text_is fields (Required number) = refl
-
-pub cursor_is : (panel : PanelParts) (message : Message) → option_map_or (λ field. field.extent.first) (field_spoken panel.fields message) panel.cursor ≡ wanted_cursor panel message
-cursor_is panel Fresh = refl
-cursor_is panel Plain = refl
-cursor_is panel KeyNotActive = refl
-cursor_is panel (Required number) = refl
+text_is fields (Told text cursor) = refl
 
 if_found : {X : Type 0} (P : X → Type 0) (b : Bool) (x : X) (rest : Option X) → P x → IfSome rest P → IfSome (cond b (Some x) rest) P
 if_found P true x rest first more = first
@@ -172,14 +167,15 @@ place_on : (shape : Shape) (o : Option Field) (cursor : ℕ) → cursor < cells_
 place_on shape None cursor within before above = within
 place_on shape (Some field) cursor within before above = first_on field.extent (message_start shape) (cells_in shape) above before
 
+found_above : (panel : PanelParts) (number : Option ℕ) → IsLaidOut panel → IfSome (option_and_then (λ n. field_numbered n panel.fields) number) (λ field. IsAbove (shape_of panel) field.extent)
+found_above panel None laid = tt
+found_above panel (Some number) laid = found_has (λ (field : Field). IsAbove (shape_of panel) field.extent) (λ field. field.number == number) panel.fields laid.fields
+
 -- the cursor is on the screen
 pub cursor_within : (panel : PanelParts) (message : Message) → IsLaidOut panel → wanted_cursor panel message < cells_in (shape_of panel)
-cursor_within panel Fresh laid = laid.cursor
-cursor_within panel Plain laid = laid.cursor
-cursor_within panel KeyNotActive laid = laid.cursor
-cursor_within panel (Required number) laid =
-    place_on (shape_of panel) (field_numbered number panel.fields) panel.cursor laid.cursor (start_before_end (shape_of panel) (cells_some panel.model))
-    (found_has (λ (field : Field). IsAbove (shape_of panel) field.extent) (λ field. field.number == number) panel.fields laid.fields)
+cursor_within panel message laid =
+    place_on (shape_of panel) (option_and_then (λ n. field_numbered n panel.fields) (field_meant message)) panel.cursor laid.cursor (start_before_end (shape_of panel) (cells_some panel.model))
+    (found_above panel (field_meant message) laid)
 
 -- what `get` answers of a text
 pub got : (text : List ℕ) (i : ℕ) (found : Option (Bor ℕ)) → is_some found ≡ nat_lt i (length text) → IfSome found (λ byte. byte.now ≡ slice_index_or text i byte.now)

@@ -9,8 +9,8 @@ use Rattle.toml.specs.View.{view, items_view, members_view}
 use Rattle.toml.specs.declared.value.Value.{Value}
 use Rattle.panels.specs.Tree.{keys}
 use Rattle.panels.specs.Shape.{all_items, all_values, is_lacking, is_of_kind, is_table, is_text}
-use Rattle.panels.specs.declared.rules.Kind.{Kind}
-use Rattle.panels.specs.declared.rules.Kind.TheVariants.{Tables, Texts}
+use Rattle.panels.specs.declared.rules.KeyKind.{KeyKind}
+use Rattle.panels.specs.declared.rules.KeyKind.TheVariants.{Tables, Texts}
 
 pub all_items_view : (test : Data → Bool) (values : List Value) → list_all (λ value. test (view value)) values ≡ all_items test (items_view values)
 all_items_view test [] = refl
@@ -33,14 +33,14 @@ no_items_left [] = refl
 no_items_left (value ∷ values) = grind (arith, nat_tests)
 
 -- an array has no table where it has nothing
-pub lacks_tables : (kind : Kind) (value : Option Data) (values : List Value) → kind ≡ Tables → value ≡ Some (array (items_view values)) → (length values == 0) ≡ is_lacking kind value
+pub lacks_tables : (kind : KeyKind) (value : Option Data) (values : List Value) → kind ≡ Tables → value ≡ Some (array (items_view values)) → (length values == 0) ≡ is_lacking kind value
 lacks_tables kind value values of_tables is = rw (of_tables, is) (no_items_left values)
 
 -- the values tell whether an array is one of texts, or of tables
-pub fits_texts : (kind : Kind) (value : Data) (values : List Value) → kind ≡ Texts → value ≡ array (items_view values) → list_all (λ value. is_text (view value)) values ≡ is_of_kind kind value
+pub fits_texts : (kind : KeyKind) (value : Data) (values : List Value) → kind ≡ Texts → value ≡ array (items_view values) → list_all (λ value. is_text (view value)) values ≡ is_of_kind kind value
 fits_texts kind value values of_texts is = rw (of_texts, is) (all_items_view is_text values)
 
-pub fits_tables : (kind : Kind) (value : Data) (values : List Value) → kind ≡ Tables → value ≡ array (items_view values) → list_all (λ value. is_table (view value)) values ≡ is_of_kind kind value
+pub fits_tables : (kind : KeyKind) (value : Data) (values : List Value) → kind ≡ Tables → value ≡ array (items_view values) → list_all (λ value. is_table (view value)) values ≡ is_of_kind kind value
 fits_tables kind value values of_tables is = rw (of_tables, is) (all_items_view is_table values)
 
 pub some_part : {X Y : Type 0} (f : X → Option Y) (o : Option X) → IsSome (option_and_then f o) → IsSome o

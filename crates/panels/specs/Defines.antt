@@ -1,5 +1,6 @@
 -- The panels that a draft defines (our profile).
-use Rattle.std.specs.Prelude.{◌≡◌, ℕ, zero, suc, ◌+◌, List, [], ◌∷◌, length, Option, Some, None, option_and_then, slice_get, bytes_eq, chars, if◌then◌else◌}
+use Rattle.std.specs.Prelude.{◌≡◌, ℕ, zero, suc, ◌+◌, List, [], ◌∷◌, length, Option, Some, None, map, option_and_then, slice_get, bytes_eq, chars, if◌then◌else◌}
+use Rattle.std.specs.List.{list_any}
 use Rattle.std.specs.Option.{option_map_or}
 use Rattle.codes3270.specs.declared.attention.Aid.{Aid}
 use Rattle.codes3270.specs.Size.{Shape}
@@ -81,12 +82,14 @@ IsOtherwiseBy panels (Some name) None = ⊥
 IsOtherwiseBy panels (Some name) (Some p) = IsBasePanelNamed panels name p
 
 pub record IsPanelOf (panels : List DraftPanel) (p : ℕ) (draft : DraftPanel) (panel : PanelParts) : Type 0 where
+  pub name : panel.name ≡ draft.name
   pub model : panel.model ≡ model_numbered draft.model
   pub otherwise : IsOtherwiseBy panels (otherwise_of draft) panel.otherwise
   pub texts : IsEachOf (λ i. IsTextOf (draft_shape draft) panels) draft.texts panel.texts
   pub fields : IsEachOf (λ i. IsFieldOf (draft_shape draft) (fields_before p panels + i)) draft.fields panel.fields
   pub cursor : IsCursorBy draft.cursor panel.fields panel.cursor
   pub places : length panel.targets ≡ length key_names
+  pub asked : panel.asked ≡ map (λ name. list_any (bytes_eq name) draft.asks) key_names
   pub targets : (aid : Aid) → IsKey aid → IsTargetBy panels (option_and_then (λ name. text_at_key name draft.keys) (name_of_key aid)) (target_of panel aid)
 
 -- a draft defines the panels; the first to be shown is the one that `start` names

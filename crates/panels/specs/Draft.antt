@@ -25,7 +25,8 @@ pub record DraftItem : Type 0 where
   pub marked : Bool
 
 -- a panel, of model 2 unless it says another; `otherwise` is the name of the panel that is shown in its place, empty where there is none;
--- `keys` has the names in its table of keys, each with the panel that it names
+-- `asks` has the names of the keys that the application decides on, and `keys` those in its table of keys, each with the panel that it
+-- names
 pub record DraftPanel : Type 0 where
   pub wrong : Option TreeFault
   pub name : List ℕ
@@ -34,6 +35,7 @@ pub record DraftPanel : Type 0 where
   pub cursor : Option (List ℕ)
   pub texts : List DraftItem
   pub fields : List DraftItem
+  pub asks : List (List ℕ)
   pub wrong_keys : Option TreeFault
   pub keys : List (List ℕ × List ℕ)
 
@@ -88,6 +90,7 @@ panel_of table = record {
   cursor = text_under (codes "cursor") table;
   texts = map text_item_of (tables_in (items_under (codes "text") table));
   fields = map field_item_of (tables_in (items_under (codes "field") table));
+  asks = texts_in (items_under (codes "asks") table);
   wrong_keys = wrong_in_keys (unwrap_or (table_under (codes "keys") table) no_members);
   keys = texts_by_key (unwrap_or (table_under (codes "keys") table) no_members);
 }

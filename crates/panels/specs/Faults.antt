@@ -1,5 +1,5 @@
 -- What is wrong with a panel text, and where (our profile).
-use Rattle.std.specs.Prelude.{◌≡◌, ℕ, ◌<◌, ◌==◌, nat_lt, Bool, true, false, not, ◌||◌, ◌⊎◌, List, [], ◌∷◌, length, Option, Some, None, is_some, option_map, option_and_then, slice_get, IsTrue, ℤ, pos, Contains, if◌then◌else◌}
+use Rattle.std.specs.Prelude.{◌≡◌, ℕ, ◌<◌, ◌==◌, nat_lt, Bool, true, false, not, ◌||◌, ◌⊎◌, List, [], ◌∷◌, length, Option, Some, None, is_some, option_map, option_and_then, slice_get, bytes_eq, IsTrue, ℤ, pos, Contains, if◌then◌else◌}
 use Rattle.std.specs.List.{list_any}
 use Rattle.std.specs.Option.{option_map_or}
 use Rattle.codes3270.specs.Size.{Shape, model_2}
@@ -13,7 +13,7 @@ use Rattle.panels.specs.Limits.{most_panels, most_texts, most_fields}
 use Rattle.panels.specs.Size.{is_model_number}
 use Rattle.panels.specs.Draft.{DraftItem, DraftPanel, DraftText, draft_shape, otherwise_of}
 use Rattle.panels.specs.Items.{is_panel_name, is_field_name, is_on_screen, is_in_place, HasCell, lacks_code}
-use Rattle.panels.specs.Keys.{is_key_name}
+use Rattle.panels.specs.Keys.{is_key_name, is_asked_name}
 
 -- the faults that a pass looks for; there are six passes, from 1 on
 abbrev pub faults_of : ℕ → List TreeFault
@@ -70,8 +70,12 @@ has_bad_name (Panel p) panels = option_map_or (λ name. not (is_panel_name name)
 has_bad_name (Field p i) panels = option_map_or (λ name. not (is_field_name name)) (name_at (Field p i) panels) false
 has_bad_name _ panels = false
 
+-- one of its keys is none, or it asks about a key that there isn't
+abbrev pub has_strange_key : DraftPanel → Bool
+has_strange_key panel = list_any (λ key. not (is_key_name key.0)) panel.keys || list_any (λ name. not (is_asked_name name)) panel.asks
+
 abbrev pub has_bad_key : Part → List DraftPanel → Bool
-has_bad_key (Keys p) panels = option_map_or (λ panel. list_any (λ key. not (is_key_name key.0)) panel.keys) (slice_get panels p) false
+has_bad_key (Keys p) panels = option_map_or has_strange_key (slice_get panels p) false
 has_bad_key _ panels = false
 
 -- a panel's model is none of 2 to 5
@@ -136,10 +140,23 @@ LacksTarget (Field p i) draft = ⊥
 LacksTarget (Keys p) draft =
     (panel : DraftPanel) × (key : List ℕ × List ℕ) × (slice_get draft.panels p ≡ Some panel) × Contains panel.keys key × ¬ NamesPanel key.1 draft.panels
 
+-- a panel asks about a key twice, or about one that leads to a panel
+abbrev pub asks_twice : List (List ℕ) → Bool
+asks_twice [] = false
+asks_twice (name ∷ names) = list_any (bytes_eq name) names || asks_twice names
+
+abbrev pub has_key_twice : DraftPanel → Bool
+has_key_twice panel = asks_twice panel.asks || list_any (λ key. list_any (bytes_eq key.0) panel.asks) panel.keys
+
 -- an earlier panel or field has the name
-abbrev pub IsTwiceNamed : Part → List DraftPanel → Type 0
-IsTwiceNamed part panels =
+abbrev pub IsNamedTwice : Part → List DraftPanel → Type 0
+IsNamedTwice part panels =
     (earlier : Part) × (name : List ℕ) × IsNamedBefore earlier part × (name_at earlier panels ≡ Some name) × (name_at part panels ≡ Some name)
+
+-- so it is, or a panel names a key twice
+abbrev pub IsTwiceNamed : Part → List DraftPanel → Type 0
+IsTwiceNamed (Keys p) panels = IsTrue (option_map_or has_key_twice (slice_get panels p) false)
+IsTwiceNamed part panels = IsNamedTwice part panels
 
 -- an earlier item of the panel shares a cell
 abbrev pub IsOverlapping : Part → List DraftPanel → Type 0

@@ -40,3 +40,15 @@ abbrev pub NothingElseIsKept : Type 0
 NothingElseIsKept =
     (panel : PanelParts) (values : Values) (message : Message) (keep : Bool) (cell : ℕ) → IsKeptAt (screen_of panel values message keep) cell
     → (keep ≡ true) × IsOfField panel cell
+
+-- A field of the screen is there: its attribute right before its first cell, another right behind its last, and none between them.
+pub record IsFieldOn (screen : WantedScreen) (extent : Extent) : Type 0 where
+  pub attribute : HasAttributeAt screen (extent.first - 1)
+  pub characters : (cell : ℕ) → IsCharacterOf extent cell → HasAttributeAt screen cell → ⊥
+  pub next : HasAttributeAt screen (extent.first + extent.length)
+
+-- Each screen that a panel asks for has each field of the panel, at its place and with its length.
+abbrev pub FieldsAreOnTheScreen : Type 0
+FieldsAreOnTheScreen =
+    (panel : PanelParts) (values : Values) (message : Message) (keep : Bool) (i : ℕ) (field : Field) → HasItemsApart panel → IsLaidOut panel
+    → slice_get panel.fields i ≡ Some field → IsFieldOn (screen_of panel values message keep) field.extent

@@ -1,5 +1,5 @@
--- The keys that a panel names targets for (our profile).
-use Rattle.std.specs.Prelude.{codes, ℕ, ◌+◌, ◌≤◌, Bool, List, [], ◌∷◌, Option, Some, None, option_and_then, slice_get, bytes_eq}
+-- The keys that a panel names targets for, and those that it may ask the application about (our profile).
+use Rattle.std.specs.Prelude.{codes, ℕ, ◌+◌, ◌≤◌, ◌&&◌, not, Bool, List, [], ◌∷◌, Option, Some, None, option_and_then, slice_get, bytes_eq}
 use Rattle.std.specs.List.{list_any}
 use Rattle.codes3270.specs.declared.attention.Aid.{Aid}
 use Rattle.codes3270.specs.declared.attention.Aid.TheVariants.{NoAid, Enter, Clear, Pf, Pa}
@@ -14,6 +14,10 @@ key_names =
 
 abbrev pub is_key_name : List ℕ → Bool
 is_key_name name = list_any (bytes_eq name) key_names
+
+-- the application may be asked about any of them but `clear`, which leaves no fields to ask about
+abbrev pub is_asked_name : List ℕ → Bool
+is_asked_name name = is_key_name name && not (bytes_eq name (codes "clear"))
 
 -- where the name of the key with an identifier stands among the names of keys: those of PA1 on from 2, those of PF1 on from 5
 abbrev pub place_of_key : Aid → Option ℕ

@@ -9,6 +9,7 @@ pub mod Items
 pub mod Keys
 pub mod Faults
 pub mod Messages
+pub mod MessageText
 pub mod Passes
 pub mod Turns
 pub mod Walk
@@ -17,6 +18,7 @@ pub mod Values
 pub mod Panel
 pub mod Next
 pub mod Screen
+pub mod Names
 pub mod MessageRow
 pub mod KeptFields
 pub mod Put

@@ -14,15 +14,17 @@ use Rattle.panels.specs.Characters.{AreCharacters}
 use Rattle.panels.specs.Keys.{place_of_key, IsKey}
 use Rattle.panels.specs.Size.{message_start}
 
--- a panel: its model; where that isn't 2, the panel that is shown in its place in a session of another model; its texts and fields, where its
--- cursor is, and for each key, in the order of their names, the panel that it leads to
+-- a panel: its name; its model; where that isn't 2, the panel that is shown in its place in a session of another model; its texts and fields, where its
+-- cursor is, and for each key, in the order of their names, the panel that it leads to, and whether the application decides on it
 pub record PanelParts : Type 0 where
+  pub name : List ℕ
   pub model : Model
   pub otherwise : Option ℕ
   pub texts : List TextItem
   pub fields : List Field
   pub cursor : ℕ
   pub targets : List (Option ℕ)
+  pub asked : List Bool
 
 -- the size of the screen on which it is laid out
 abbrev pub shape_of : PanelParts → Shape
@@ -34,6 +36,13 @@ target_at targets place = option_and_then (λ target. target) (slice_get targets
 
 abbrev pub target_of : PanelParts → Aid → Option ℕ
 target_of panel aid = option_and_then (target_at panel.targets) (place_of_key aid)
+
+-- the application decides on a key
+abbrev pub is_asked_at : List Bool → ℕ → Bool
+is_asked_at asked place = unwrap_or (slice_get asked place) false
+
+abbrev pub is_asked : PanelParts → Aid → Bool
+is_asked panel aid = option_map_or (is_asked_at panel.asked) (place_of_key aid) false
 
 -- the panels of a text: the first to be shown, the names of the LUs, and the panels
 pub record Panels : Type 0 where

@@ -1,14 +1,14 @@
 -- What is put on a wanted screen, one thing over another (our profile; only for the contracts of private functions).
-use Rattle.std.specs.Prelude.{◌≡◌, codes, ℕ, ◌+◌, ◌-◌, ◌<◌, nat_lt, true, List, [], ◌++◌, Option, Some, None, unwrap_or, slice_index_or, if◌then◌else◌}
+use Rattle.std.specs.Prelude.{◌≡◌, codes, ℕ, ◌+◌, ◌-◌, ◌<◌, nat_lt, true, List, [], ◌++◌, Option, Some, None, option_and_then, unwrap_or, slice_index_or, if◌then◌else◌}
 use Rattle.codes3270.specs.Size.{Shape, cells_in}
 use Rattle.codes3270.specs.declared.attribute.Attr.{Attr}
 use Rattle.datastream.specs.Wanted.{WantedScreen}
 use Rattle.datastream.specs.declared.wanted.Want.{Want}
 use Rattle.panels.specs.declared.extent.Extent.{Extent}
 use Rattle.panels.specs.declared.message.Message.{Message}
-use Rattle.panels.specs.declared.message.Message.TheVariants.{Fresh, Plain, KeyNotActive, Required}
+use Rattle.panels.specs.declared.message.Message.TheVariants.{Fresh, Plain, KeyNotActive, Required, Told}
 use Rattle.panels.specs.declared.panel.Field.{Field}
-use Rattle.panels.specs.Screen.{autoskip_attr, item_cell, kept_cell, coded, field_numbered}
+use Rattle.panels.specs.Screen.{autoskip_attr, item_cell, kept_cell, coded, field_meant, field_numbered}
 
 -- the first cells of a list are as before, but for those in which something is put
 abbrev pub ArePut : ℕ → (ℕ → Option Want) → List Want → List Want → Type 0
@@ -29,10 +29,7 @@ cell_with attr None distance = kept_cell attr distance
 
 -- the field that a message speaks of
 abbrev pub field_spoken : List Field → Message → Option Field
-field_spoken fields (Required number) = field_numbered number fields
-field_spoken fields Fresh = None
-field_spoken fields Plain = None
-field_spoken fields KeyNotActive = None
+field_spoken fields message = option_and_then (λ number. field_numbered number fields) (field_meant message)
 
 -- the cells of the message's row, which starts at an address, with a text
 abbrev pub row_cell : ℕ → List ℕ → ℕ → Option Want
@@ -44,3 +41,4 @@ text_with name Fresh = []
 text_with name Plain = []
 text_with name KeyNotActive = coded (codes "KEY NOT ACTIVE")
 text_with name (Required number) = coded (codes "REQUIRED: " ++ name)
+text_with name (Told text cursor) = coded text.characters

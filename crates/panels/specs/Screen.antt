@@ -1,5 +1,5 @@
 -- The screen that a panel asks for (our profile).
-use Rattle.std.specs.Prelude.{◌≡◌, codes, ℕ, ◌+◌, ◌-◌, ◌<◌, ◌==◌, nat_lt, Bool, true, false, not, ◌&&◌, ◌||◌, List, [], ◌∷◌, ◌++◌, map, Option, Some, None, option_map, unwrap_or, find, slice_get, slice_index_or, if◌then◌else◌}
+use Rattle.std.specs.Prelude.{◌≡◌, codes, ℕ, ◌+◌, ◌-◌, ◌<◌, ◌==◌, nat_lt, Bool, true, false, not, ◌&&◌, ◌||◌, List, [], ◌∷◌, ◌++◌, map, Option, Some, None, option_and_then, option_map, unwrap_or, find, slice_get, slice_index_or, if◌then◌else◌}
 use Rattle.std.specs.List.{range_with_len}
 use Rattle.std.specs.Option.{option_or, option_map_or}
 use Rattle.std.specs.Int.{is_in_range}
@@ -16,7 +16,7 @@ use Rattle.panels.specs.declared.extent.Extent.{Extent}
 use Rattle.panels.specs.declared.panel.TextItem.{TextItem}
 use Rattle.panels.specs.declared.panel.Field.{Field}
 use Rattle.panels.specs.declared.message.Message.{Message}
-use Rattle.panels.specs.declared.message.Message.TheVariants.{Fresh, Plain, KeyNotActive, Required}
+use Rattle.panels.specs.declared.message.Message.TheVariants.{Fresh, Plain, KeyNotActive, Required, Told}
 use Rattle.panels.specs.Size.{message_start}
 use Rattle.panels.specs.Panel.{PanelParts, shape_of}
 use Rattle.panels.specs.Values.{value_of}
@@ -96,6 +96,7 @@ message_text fields Fresh = []
 message_text fields Plain = []
 message_text fields KeyNotActive = coded (codes "KEY NOT ACTIVE")
 message_text fields (Required number) = coded (codes "REQUIRED: " ++ option_map_or (λ field. field.name) (field_numbered number fields) [])
+message_text fields (Told text cursor) = coded text.characters
 
 -- the message takes the last row, from an address on
 abbrev pub message_cell : ℕ → List Field → Message → ℕ → Option Want
@@ -116,10 +117,16 @@ wanted_cell panel values message keep cell =
     (option_or (message_cell (message_start (shape_of panel)) panel.fields message cell) (first_some (stopper_cell cell) panel.fields))))
     (want.Char 0)
 
--- the cursor is at the panel's own place, or at the first cell of the field that must be filled in
+-- the number of the field that must be filled in, or that the application names for the cursor
+abbrev pub field_meant : Message → Option ℕ
+field_meant (Required number) = Some number
+field_meant (Told text number) = number
+field_meant _ = None
+
+-- the cursor is at the first cell of that field, if the panel has it, else at the panel's own place
 abbrev pub wanted_cursor : PanelParts → Message → ℕ
-wanted_cursor panel (Required number) = option_map_or (λ field. field.extent.first) (field_numbered number panel.fields) panel.cursor
-wanted_cursor panel _ = panel.cursor
+wanted_cursor panel message =
+    option_map_or (λ field. field.extent.first) (option_and_then (λ number. field_numbered number panel.fields) (field_meant message)) panel.cursor
 
 -- the screen that a panel asks for
 pub record IsWantedOf (panel : PanelParts) (values : Values) (message : Message) (keep : Bool) (screen : WantedScreen) : Type 0 where

@@ -6,8 +6,8 @@ use Rattle.toml.specs.Data as tree
 use Rattle.toml.specs.Data.{Data, Items, no_items, item, Members, no_members, member, get_member, as_integer, as_str, as_table}
 use Rattle.panels.specs.declared.fault.TreeFault.{TreeFault}
 use Rattle.panels.specs.declared.fault.TreeFault.TheVariants.{UnknownKey, Missing, BadKind}
-use Rattle.panels.specs.declared.rules.Kind.{Kind}
-use Rattle.panels.specs.declared.rules.Kind.TheVariants as kind
+use Rattle.panels.specs.declared.rules.KeyKind.{KeyKind}
+use Rattle.panels.specs.declared.rules.KeyKind.TheVariants as kind
 use Rattle.panels.specs.Tree.{has_key, keys}
 
 abbrev pub is_text : Data → Bool
@@ -25,7 +25,7 @@ all_values test no_members = true
 all_values test (member key value more) = test value && all_values test more
 
 -- a value is of a kind
-abbrev pub is_of_kind : Kind → Data → Bool
+abbrev pub is_of_kind : KeyKind → Data → Bool
 is_of_kind kind.Text (tree.string text) = true
 is_of_kind kind.Integer (tree.integer number) = true
 is_of_kind kind.Truth (tree.boolean truth) = true
@@ -34,34 +34,36 @@ is_of_kind kind.Tables (tree.array values) = all_items is_table values
 is_of_kind kind.Table (tree.table table) = true
 is_of_kind _ _ = false
 
--- a key that may stand, or must, and the kind of its value
+-- a key that a table may have, or must have, and the kind of its value
 pub record Rule : Type 0 where
   pub key : List ℕ
-  pub kind : Kind
+  pub kind : KeyKind
   pub needed : Bool
 
-abbrev pub must : List ℕ → Kind → Rule
+abbrev pub must : List ℕ → KeyKind → Rule
 must key kind = record { key = key; kind = kind; needed = true }
 
-abbrev pub may : List ℕ → Kind → Rule
+abbrev pub may : List ℕ → KeyKind → Rule
 may key kind = record { key = key; kind = kind; needed = false }
 
 abbrev pub top_rules : List Rule
 top_rules = must (codes "start") kind.Text ∷ must (codes "lus") kind.Texts ∷ must (codes "panel") kind.Tables ∷ []
 
+-- what a panel of any model may have, beside its name, its model and its `otherwise`
+abbrev pub content_rules : List Rule
+content_rules = may (codes "cursor") kind.Text ∷ may (codes "text") kind.Tables ∷ may (codes "field") kind.Tables ∷ may (codes "asks") kind.Texts ∷ may (codes "keys") kind.Table ∷ []
+
 -- of a panel of model 2, which is shown in each session
 abbrev pub base_rules : List Rule
-base_rules =
-    must (codes "name") kind.Text ∷ may (codes "model") kind.Integer ∷ may (codes "cursor") kind.Text ∷ may (codes "text") kind.Tables
-    ∷ may (codes "field") kind.Tables ∷ may (codes "keys") kind.Table ∷ []
+base_rules = must (codes "name") kind.Text ∷ may (codes "model") kind.Integer ∷ content_rules
 
 -- of a panel of another model, which says what is shown otherwise
 abbrev pub alternate_rules : List Rule
-alternate_rules = must (codes "otherwise") kind.Text ∷ base_rules
+alternate_rules = must (codes "name") kind.Text ∷ may (codes "model") kind.Integer ∷ must (codes "otherwise") kind.Text ∷ content_rules
 
 -- of a panel whose model isn't known, as its `model` is no whole number
 abbrev pub unclear_rules : List Rule
-unclear_rules = may (codes "otherwise") kind.Text ∷ base_rules
+unclear_rules = must (codes "name") kind.Text ∷ may (codes "model") kind.Integer ∷ may (codes "otherwise") kind.Text ∷ content_rules
 
 -- by the value at `model`, and the number that it is
 abbrev pub rules_by_model : Option (Option ℤ) → List Rule
@@ -99,16 +101,20 @@ abbrev pub breaks_keys : List Rule → Members → Bool
 breaks_keys rules table = list_any (λ key. not (is_known rules key)) (keys table)
 
 -- nothing is there, or no table in an array that must have some
-abbrev pub is_lacking : Kind → Option Data → Bool
+abbrev pub is_lacking : KeyKind → Option Data → Bool
 is_lacking kind None = true
 is_lacking kind.Tables (Some (tree.array no_items)) = true
 is_lacking kind (Some value) = false
 
+-- the table must have the rule's key, and lacks it
+abbrev pub is_missing : Rule → Members → Bool
+is_missing rule table = rule.needed && is_lacking rule.kind (get_member rule.key table)
+
 -- some needed key is absent
 abbrev pub breaks_needs : List Rule → Members → Bool
-breaks_needs rules table = list_any (λ rule. rule.needed && is_lacking rule.kind (get_member rule.key table)) rules
+breaks_needs rules table = list_any (λ rule. is_missing rule table) rules
 
-abbrev pub is_misfit : Kind → Option Data → Bool
+abbrev pub is_misfit : KeyKind → Option Data → Bool
 is_misfit kind None = false
 is_misfit kind (Some value) = not (is_of_kind kind value)
 

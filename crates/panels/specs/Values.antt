@@ -1,8 +1,9 @@
 -- The values of fields, by the fields' numbers (our profile).
-use Rattle.std.specs.Prelude.{◌<◌, ⊤, ℕ, List, length, Option, None, Some}
-use Rattle.std.specs.Map.{lookup}
+use Rattle.std.specs.Prelude.{◌<◌, ⊤, ℕ, List, [], ◌∷◌, length, Option, None, Some}
+use Rattle.std.specs.Map.{lookup, remove_entry}
 use Rattle.std.specs.BTreeMap.{insert_entry, is_at}
 use Rattle.std.specs.Ordering.{nat_cmp}
+use Rattle.panels.specs.declared.panel.Field.{Field}
 
 -- the value of the field with a number, if it has one
 abbrev pub value_of : List (ℕ × List ℕ) → ℕ → Option (List ℕ)
@@ -12,6 +13,16 @@ value_of values field = lookup (is_at (nat_cmp field)) values
 abbrev pub set_if : ℕ → Option (List ℕ) → List (ℕ × List ℕ) → List (ℕ × List ℕ)
 set_if field None values = values
 set_if field (Some text) values = insert_entry nat_cmp values field text
+
+-- the values once each of others is set
+abbrev pub with_values : List (ℕ × List ℕ) → List (ℕ × List ℕ) → List (ℕ × List ℕ)
+with_values values [] = values
+with_values values (other ∷ others) = with_values (insert_entry nat_cmp values other.0 other.1) others
+
+-- the values without those of some fields
+abbrev pub without_fields : List Field → List (ℕ × List ℕ) → List (ℕ × List ℕ)
+without_fields [] values = values
+without_fields (field ∷ fields) values = without_fields fields (remove_entry (is_at (nat_cmp field.number)) values)
 
 -- a text needs more memory than a value has: there is no value yet, or a shorter one
 abbrev pub HasToGrow : Option (List ℕ) → List ℕ → Type 0

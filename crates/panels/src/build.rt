@@ -1,5 +1,6 @@
 //! The panels of a draft in which no fault stands.
-ghost use Rattle.std.specs.Prelude.{◌≡◌, ◌+◌, ◌<◌, Some, None, All, Contains, IfOk, IfSome, option_map, slice_get, length};
+ghost use Rattle.std.specs.Prelude.{◌≡◌, ◌+◌, ◌<◌, Some, None, All, Contains, IfOk, IfSome, bytes_eq, map, option_map, slice_get, length};
+ghost use Rattle.std.specs.List.{list_any};
 ghost use Rattle.panels.specs.Draft.{draft_shape, otherwise_of};
 ghost use Rattle.panels.specs.Keys.{key_names};
 ghost use Rattle.panels.specs.Passes.{IsFaultless};
@@ -8,8 +9,8 @@ ghost use Rattle.panels.specs.Building.{IsTextIn, AreTargetsOf};
 
 use crate::characters::Characters;
 use crate::draft::{Draft, ItemDraft, PanelDraft};
-use crate::field_name::FieldName;
-use crate::names::KEY_NAMES;
+use crate::name::Name;
+use crate::names::{KEY_NAMES, is_among};
 use crate::panel::{Content, Field, Panel, TextItem};
 use crate::panel_set::PanelSet;
 use codes3270::Addr;
@@ -78,7 +79,7 @@ impl<'a> Draft<'a> {
             };
             fields.push(Field {
                 number: first + place,
-                name: FieldName::of_text(alloc, field.name)?,
+                name: Name::of_text(alloc, field.name)?,
                 extent,
                 numeric: field.numeric,
                 hidden: field.hidden,
@@ -88,11 +89,13 @@ impl<'a> Draft<'a> {
             })?;
         }
         Ok(Panel {
+            name: Name::of_text(alloc, panel.name)?,
             model: panel.model(),
             otherwise: self.otherwise(panel),
             texts: self.texts(alloc, panel)?,
             cursor: cursor_of(panel.cursor, fields.as_slice()),
             targets: self.targets(alloc, panel)?,
+            asked: asked_keys(alloc, panel)?,
             fields,
         })
     }
@@ -145,6 +148,17 @@ impl<'a> Draft<'a> {
         }
         Ok(PanelSet { start, lus, panels })
     }
+}
+
+/// Whether the application decides on each key.
+fn asked_keys(alloc: Global, panel: &PanelDraft) -> Result<Vec<bool>, AllocError>
+    ensures { IfOk result (λ asked. asked.items ≡ map (λ name. list_any (bytes_eq name) panel.now.asks) key_names) }
+{
+    let mut asked = Vec::new(alloc);
+    for key in &KEY_NAMES {
+        asked.push(is_among(panel.asks.as_slice(), *key))?;
+    }
+    Ok(asked)
 }
 
 /// Where the cursor is: in the field with a name; without one, in the first, if there is one.

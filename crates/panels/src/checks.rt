@@ -38,6 +38,9 @@ impl<'a> Draft<'a> {
                 .is_some_and(|panel| panel.has_strange_key()),
             (TwiceNamed, Part::Panel(_)) => is_later(&self.panel_names, self.name(part), part),
             (TwiceNamed, Part::Field(_, _)) => is_later(&self.field_names, self.name(part), part),
+            (TwiceNamed, Part::Keys(panel)) => {
+                self.panel(panel).is_some_and(|panel| panel.has_key_twice())
+            }
             (BadModel, Part::Panel(panel)) => {
                 self.panel(panel).is_some_and(|panel| panel.has_bad_model())
             }

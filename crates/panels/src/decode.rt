@@ -1,16 +1,17 @@
 //! The draft of a tree.
-ghost use Rattle.std.specs.Prelude.{◌≡◌, codes, map, IfOk};
+ghost use Rattle.std.specs.Prelude.{◌≡◌, codes, map, option_map, unwrap_or, IfOk};
+ghost use Rattle.toml.specs.Data.{no_members};
 ghost use Rattle.toml.specs.View.{table_view};
 ghost use Rattle.panels.specs.Draft.{panel_of, draft_of};
 ghost use Rattle.panels.specs.Rules.{item_in};
 ghost use Rattle.panels.specs.Shape.{wrong_in_keys};
-ghost use Rattle.panels.specs.Tree.{items_under, tables_in, texts_in, texts_by_key};
+ghost use Rattle.panels.specs.Tree.{items_under, table_under, tables_in, texts_in, texts_by_key};
 
 use crate::draft::{Draft, ItemDraft, PanelDraft};
 use crate::fault::TreeFault;
 use crate::index::name_indexes;
 use crate::items::characters_in;
-use crate::rules::{TOP_RULES, item_rules, panel_rules, wrong_by};
+use crate::rules::{item_rules, panel_rules, top_rules, wrong_by};
 use crate::tree::{is_true_at, number_at, number_or, text_at, text_or_empty, value_at, values_at};
 use std::alloc::{AllocError, Global};
 use toml::Table;
@@ -75,10 +76,38 @@ fn key_drafts<'a>(alloc: Global, keys: &'a Table) -> Result<Vec<(&'a str, &'a st
     Ok(found)
 }
 
+/// A panel's table of keys.
+fn key_table<'a>(panel: &'a Table) -> Option<&'a Table>
+    ensures { option_map (λ keys. table_view keys.now) result ≡ table_under (codes "keys") (table_view panel.now) }
+{
+    value_at(panel, "keys").and_then(|value| value.as_table())
+}
+
+/// What is wrong with it; nothing where there is none.
+fn wrong_in_table(keys: Option<&Table>) -> Option<TreeFault>
+    ensures { result ≡ wrong_in_keys (unwrap_or (option_map (λ keys. table_view keys.now) keys.entry) no_members) }
+{
+    keys.and_then(|keys| wrong_keys(keys))
+}
+
+/// The texts in it, each with its key.
+fn keys_in<'a>(
+    alloc: Global,
+    keys: Option<&'a Table>,
+) -> Result<Vec<(&'a str, &'a str)>, AllocError>
+    ensures { IfOk result (λ found.
+        map (λ key. (key.0.now, key.1.now)) found.items ≡ texts_by_key (unwrap_or (option_map (λ keys. table_view keys.now) keys.entry) no_members)) }
+{
+    match keys {
+        Some(keys) => key_drafts(alloc, keys),
+        None => Ok(Vec::new(alloc)),
+    }
+}
+
 fn panel_draft<'a>(alloc: Global, panel: &'a Table) -> Result<PanelDraft<'a>, AllocError>
     ensures { IfOk result (λ draft. draft ≡ panel_of (table_view panel.now)) }
 {
-    let keys = value_at(panel, "keys").and_then(|value| value.as_table());
+    let keys = key_table(panel);
     Ok(PanelDraft {
         wrong: wrong_by(panel_rules(panel), panel),
         name: text_or_empty(panel, "name"),
@@ -87,11 +116,9 @@ fn panel_draft<'a>(alloc: Global, panel: &'a Table) -> Result<PanelDraft<'a>, Al
         cursor: text_at(panel, "cursor"),
         texts: item_drafts(alloc, panel, "text")?,
         fields: item_drafts(alloc, panel, "field")?,
-        wrong_keys: keys.and_then(|keys| wrong_keys(keys)),
-        keys: match keys {
-            Some(keys) => key_drafts(alloc, keys)?,
-            None => Vec::new(alloc),
-        },
+        asks: texts_at(alloc, panel, "asks")?,
+        wrong_keys: wrong_in_table(keys),
+        keys: keys_in(alloc, keys)?,
     })
 }
 
@@ -127,7 +154,7 @@ pub(crate) fn decode<'a>(alloc: Global, top: &'a Table) -> Result<Draft<'a>, All
     let panels = panel_drafts(alloc, top)?;
     let (panel_names, field_names) = name_indexes(alloc, panels.as_slice())?;
     Ok(Draft {
-        wrong: wrong_by(&TOP_RULES, top),
+        wrong: wrong_by(top_rules(), top),
         start: text_or_empty(top, "start"),
         lus: texts_at(alloc, top, "lus")?,
         panels,

@@ -66,6 +66,8 @@ pub(crate) struct PanelDraft<'a> {
     pub cursor: Option<&'a str>,
     pub texts: Vec<ItemDraft<'a>>,
     pub fields: Vec<ItemDraft<'a>>,
+    /// The names of the keys that the application decides on.
+    pub asks: Vec<&'a str>,
     /// What is wrong with its table of keys.
     pub wrong_keys: Option<TreeFault>,
     /// The names in that table, each with the panel that it names.
@@ -86,6 +88,7 @@ impl<'a> marker::Model for PanelDraft<'a> {
       cursor = option_map (λ name. name.now) panel.cursor;
       texts = panel.texts.items;
       fields = panel.fields.items;
+      asks = map (λ name. name.now) panel.asks.items;
       wrong_keys = panel.wrong_keys;
       keys = map (λ key. (key.0.now, key.1.now)) panel.keys.items;
     } };

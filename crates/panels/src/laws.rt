@@ -1,7 +1,7 @@
 //! Laws of panels: each is the contract of a function that does nothing. Proofs of
 //! other crates use them; no program calls them, and the root doesn't export them.
 ghost use Rattle.panels.specs.Defines.{DefinesOnce};
-ghost use Rattle.panels.specs.KeptFields.{FieldsAreKeptWhole, NothingElseIsKept};
+ghost use Rattle.panels.specs.KeptFields.{FieldsAreKeptWhole, FieldsAreOnTheScreen, NothingElseIsKept};
 ghost use Rattle.panels.specs.MessageRow.{PanelsLeaveTheRow, TheRowIsTheMessage, TheRoomIsTheRow};
 
 /// Law: on each screen that a panel asks for the last row is a protected field with the message:
@@ -20,6 +20,13 @@ pub fn the_last_row_is_for_messages()
 pub fn kept_fields_are_whole()
     ensures whole { FieldsAreKeptWhole }
     ensures nothing_else { NothingElseIsKept }
+{}
+
+/// Law: each screen that a panel asks for has each field of the panel, with what was typed to be kept
+/// or not: its attribute right before its first cell, another right behind its last, and none
+/// between them. For this no two items of the panel may share a cell.
+pub fn fields_are_on_the_screen()
+    ensures { FieldsAreOnTheScreen }
 {}
 
 /// Law: a text defines its panels once: what is read from it is a function of the text.

@@ -1,10 +1,10 @@
 //! The names of a panel text, and what they stand for.
-ghost use Rattle.std.specs.Prelude.{◌≡◌, ◌↔◌, List, ℕ, Some, IsTrue, Contains, MatchOption, bytes_eq, not, option_map, pos};
+ghost use Rattle.std.specs.Prelude.{◌≡◌, ◌↔◌, List, ℕ, Some, IsTrue, Contains, MatchOption, bytes_eq, map, not, option_map, pos};
 ghost use Rattle.std.specs.List.{list_any};
 ghost use Rattle.panels.specs.Items.{is_name as is_name_by};
-ghost use Rattle.panels.specs.Keys.{is_key_name};
+ghost use Rattle.panels.specs.Keys.{is_asked_name, is_key_name};
 ghost use Rattle.panels.specs.declared.fault.Part.TheVariants as part;
-ghost use Rattle.panels.specs.Faults.{HasFieldNamed, HasLostCursor, HasLostOtherwise, IsBasePanelNamed, NamesBasePanel, NamesPanel, NamesField, name_at};
+ghost use Rattle.panels.specs.Faults.{HasFieldNamed, HasLostCursor, has_key_twice, has_strange_key, asks_twice, HasLostOtherwise, IsBasePanelNamed, NamesBasePanel, NamesPanel, NamesField, name_at};
 ghost use Rattle.panels.specs.Index.{IsLater};
 ghost use Rattle.panels.specs.Walk.{is_letter_of};
 
@@ -38,8 +38,27 @@ pub(crate) static KEY_NAMES: [&str; 29] = [
     "pf21", "pf22", "pf23", "pf24",
 ];
 
-fn is_among(names: &[&str], name: &str) -> bool
-    ensures { result ≡ list_any (λ known. bytes_eq name.now known.now) names.now }
+/// Whether the application may be asked about a key.
+fn is_asked_name(name: &str) -> bool
+    ensures { result ≡ is_asked_name name.now }
+{
+    is_among(&KEY_NAMES, name) && name != "clear"
+}
+
+/// Whether a name stands twice.
+fn has_repeat(names: &[&str]) -> bool
+    ensures { result ≡ asks_twice (map (λ name. name.now) names.now) }
+{
+    for at in 0..names.len() {
+        if is_among(&names[at + 1..], names[at]) {
+            return true;
+        }
+    }
+    false
+}
+
+pub(crate) fn is_among(names: &[&str], name: &str) -> bool
+    ensures { result ≡ list_any (bytes_eq name.now) (map (λ known. known.now) names.now) }
 {
     names.iter().any(|known| name == *known)
 }
@@ -123,11 +142,41 @@ impl<'a> PanelDraft<'a> {
         self.model == 2 && self.name == name
     }
 
-    /// Whether a name among its keys is of no key.
-    pub(crate) fn has_strange_key(&self) -> bool
+    /// Whether a name in its table of keys is of no key.
+    fn leads_from_no_key(&self) -> bool
         ensures { result ≡ list_any (λ key. not (is_key_name key.0)) self.now.keys }
     {
         self.keys.iter().any(|key| !is_among(&KEY_NAMES, key.0))
+    }
+
+    /// Whether it asks about what is no key, or about Clear.
+    fn asks_about_no_key(&self) -> bool
+        ensures { result ≡ list_any (λ name. not (is_asked_name name)) self.now.asks }
+    {
+        self.asks.iter().any(|name| !is_asked_name(*name))
+    }
+
+    /// Whether it leads from what is no key, or asks about it, or about Clear.
+    pub(crate) fn has_strange_key(&self) -> bool
+        ensures { result ≡ has_strange_key self.now }
+    {
+        self.leads_from_no_key() || self.asks_about_no_key()
+    }
+
+    /// Whether one of its keys leads to a panel, and it asks about it, too.
+    fn leads_and_asks(&self) -> bool
+        ensures { result ≡ list_any (λ key. list_any (bytes_eq key.0) self.now.asks) self.now.keys }
+    {
+        self.keys
+            .iter()
+            .any(|key| is_among(self.asks.as_slice(), key.0))
+    }
+
+    /// Whether it asks about a key twice, or about one that leads to a panel.
+    pub(crate) fn has_key_twice(&self) -> bool
+        ensures { result ≡ has_key_twice self.now }
+    {
+        has_repeat(self.asks.as_slice()) || self.leads_and_asks()
     }
 
     fn has_field_named(&self, name: &str) -> bool

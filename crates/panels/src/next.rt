@@ -10,12 +10,15 @@ use codes3270::Aid;
 pub enum Next {
     /// To the panel at this index.
     Go(usize),
+    /// To what the application decides.
+    Ask,
     /// To the same panel again.
     Again,
 }
 
 impl Panel {
-    /// Where a key leads: to the panel that the table of keys names for it, else to the same panel again.
+    /// Where a key leads: to what the application decides, if the panel asks about it; to the panel that the table of keys names for it;
+    /// else to the same panel again.
     pub fn next(&self, aid: Aid) -> Next
         ensures { result ≡ next_of self.now aid }
     {
@@ -27,6 +30,9 @@ impl Panel {
             Aid::Pa(key) => 1 + usize::from(key.get()),
             Aid::Pf(key) => 4 + usize::from(key.get()),
         };
+        if self.asked.get(place).copied().unwrap_or(false) {
+            return Next::Ask;
+        }
         let target = self.targets.get(place).copied().flatten();
         target.map_or(Next::Again, |panel| Next::Go(panel))
     }

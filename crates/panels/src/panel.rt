@@ -1,10 +1,11 @@
 //! What a panel has.
-ghost use Rattle.std.specs.Prelude.{◌≡◌};
+ghost use Rattle.std.specs.Prelude.{◌≡◌, option_copied};
+ghost use Rattle.panels.specs.Names.{field_in};
 ghost use Rattle.panels.specs.Panel.{is_shown, shape_of};
 
 use crate::characters::Characters;
 use crate::extent::Extent;
-use crate::field_name::FieldName;
+use crate::name::Name;
 use codes3270::Model::{M2, M3, M4, M5};
 use codes3270::{Addr, Model, Size};
 use std::marker;
@@ -31,7 +32,7 @@ pub struct Field {
     /// Its number, from 0 on, among the fields of the whole text.
     pub number: usize,
     /// 1 to 16 of `a` to `z`, `0` to `9` and `_`, unique over the whole text.
-    pub name: FieldName,
+    pub name: Name,
     pub extent: Extent,
     pub numeric: bool,
     pub hidden: bool,
@@ -46,6 +47,7 @@ pub struct Field {
 /// A panel: a screen's texts, its fields, and where each key leads. It is laid out on the alternate size of its model.
 #[derive(Debug, Drop)]
 pub struct Panel {
+    pub(crate) name: Name,
     pub(crate) model: Model,
     /// The panel that is shown in its place in a session of another model, if its own isn't 2.
     pub(crate) otherwise: Option<usize>,
@@ -54,6 +56,8 @@ pub struct Panel {
     pub(crate) cursor: Addr,
     /// The panel that each key leads to, in the order of `KEY_NAMES`.
     pub(crate) targets: Vec<Option<usize>>,
+    /// Whether the application decides on each key, in the same order.
+    pub(crate) asked: Vec<bool>,
 }
 
 impl marker::Model for Panel {
@@ -61,12 +65,19 @@ impl marker::Model for Panel {
 
     ghost Value = { PanelParts };
 
-    ghost view = { λ panel. record { model = panel.model; otherwise = panel.otherwise; texts = panel.texts.items; fields = panel.fields.items; cursor = panel.cursor; targets = panel.targets.items } };
+    ghost view = { λ panel. record { name = panel.name; model = panel.model; otherwise = panel.otherwise; texts = panel.texts.items; fields = panel.fields.items; cursor = panel.cursor; targets = panel.targets.items; asked = panel.asked.items } };
 
-    ghost invariant = { λ panel. IsLaidOut (record { model = panel.model; otherwise = panel.otherwise; texts = panel.texts.items; fields = panel.fields.items; cursor = panel.cursor; targets = panel.targets.items }) };
+    ghost invariant = { λ panel. IsLaidOut (record { name = panel.name; model = panel.model; otherwise = panel.otherwise; texts = panel.texts.items; fields = panel.fields.items; cursor = panel.cursor; targets = panel.targets.items; asked = panel.asked.items }) };
 }
 
 impl Panel {
+    /// Its name: 1 to 16 of `A` to `Z` and `0` to `9`, unique over the whole text.
+    pub fn name(&self) -> &Name
+        ensures { result.now ≡ self.now.name }
+    {
+        &self.name
+    }
+
     /// The model of the sessions in which it is shown; one of model 2 is shown in all.
     pub fn model(&self) -> Model
         ensures { result ≡ self.now.model }
@@ -89,6 +100,13 @@ impl Panel {
             (M2, _) | (M3, M3) | (M4, M4) | (M5, M5) => true,
             _ => false,
         }
+    }
+
+    /// Its field with a name.
+    pub fn field_named(&self, name: &str) -> Option<&Field>
+        ensures { option_copied result ≡ field_in name.now self.now }
+    {
+        self.fields.iter().find(|field| field.name.as_str() == name)
     }
 
     /// Its fields, in the order of the text.

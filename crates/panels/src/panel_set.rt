@@ -4,9 +4,10 @@ ghost use Rattle.codes3270.specs.Size.{cells_in};
 ghost use Rattle.codes3270.specs.declared.size.Model.TheVariants.{M2};
 ghost use Rattle.codes3270.specs.declared.attention.Aid.{Aid};
 ghost use Rattle.panels.specs.Keys.{IsKey};
+ghost use Rattle.panels.specs.Names.{field_named, panel_named};
 ghost use Rattle.panels.specs.Panel.{Panels, AreSound, is_shown, shape_of, shown_in, target_of};
 
-use crate::panel::Panel;
+use crate::panel::{Field, Panel};
 use codes3270::Model;
 use std::marker;
 
@@ -60,6 +61,27 @@ impl PanelSet {
         ensures cursor { IfSome result (λ panel. panel.now.cursor < cells_in (shape_of panel.now)) }
     {
         self.panels.as_slice().get(index)
+    }
+
+    /// The index of the panel with a name.
+    pub fn panel_named(&self, name: &str) -> Option<usize>
+        ensures { result ≡ panel_named name.now self.now }
+    {
+        self.panels
+            .iter()
+            .position(|panel| panel.name.as_str() == name)
+    }
+
+    /// The field with a name, of any panel.
+    pub fn field_named(&self, name: &str) -> Option<&Field>
+        ensures { option_copied result ≡ field_named name.now self.now }
+    {
+        for panel in &self.panels {
+            if let Some(field) = panel.field_named(name) {
+                return Some(field);
+            }
+        }
+        None
     }
 
     /// The panel that is shown, in a session of a model, where the one at an index is asked for: that one if it is of model 2 or

@@ -1,8 +1,18 @@
-//! Which keys the tables of a panel text have, and values of which types.
+//! Which keys the tables of a panel text have, and values of which types. [`PanelSet::read`](crate::PanelSet::read) refuses a
+//! text with a table that breaks these rules. A checker of panel texts can find all faults of keys by the same rules.
+//!
+//! ```rust
+//! // The first table must have a key `lus`, and its value must be an array of strings.
+//! for rule in top_rules() {
+//!     if rule.is_missing_in(top) {
+//!         ..
+//!     }
+//! }
+//! ```
 ghost use Rattle.std.specs.Prelude.{◌≡◌, map, option_map};
 ghost use Rattle.toml.specs.View.{view, table_view};
 ghost use Rattle.panels.specs.Rules.{rule_of, rules_of_item};
-ghost use Rattle.panels.specs.Shape.{is_of_kind, is_known, is_lacking, breaks_needs, breaks_kinds, panel_rules, wrong_by as fault_by};
+ghost use Rattle.panels.specs.Shape.{is_of_kind, is_known, is_lacking, is_missing, breaks_needs, breaks_kinds, top_rules, panel_rules, text_rules, field_rules, wrong_by as fault_by};
 
 use crate::fault::TreeFault;
 use crate::tree::value_at;
@@ -10,7 +20,7 @@ use toml::{Table, Value};
 
 /// What type the value of a key has.
 #[derive(Clone, Copy, Debug, PartialEq, Eq)]
-pub(crate) enum Kind {
+pub enum KeyKind {
     Text,
     Integer,
     Truth,
@@ -21,166 +31,214 @@ pub(crate) enum Kind {
     Table,
 }
 
-/// A key that a table may have, and the kind of its value.
-pub(crate) enum KeyRule {
-    /// The key must stand.
-    Must(&'static str, Kind),
-    May(&'static str, Kind),
+impl KeyKind {
+    /// Whether a value has this type.
+    pub fn fits(self, value: &Value) -> bool
+        ensures { result ≡ is_of_kind self (view value.now) }
+    {
+        match (self, value) {
+            (KeyKind::Text, Value::String(_)) => true,
+            (KeyKind::Integer, Value::Integer(_)) => true,
+            (KeyKind::Truth, Value::Boolean(_)) => true,
+            (KeyKind::Texts, Value::Array(values)) => values.iter().all(|value| value.is_str()),
+            (KeyKind::Tables, Value::Array(values)) => values.iter().all(|value| value.is_table()),
+            (KeyKind::Table, Value::Table(_)) => true,
+            _ => false,
+        }
+    }
+}
+
+/// A key that a table may have, and the type of its value.
+pub enum KeyRule {
+    /// The table must have the key.
+    Must(&'static str, KeyKind),
+    /// The table may have the key.
+    May(&'static str, KeyKind),
 }
 
 impl KeyRule {
-    fn key(&self) -> &'static str
+    /// The key.
+    pub fn key(&self) -> &'static str
         ensures { result.now ≡ (rule_of self.now).key }
     {
         match self {
             KeyRule::Must(key, _) | KeyRule::May(key, _) => *key,
         }
     }
+
+    /// The type of its value.
+    pub fn kind(&self) -> KeyKind
+        ensures { result ≡ (rule_of self.now).kind }
+    {
+        match self {
+            KeyRule::Must(_, kind) | KeyRule::May(_, kind) => *kind,
+        }
+    }
+
+    /// Whether the table must have the key and lacks it. An empty array where an array of tables must be counts as lacking.
+    pub fn is_missing_in(&self, table: &Table) -> bool
+        ensures { result ≡ is_missing (rule_of self.now) (table_view table.now) }
+    {
+        match self {
+            KeyRule::Must(key, kind) => is_nothing(*kind, value_at(table, *key)),
+            KeyRule::May(_, _) => false,
+        }
+    }
 }
 
-pub(crate) static TOP_RULES: [KeyRule; 3] = [
-    KeyRule::Must("start", Kind::Text),
-    KeyRule::Must("lus", Kind::Texts),
-    KeyRule::Must("panel", Kind::Tables),
+static TOP_RULES: [KeyRule; 3] = [
+    KeyRule::Must("start", KeyKind::Text),
+    KeyRule::Must("lus", KeyKind::Texts),
+    KeyRule::Must("panel", KeyKind::Tables),
 ];
 
 // Of a panel of model 2.
-static BASE_RULES: [KeyRule; 6] = [
-    KeyRule::Must("name", Kind::Text),
-    KeyRule::May("model", Kind::Integer),
-    KeyRule::May("cursor", Kind::Text),
-    KeyRule::May("text", Kind::Tables),
-    KeyRule::May("field", Kind::Tables),
-    KeyRule::May("keys", Kind::Table),
+static BASE_RULES: [KeyRule; 7] = [
+    KeyRule::Must("name", KeyKind::Text),
+    KeyRule::May("model", KeyKind::Integer),
+    KeyRule::May("cursor", KeyKind::Text),
+    KeyRule::May("text", KeyKind::Tables),
+    KeyRule::May("field", KeyKind::Tables),
+    KeyRule::May("asks", KeyKind::Texts),
+    KeyRule::May("keys", KeyKind::Table),
 ];
 
 // Of a panel of another model.
-static ALTERNATE_RULES: [KeyRule; 7] = [
-    KeyRule::Must("otherwise", Kind::Text),
-    KeyRule::Must("name", Kind::Text),
-    KeyRule::May("model", Kind::Integer),
-    KeyRule::May("cursor", Kind::Text),
-    KeyRule::May("text", Kind::Tables),
-    KeyRule::May("field", Kind::Tables),
-    KeyRule::May("keys", Kind::Table),
+static ALTERNATE_RULES: [KeyRule; 8] = [
+    KeyRule::Must("name", KeyKind::Text),
+    KeyRule::May("model", KeyKind::Integer),
+    KeyRule::Must("otherwise", KeyKind::Text),
+    KeyRule::May("cursor", KeyKind::Text),
+    KeyRule::May("text", KeyKind::Tables),
+    KeyRule::May("field", KeyKind::Tables),
+    KeyRule::May("asks", KeyKind::Texts),
+    KeyRule::May("keys", KeyKind::Table),
 ];
 
 // Of a panel whose `model` is no whole number.
-static UNCLEAR_RULES: [KeyRule; 7] = [
-    KeyRule::May("otherwise", Kind::Text),
-    KeyRule::Must("name", Kind::Text),
-    KeyRule::May("model", Kind::Integer),
-    KeyRule::May("cursor", Kind::Text),
-    KeyRule::May("text", Kind::Tables),
-    KeyRule::May("field", Kind::Tables),
-    KeyRule::May("keys", Kind::Table),
+static UNCLEAR_RULES: [KeyRule; 8] = [
+    KeyRule::Must("name", KeyKind::Text),
+    KeyRule::May("model", KeyKind::Integer),
+    KeyRule::May("otherwise", KeyKind::Text),
+    KeyRule::May("cursor", KeyKind::Text),
+    KeyRule::May("text", KeyKind::Tables),
+    KeyRule::May("field", KeyKind::Tables),
+    KeyRule::May("asks", KeyKind::Texts),
+    KeyRule::May("keys", KeyKind::Table),
 ];
 
 static LITERAL_RULES: [KeyRule; 4] = [
-    KeyRule::Must("row", Kind::Integer),
-    KeyRule::Must("col", Kind::Integer),
-    KeyRule::Must("text", Kind::Text),
-    KeyRule::May("bright", Kind::Truth),
+    KeyRule::Must("row", KeyKind::Integer),
+    KeyRule::Must("col", KeyKind::Integer),
+    KeyRule::Must("text", KeyKind::Text),
+    KeyRule::May("bright", KeyKind::Truth),
 ];
 
 static SHOW_RULES: [KeyRule; 5] = [
-    KeyRule::Must("row", Kind::Integer),
-    KeyRule::Must("col", Kind::Integer),
-    KeyRule::Must("show", Kind::Text),
-    KeyRule::Must("length", Kind::Integer),
-    KeyRule::May("bright", Kind::Truth),
+    KeyRule::Must("row", KeyKind::Integer),
+    KeyRule::Must("col", KeyKind::Integer),
+    KeyRule::Must("show", KeyKind::Text),
+    KeyRule::Must("length", KeyKind::Integer),
+    KeyRule::May("bright", KeyKind::Truth),
 ];
 
 static FIELD_RULES: [KeyRule; 9] = [
-    KeyRule::Must("name", Kind::Text),
-    KeyRule::Must("row", Kind::Integer),
-    KeyRule::Must("col", Kind::Integer),
-    KeyRule::Must("length", Kind::Integer),
-    KeyRule::May("fill", Kind::Text),
-    KeyRule::May("numeric", Kind::Truth),
-    KeyRule::May("hidden", Kind::Truth),
-    KeyRule::May("required", Kind::Truth),
-    KeyRule::May("marked", Kind::Truth),
+    KeyRule::Must("name", KeyKind::Text),
+    KeyRule::Must("row", KeyKind::Integer),
+    KeyRule::Must("col", KeyKind::Integer),
+    KeyRule::Must("length", KeyKind::Integer),
+    KeyRule::May("fill", KeyKind::Text),
+    KeyRule::May("numeric", KeyKind::Truth),
+    KeyRule::May("hidden", KeyKind::Truth),
+    KeyRule::May("required", KeyKind::Truth),
+    KeyRule::May("marked", KeyKind::Truth),
 ];
 
-/// The rules for a panel, by its model, 2 where it has none.
-pub(crate) fn panel_rules(table: &Table) -> &'static [KeyRule]
-    ensures { map rule_of result.now ≡ panel_rules (table_view table.now) }
+/// The rules for the whole text.
+pub fn top_rules() -> &'static [KeyRule]
+    ensures { map rule_of result.now ≡ top_rules }
 {
-    match value_at(table, "model").map(|value| value.as_integer()) {
+    &TOP_RULES
+}
+
+/// The rules for a panel, by its model, 2 if it has none.
+pub fn panel_rules(panel: &Table) -> &'static [KeyRule]
+    ensures { map rule_of result.now ≡ panel_rules (table_view panel.now) }
+{
+    match value_at(panel, "model").map(|value| value.as_integer()) {
         None | Some(Some(2)) => &BASE_RULES,
         Some(Some(_)) => &ALTERNATE_RULES,
         Some(None) => &UNCLEAR_RULES,
     }
 }
 
-/// The rules for an item of an array: of fields, or of texts, which have their own text, or show a field.
-pub(crate) fn item_rules(array: &str, table: &Table) -> &'static [KeyRule]
-    ensures { map rule_of result.now ≡ rules_of_item array.now (table_view table.now) }
+/// The rules for a text of a panel, which has its own text or shows a field.
+pub fn text_rules(text: &Table) -> &'static [KeyRule]
+    ensures { map rule_of result.now ≡ text_rules (table_view text.now) }
 {
-    if array == "field" {
-        &FIELD_RULES
-    } else if value_at(table, "text").is_some() {
+    if value_at(text, "text").is_some() {
         &LITERAL_RULES
     } else {
         &SHOW_RULES
     }
 }
 
-fn knows_key(rules: &[KeyRule], key: &str) -> bool
+/// The rules for a field of a panel.
+pub fn field_rules() -> &'static [KeyRule]
+    ensures { map rule_of result.now ≡ field_rules }
+{
+    &FIELD_RULES
+}
+
+/// The rules for an item of an array: of fields, or of texts.
+pub(crate) fn item_rules(array: &str, table: &Table) -> &'static [KeyRule]
+    ensures { map rule_of result.now ≡ rules_of_item array.now (table_view table.now) }
+{
+    if array == "field" {
+        field_rules()
+    } else {
+        text_rules(table)
+    }
+}
+
+/// Whether one of the rules is for a key.
+pub fn knows_key(rules: &[KeyRule], key: &str) -> bool
     ensures { result ≡ is_known (map rule_of rules.now) key.now }
 {
     rules.iter().any(|rule| rule.key() == key)
 }
 
-/// Whether nothing stands, or no table in an array that has to have some.
-fn is_nothing(kind: Kind, value: Option<&Value>) -> bool
+/// Whether there is no value, or no table in an array that must have some.
+fn is_nothing(kind: KeyKind, value: Option<&Value>) -> bool
     ensures { result ≡ is_lacking kind (option_map (λ value. view value.now) value.entry) }
 {
     match (kind, value) {
         (_, None) => true,
-        (Kind::Tables, Some(Value::Array(values))) => values.is_empty(),
+        (KeyKind::Tables, Some(Value::Array(values))) => values.is_empty(),
         _ => false,
     }
 }
 
-/// Whether a key that must stand doesn't.
+/// Whether a key is absent that the table must have.
 fn any_key_absent(rules: &[KeyRule], table: &Table) -> bool
     ensures { result ≡ breaks_needs (map rule_of rules.now) (table_view table.now) }
 {
-    rules.iter().any(|rule| match rule {
-        KeyRule::Must(key, kind) => is_nothing(*kind, value_at(table, *key)),
-        KeyRule::May(_, _) => false,
-    })
+    rules.iter().any(|rule| rule.is_missing_in(table))
 }
 
-/// Whether a value is of a kind.
-pub(crate) fn fits_kind(kind: Kind, value: &Value) -> bool
-    ensures { result ≡ is_of_kind kind (view value.now) }
-{
-    match (kind, value) {
-        (Kind::Text, Value::String(_)) => true,
-        (Kind::Integer, Value::Integer(_)) => true,
-        (Kind::Truth, Value::Boolean(_)) => true,
-        (Kind::Texts, Value::Array(values)) => values.iter().all(|value| value.is_str()),
-        (Kind::Tables, Value::Array(values)) => values.iter().all(|value| value.is_table()),
-        (Kind::Table, Value::Table(_)) => true,
-        _ => false,
-    }
-}
-
-/// Whether the key of a rule has a value of another kind.
+/// Whether the key of a rule has a value of another type.
 fn any_value_misfits(rules: &[KeyRule], table: &Table) -> bool
     ensures { result ≡ breaks_kinds (map rule_of rules.now) (table_view table.now) }
 {
     rules.iter().any(|rule| match rule {
         KeyRule::Must(key, kind) | KeyRule::May(key, kind) => {
-            value_at(table, *key).is_some_and(|value| !fits_kind(*kind, value))
+            value_at(table, *key).is_some_and(|value| !kind.fits(value))
         }
     })
 }
 
-/// What is wrong with the keys of a table and their values: one that its rules don't know, one that is absent, a value of another kind.
+/// What is wrong with the keys of a table and their values: one that its rules don't have, one that is absent, a value of another
+/// type.
 pub(crate) fn wrong_by(rules: &[KeyRule], table: &Table) -> Option<TreeFault>
     ensures { result ≡ fault_by (map rule_of rules.now) (table_view table.now) }
 {

@@ -6,7 +6,7 @@ ghost use Rattle.datastream.specs.Wanted.{IsProper};
 ghost use Rattle.datastream.specs.declared.wanted.Want.{Want as Wish};
 ghost use Rattle.datastream.specs.declared.wanted.Want.TheVariants.{Char};
 ghost use Rattle.panels.specs.Characters.{AreCharacters};
-ghost use Rattle.panels.specs.Screen.{distance_in, autoskip_attr, text_cell, first_some, field_cell, stopper_cell, IsWantedOf, screen_of};
+ghost use Rattle.panels.specs.Screen.{distance_in, autoskip_attr, text_cell, first_some, field_cell, field_numbered, stopper_cell, IsWantedOf, screen_of};
 ghost use Rattle.panels.specs.declared.message.Message.TheVariants.{Fresh};
 ghost use Rattle.panels.specs.Panel.{shape_of};
 ghost use Rattle.panels.specs.Put.{FitsOn, IsPut, cell_with, field_spoken, row_cell, text_with};
@@ -87,13 +87,15 @@ fn put_texts(wanted: &mut Wanted, values: &Values, texts: &[TextItem])
 }
 
 /// Puts the cells of a field: its attribute, and after it its value, or its fill; with `keep` the attribute alone.
-fn put_field(wanted: &mut Wanted, values: &Values, message: Message, keep: bool, field: &Field)
+fn put_field(wanted: &mut Wanted, values: &Values, message: &Message, keep: bool, field: &Field)
     requires { FitsOn wanted.old.size field.now.extent }
-    ensures { IsPut (λ cell. field_cell values.now message keep cell field.now) wanted.old wanted.new }
+    ensures { IsPut (λ cell. field_cell values.now message.now keep cell field.now) wanted.old wanted.new }
 {
     let value = match message {
         Message::Fresh => None,
-        Message::Plain | Message::KeyNotActive | Message::Required(_) => values.get(field.number),
+        Message::Plain | Message::KeyNotActive | Message::Required(_) | Message::Told(_, _) => {
+            values.get(field.number)
+        }
     };
     let attr = Attr {
         protected: false,
@@ -107,9 +109,9 @@ fn put_field(wanted: &mut Wanted, values: &Values, message: Message, keep: bool,
 }
 
 /// Puts the cells of fields, the first over all others.
-fn put_fields(wanted: &mut Wanted, values: &Values, message: Message, keep: bool, fields: &[Field])
+fn put_fields(wanted: &mut Wanted, values: &Values, message: &Message, keep: bool, fields: &[Field])
     requires { All (λ field. FitsOn wanted.old.size field.extent) fields.now }
-    ensures { IsPut (λ cell. first_some (field_cell values.now message keep cell) fields.now) wanted.old wanted.new }
+    ensures { IsPut (λ cell. first_some (field_cell values.now message.now keep cell) fields.now) wanted.old wanted.new }
 {
     for index in (0..fields.len()).rev() {
         put_field(wanted, values, message, keep, &fields[index]);
@@ -131,23 +133,24 @@ fn put_stoppers(wanted: &mut Wanted, fields: &[Field])
 const REQUIRED: &[u8; 10] = b"REQUIRED: ";
 
 /// A byte, in the host's code, of the text of a message that speaks of a field with a name; a null behind its end.
-fn message_byte(message: Message, name: &[u8], index: usize) -> u8
-    ensures byte { result ≡ slice_index_or (text_with name.now message) index 0 }
+fn message_byte(message: &Message, name: &[u8], index: usize) -> u8
+    ensures byte { result ≡ slice_index_or (text_with name.now message.now) index 0 }
     ensures storable { is_storable result ≡ true }
 {
     let byte = match message {
         Message::Fresh | Message::Plain => None,
-        Message::KeyNotActive => b"KEY NOT ACTIVE".get(index),
-        Message::Required(_) if index < REQUIRED.len() => REQUIRED.get(index),
-        Message::Required(_) => name.get(index - REQUIRED.len()),
+        Message::KeyNotActive => b"KEY NOT ACTIVE".get(index).copied(),
+        Message::Required(_) if index < REQUIRED.len() => REQUIRED.get(index).copied(),
+        Message::Required(_) => name.get(index - REQUIRED.len()).copied(),
+        Message::Told(text, _) => text.characters.get(index).copied(),
     };
-    byte.and_then(|byte| from_latin1(char::from(*byte)))
+    byte.and_then(|byte| from_latin1(char::from(byte)))
         .unwrap_or(0)
 }
 
 /// Puts the message's row; `name` is that of the field that the message speaks of.
-fn put_message(wanted: &mut Wanted, message: Message, name: &[u8])
-    ensures { IsPut (row_cell (message_start wanted.old.size) (text_with name.now message)) wanted.old wanted.new }
+fn put_message(wanted: &mut Wanted, message: &Message, name: &[u8])
+    ensures { IsPut (row_cell (message_start wanted.old.size) (text_with name.now message.now)) wanted.old wanted.new }
 {
     let size = wanted.size();
     let start = usize::from(message_start(size));
@@ -161,13 +164,20 @@ fn put_message(wanted: &mut Wanted, message: Message, name: &[u8])
 
 impl Panel {
     /// The field that a message speaks of.
-    fn field_of(&self, message: Message) -> Option<&Field>
-        ensures { option_copied result ≡ field_spoken self.now.fields message }
+    fn field_of(&self, message: &Message) -> Option<&Field>
+        ensures { option_copied result ≡ field_spoken self.now.fields message.now }
     {
-        match message {
-            Message::Fresh | Message::Plain | Message::KeyNotActive => None,
-            Message::Required(number) => self.fields.iter().find(|field| field.number == number),
+        match message.field() {
+            Some(number) => self.field_numbered(number),
+            None => None,
         }
+    }
+
+    /// The panel's field with a number, over the whole text.
+    fn field_numbered(&self, number: usize) -> Option<&Field>
+        ensures { option_copied result ≡ field_numbered number self.now.fields }
+    {
+        self.fields.iter().find(|field| field.number == number)
     }
 
     /// The screen that the panel asks for, of the panel's size, with the values of fields and a message. With `keep` the fields that the
@@ -190,16 +200,16 @@ impl Panel {
         ensures screen { wanted.new ≡ screen_of self.now values.now message keep }
     {
         let fields = self.fields.as_slice();
-        let spoken = self.field_of(message);
+        let spoken = self.field_of(&message);
         let name = spoken.map_or("", |field| field.name.as_str());
         put_nulls(wanted);
         put_stoppers(wanted, fields);
-        put_message(wanted, message, name.as_bytes());
-        put_fields(wanted, values, message, keep, fields);
+        put_message(wanted, &message, name.as_bytes());
+        put_fields(wanted, values, &message, keep, fields);
         put_texts(wanted, values, self.texts.as_slice());
         // For the contract: there is a want for each cell.
         let _whole = wanted.cells();
         let cursor = spoken.map_or(self.cursor, |field| field.extent.first_cell());
-        wanted.set_cursor_and_reset(cursor, message == Message::Fresh);
+        wanted.set_cursor_and_reset(cursor, message.is_fresh());
     }
 }

@@ -1,9 +1,10 @@
 //! The values of fields.
-ghost use Rattle.std.specs.Prelude.{◌≡◌, ◌≢◌, List, ℕ, [], Some, option_copied, OnOk, OnErr, IfSome, IsSome};
-ghost use Rattle.std.specs.BTreeMap.{insert_entry};
+ghost use Rattle.std.specs.Prelude.{◌≡◌, ◌≢◌, List, ℕ, [], Some, option_copied, OnOk, OnErr, IfSome, IsSome, All};
+ghost use Rattle.std.specs.BTreeMap.{insert_entry, is_at};
+ghost use Rattle.std.specs.Map.{remove_entry, values_of};
 ghost use Rattle.std.specs.Ordering.{nat_cmp};
 ghost use Rattle.panels.specs.Characters.{AreCharacters};
-ghost use Rattle.panels.specs.Values.{HasToGrow, value_of};
+ghost use Rattle.panels.specs.Values.{HasToGrow, value_of, with_values};
 
 use crate::characters::Characters;
 use std::alloc::{AllocError, Global};
@@ -99,5 +100,32 @@ impl Values {
         let value = Characters::copy(self.alloc, bytes)?;
         self.values.insert(field, value)?;
         Ok(())
+    }
+
+    /// Takes away the value of a field, if it has one.
+    pub fn remove(&mut self, field: usize)
+        ensures { self.new ≡ remove_entry (is_at (nat_cmp field)) self.old }
+    {
+        self.values.remove(&field);
+    }
+
+    /// Sets each value that there is in others. If memory is refused some are set, and others not.
+    pub fn set_all(&mut self, others: &Values) -> Result<(), AllocError>
+        ensures { OnOk result (self.new ≡ with_values self.old others.now) }
+    {
+        for (field, value) in others.values.iter() {
+            self.set(*field, value.as_slice())?;
+        }
+        Ok(())
+    }
+
+    /// Law: each value is storable bytes without nulls.
+    pub fn values_are_characters(&self)
+        ensures { All AreCharacters (values_of self.now) }
+    {
+        for value in self.values.values() {
+            // For the contract: they are such.
+            let _bytes = value.as_slice();
+        }
     }
 }

@@ -1,8 +1,8 @@
 -- The list of the places of attributes: how it is built, and what changes leave it as it is.
-use Rattle.std.proofs.Common.{◌≡◌, ℕ, ◌+◌, ◌-◌, ◌%◌, ◌<◌, ◌≤◌, not, Bool, true, false, cond, List, [], ◌∷◌, ◌++◌, get_or, set, map, replicate, length, arith, sym, ◌∙◌, refl, suc, zero}
+use Rattle.std.proofs.Common.{◌≡◌, ℕ, ◌+◌, ◌-◌, ◌%◌, ◌<◌, ◌≤◌, not, Bool, true, false, cond, List, [], ◌∷◌, ◌++◌, get_or, set, map, replicate, length, take, drop, ap, arith, sym, ◌∙◌, refl, suc, zero}
 use Rattle.std.specs.List.{list_all}
 use Rattle.std.proofs.Math.Nat.{mod-lt}
-use Rattle.std.proofs.lemmas.List.{drop_more}
+use Rattle.std.proofs.lemmas.List.{drop_more, take-append-drop, length-take-le}
 use Rattle.codes3270.specs.declared.attribute.Cell.{Cell}
 use Rattle.codes3270.specs.declared.attribute.Cell.TheVariants.{Char, Attr}
 use Rattle.datastream.specs.Screen.{is_char, is_char_at, is_protected, places_from, IsGoverned}
@@ -25,6 +25,27 @@ attribute_places_more cells place d below = rw (drop_more cells place d below) (
     at_cell : (test : Bool) → cond (not test) (place ∷ attribute_places cells (place + 1)) (attribute_places cells (place + 1)) ≡ cond (not test) (place ∷ []) [] ++ attribute_places cells (place + 1)
     at_cell true = refl
     at_cell false = refl
+
+pub attributes_append : (at : ℕ) (front behind : List Cell) → attributes_from at (front ++ behind) ≡ attributes_from at front ++ attributes_from (at + length front) behind
+attributes_append at [] behind = let same : at + 0 ≡ at = omega arith in ap (λ (n : ℕ). attributes_from n behind) (sym same)
+attributes_append at (Char byte ∷ front) behind =
+    let there : at + 1 + length front ≡ at + length (Char byte ∷ front) = omega arith in
+    attributes_append (at + 1) front behind ∙ ap (λ (n : ℕ). attributes_from (at + 1) front ++ attributes_from n behind) there
+attributes_append at (Attr attribute ∷ front) behind =
+    let there : at + 1 + length front ≡ at + length (Attr attribute ∷ front) = omega arith in
+    ap (λ (places : List ℕ). at ∷ places) (attributes_append (at + 1) front behind ∙ ap (λ (n : ℕ). attributes_from (at + 1) front ++ attributes_from n behind) there)
+
+pub attributes_none : (at : ℕ) (cells : List Cell) → list_all is_char cells ≡ true → attributes_from at cells ≡ []
+attributes_none at [] each = refl
+attributes_none at (Char byte ∷ cells) each = attributes_none (at + 1) cells each
+attributes_none at (Attr attribute ∷ cells) each = cc
+
+-- the first eight cells, and then the others
+pub attributes_eight : (at : ℕ) (cells : List Cell) → 8 ≤ length cells → attributes_from at cells ≡ attributes_from at (take 8 cells) ++ attributes_from (at + 8) (drop 8 cells)
+attributes_eight at cells long =
+    ap (attributes_from at) (sym (take-append-drop 8 cells))
+    ∙ attributes_append at (take 8 cells) (drop 8 cells)
+    ∙ ap (λ (n : ℕ). attributes_from at (take 8 cells) ++ attributes_from (at + n) (drop 8 cells)) (length-take-le 8 cells long)
 
 -- ---- left as it is by what makes no attribute of a character and no character of an attribute
 

@@ -9,3 +9,4 @@ pub mod AttributePlaces
 pub mod Nearest
 pub mod FieldLengths
 pub mod Printing
+pub mod CellRuns

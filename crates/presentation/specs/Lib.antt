@@ -5,3 +5,4 @@ pub mod Index
 pub mod Fields
 pub mod Glyph
 pub mod Answering
+pub mod Runs

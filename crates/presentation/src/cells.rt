@@ -1,10 +1,11 @@
 //! What is read off cells, and what is changed in them.
-ghost use Rattle.std.specs.Prelude.{◌≡◌, ◌<◌, ◌≤◌, ◌-◌, drop, map, zip, length, position, replicate, IfSome, if◌then◌else◌};
+ghost use Rattle.std.specs.Prelude.{◌≡◌, ◌<◌, ◌≤◌, ◌+◌, ◌-◌, take, drop, map, zip, length, position, replicate, IfSome, if◌then◌else◌};
 ghost use Rattle.codes3270.specs.Size.{cells_in, most_cells};
 ghost use Rattle.codes3270.specs.declared.attribute.Cell.TheVariants.{Char};
 ghost use Rattle.std.specs.List.{list_all, prefix_len};
 ghost use Rattle.datastream.specs.Span.{distance};
 ghost use Rattle.datastream.specs.Screen.{last_attribute, is_char, is_open_attribute, ring, protects};
+ghost use Rattle.presentation.specs.Runs.{placed};
 ghost use Rattle.datastream.specs.Meaning.{filled, opened, erased, unmodified, modified, open_unmodified, tab_stop, home, is_start};
 
 use codes3270::{Addr, Attr, Cell, Size};
@@ -74,6 +75,81 @@ pub(crate) fn fill(cells: &mut [PackedCell], from: Addr, count: u16, code: u8, s
         cells[place.get() as usize] = PackedCell::character(code);
         place = place.next(size);
     }
+}
+
+/// The first eight bytes of a text.
+#[inline(always)]
+fn first_eight(text: &[u8]) -> [u8; 8]
+    requires { 8 ≤ length text.now }
+    ensures { result ≡ take 8 text.now }
+{
+    [
+        text[0], text[1], text[2], text[3], text[4], text[5], text[6], text[7],
+    ]
+}
+
+/// Puts the first eight characters of a text in eight cells.
+#[inline(always)]
+fn put_in_eight(cells: &mut [PackedCell], text: &[u8])
+    requires eight { length cells.old ≡ 8 }
+    requires long { 8 ≤ length text.now }
+    ensures { cells.new ≡ map Char (take 8 text.now) }
+{
+    let [a, b, c, d, e, f, g, h] = first_eight(text);
+    cells[0] = PackedCell::character(a);
+    cells[1] = PackedCell::character(b);
+    cells[2] = PackedCell::character(c);
+    cells[3] = PackedCell::character(d);
+    cells[4] = PackedCell::character(e);
+    cells[5] = PackedCell::character(f);
+    cells[6] = PackedCell::character(g);
+    cells[7] = PackedCell::character(h);
+}
+
+/// Puts the first eight characters of a text in the cells from a place on.
+#[inline(always)]
+fn put_eight(cells: &mut [PackedCell], from: usize, text: &[u8])
+    requires room { from + 8 ≤ length cells.old }
+    requires long { 8 ≤ length text.now }
+    ensures { cells.new ≡ placed from (take 8 text.now) cells.old }
+{
+    put_in_eight(&mut cells[from..from + 8], text);
+}
+
+/// The bytes behind the first eight.
+#[inline(always)]
+fn behind_eight(text: &[u8]) -> &[u8]
+    requires { 8 ≤ length text.now }
+    ensures { result.now ≡ drop 8 text.now }
+{
+    &text[8..]
+}
+
+/// Puts characters in the cells from a place on, one by one.
+#[inline(always)]
+fn put_each(cells: &mut [PackedCell], from: usize, text: &[u8])
+    requires { from + length text.now ≤ length cells.old }
+    ensures { cells.new ≡ placed from text.now cells.old }
+{
+    for (behind, code) in text.iter().enumerate() {
+        cells[from + behind] = PackedCell::character(*code);
+    }
+}
+
+/// Puts characters in the cells from a place on, eight at a time.
+#[inline(always)]
+pub(crate) fn put_characters(cells: &mut [PackedCell], from: usize, text: &[u8])
+    requires { from + length text.now ≤ length cells.old }
+    ensures { cells.new ≡ placed from text.now cells.old }
+{
+    let mut at = from;
+    let mut rest = text;
+    while rest.len() >= 8 {
+        put_eight(cells, at, rest);
+        at += 8;
+        rest = behind_eight(rest);
+    }
+    put_each(cells, at, rest);
 }
 
 /// The last attribute in a list of cells.

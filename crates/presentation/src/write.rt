@@ -1,12 +1,12 @@
 //! What commands make of the screen.
-ghost use Rattle.std.specs.Prelude.{◌≡◌, ◌<◌, All, drop, false, true};
+ghost use Rattle.std.specs.Prelude.{◌≡◌, ◌<◌, ◌≤◌, ◌+◌, All, drop, length, map, false, true};
 ghost use Rattle.std.specs.List.{prefix_len};
 ghost use Rattle.codes3270.specs.Size.{cells_in};
 ghost use Rattle.codes3270.specs.Storable.{is_storable};
 ghost use Rattle.codes3270.specs.declared.attribute.Cell.TheVariants.{Char};
 ghost use Rattle.datastream.specs.Screen.{is_char};
 ghost use Rattle.datastream.specs.Grammar.{IsProper};
-ghost use Rattle.datastream.specs.declared.order.Order.TheVariants.{Sba, Ic, Ra, Eua, Pt};
+ghost use Rattle.datastream.specs.declared.order.Order.TheVariants.{Sba, Ic, Ra, Eua, Pt, Char as Data};
 ghost use Rattle.datastream.specs.Meaning.{WriteProgress, filled, stored, executed, all_executed, prepared, restored, cleared, written, unprotected_erased};
 ghost use Rattle.presentation.specs.Applied.{asked_by, asked_by_wcc};
 ghost use Rattle.presentation.specs.Sizes.{HasSize, IsReadFor, applied};
@@ -165,10 +165,100 @@ impl Buffer {
         ensures { let start : WriteProgress = record { screen = self.old.screen; address = self.old.screen.cursor; after_data = false } in
             self.new ≡ record self.old { screen = (all_executed orders.entry start).screen } }
     {
-        let mut position = WritePosition::moved_to(self.cursor());
-        for order in orders {
-            position = self.execute(order, position);
+        let mut orders = orders;
+        let start = WritePosition::moved_to(self.cursor());
+        let mut position = self.put_characters(orders.characters(), start);
+        while let Some(order) = orders.next() {
+            let moved = self.execute(order, position);
+            position = self.put_characters(orders.characters(), moved);
         }
+    }
+
+    /// The characters of a write that come one after another.
+    #[inline(always)]
+    fn put_characters(&mut self, text: &[u8], position: WritePosition) -> WritePosition
+        requires storable { All (λ byte. is_storable byte ≡ true) text.now }
+        requires address { position.address < cells_in self.old.size }
+        ensures write { let write : WriteProgress = record { screen = self.old.screen; address = position.address; after_data = position.nulls } in
+            record { screen = self.new.screen; address = result.address; after_data = result.nulls } ≡ all_executed (map Data text.now) write }
+        ensures in_range { result.address < cells_in self.old.size }
+        ensures size { self.new ≡ record self.old { screen = self.new.screen } }
+    {
+        match text {
+            [] => position,
+            [byte] => WritePosition::after_data(self.store(
+                position.address,
+                PackedCell::character(*byte),
+            )),
+            _ => self.put_run(text, position),
+        }
+    }
+
+    /// The same of some characters. Mostly there are cells for all of them up to the last cell.
+    #[inline(always)]
+    fn put_run(&mut self, text: &[u8], position: WritePosition) -> WritePosition
+        requires storable { All (λ byte. is_storable byte ≡ true) text.now }
+        requires some { 0 < length text.now }
+        requires address { position.address < cells_in self.old.size }
+        ensures write { let write : WriteProgress = record { screen = self.old.screen; address = position.address; after_data = position.nulls } in
+            record { screen = self.new.screen; address = result.address; after_data = result.nulls } ≡ all_executed (map Data text.now) write }
+        ensures in_range { result.address < cells_in self.old.size }
+        ensures size { self.new ≡ record self.old { screen = self.new.screen } }
+    {
+        if text.len() <= self.room_from(position.address) {
+            self.put_front(text, position)
+        } else {
+            self.put_round(text, position)
+        }
+    }
+
+    /// How many cells there are from an address on.
+    #[inline(always)]
+    fn room_from(&self, address: Addr) -> usize
+        requires { address < cells_in self.now.size }
+        ensures room { result + address ≡ cells_in self.now.size }
+        ensures some { 0 < result }
+    {
+        usize::from(self.size.cells() - address.get())
+    }
+
+    /// The same of characters that go on from the last cell at the first.
+    #[inline(never)]
+    fn put_round(&mut self, text: &[u8], position: WritePosition) -> WritePosition
+        requires storable { All (λ byte. is_storable byte ≡ true) text.now }
+        requires address { position.address < cells_in self.old.size }
+        ensures write { let write : WriteProgress = record { screen = self.old.screen; address = position.address; after_data = position.nulls } in
+            record { screen = self.new.screen; address = result.address; after_data = result.nulls } ≡ all_executed (map Data text.now) write }
+        ensures in_range { result.address < cells_in self.old.size }
+        ensures size { self.new ≡ record self.old { screen = self.new.screen } }
+    {
+        let mut position = position;
+        let mut rest = text;
+        while !rest.is_empty() {
+            let room = self.room_from(position.address);
+            let (front, behind) = rest.split_at(room.min(rest.len()));
+            position = self.put_front(front, position);
+            rest = behind;
+        }
+        position
+    }
+
+    /// The same of characters for which there are cells up to the last.
+    #[inline(always)]
+    fn put_front(&mut self, text: &[u8], position: WritePosition) -> WritePosition
+        requires storable { All (λ byte. is_storable byte ≡ true) text.now }
+        requires some { 0 < length text.now }
+        requires room { position.address + length text.now ≤ cells_in self.old.size }
+        ensures write { let write : WriteProgress = record { screen = self.old.screen; address = position.address; after_data = position.nulls } in
+            record { screen = self.new.screen; address = result.address; after_data = result.nulls } ≡ all_executed (map Data text.now) write }
+        ensures in_range { result.address < cells_in self.old.size }
+        ensures size { self.new ≡ record self.old { screen = self.new.screen } }
+    {
+        let size = self.size;
+        let count = usize::from(size.cells());
+        let address = position.address;
+        cells::put_characters(&mut self.cells[..count], usize::from(address.get()), text);
+        WritePosition::after_data(address.forward(text.len() as u16, size))
     }
 
     /// One order of a write.

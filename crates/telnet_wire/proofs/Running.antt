@@ -1,12 +1,12 @@
 -- A decoder that may go on, and what a byte makes of it.
-use Rattle.std.proofs.Common.{◌≡◌, ℕ, List, [], ◌∷◌, ap, subst, sym, ◌∙◌, Option, None, Some}
+use Rattle.std.proofs.Common.{◌≡◌, ℕ, List, [], ◌∷◌, ◌++◌, refl, ap, subst, sym, ◌∙◌, Option, None, Some}
 use Rattle.std.specs.Option.{option_to_list}
 use Rattle.telnet_wire.specs.declared.wire.Step.TheVariants.{More}
 use Rattle.telnet_wire.specs.declared.wire.WireFault.{WireFault}
 use Rattle.telnet_wire.specs.declared.wire.WireFault.TheVariants.{TooLong, BadSub, Memory, Failed}
 use Rattle.telnet_wire.specs.Items.{WireItem}
 use Rattle.telnet_wire.specs.Reading.{Rest, IsRest, Delivers, GoesWrong}
-use Rattle.telnet_wire.specs.Held.{Held, fresh, Takes, Refuses, step_of, IsRunning}
+use Rattle.telnet_wire.specs.Held.{Held, fresh, Takes, TakesAll, Refuses, step_of, IsRunning}
 use Rattle.telnet_wire.proofs.Streams.{nothing_is_rest}
 
 -- one that was reset may go on
@@ -52,3 +52,13 @@ still_running limit held after byte running takes = record {
   runs = takes.runs;
   rest = rw (← running.limit_is) takes.delivers.is_rest;
 }
+
+-- bytes that complete no item: the first completes none, and the others complete none
+pub none_completed : (ready : Option WireItem) (others : List WireItem) → [] ≡ option_to_list ready ++ others → (More ≡ step_of ready) × (others ≡ [])
+none_completed None others none = (refl, sym none)
+none_completed (Some item) others none = absurd (cc)
+
+pub all_running : (limit : ℕ) (bytes : List ℕ) (items : List WireItem) (held after : Held) → IsRunning limit held → TakesAll held bytes items after → IsRunning limit after
+all_running limit [] items held after running taken = subst (IsRunning limit) (sym taken.1) running
+all_running limit (byte ∷ bytes) items held after running taken =
+    all_running limit bytes taken.1 taken.0 after (still_running limit held taken.0 byte running taken.2) taken.4

@@ -12,3 +12,6 @@ empty limit = record { limit = limit; bytes = [] }
 
 abbrev pub with_byte : Bounded → ℕ → Bounded
 with_byte buffer byte = record { limit = buffer.limit; bytes = buffer.bytes ++ byte ∷ [] }
+
+abbrev pub with_bytes : Bounded → List ℕ → Bounded
+with_bytes buffer bytes = record { limit = buffer.limit; bytes = buffer.bytes ++ bytes }

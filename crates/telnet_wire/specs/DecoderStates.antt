@@ -8,7 +8,7 @@ use Rattle.telnet_wire.specs.declared.decoding.Completed.TheVariants.{Record, Op
 use Rattle.telnet_wire.specs.Token.{code_of, opened}
 use Rattle.telnet_wire.specs.Items.{WireItem, Record as RecordItem, Opt as OptItem, Sub as SubItem, Other as OtherItem}
 use Rattle.telnet_wire.specs.Held.{Held}
-use Rattle.telnet_wire.specs.Bounded.{Bounded}
+use Rattle.telnet_wire.specs.Bounded.{Bounded, empty}
 
 -- The part of a token that was read.
 abbrev pub partial_at : DecoderState → List ℕ → List ℕ
@@ -23,6 +23,11 @@ abbrev pub unfinished_at : DecoderState → List ℕ → List ℕ
 unfinished_at (Done Record) gathered = []
 unfinished_at Failed gathered = []
 unfinished_at _ gathered = gathered
+
+-- The buffer of records without a record that is complete.
+abbrev pub unfinished_record : DecoderState → Bounded → Bounded
+unfinished_record (Done Record) gathered = empty gathered.limit
+unfinished_record _ gathered = gathered
 
 -- The item that was completed: its bytes are in one of the buffers.
 abbrev pub completed_item : Completed → List ℕ → List ℕ → WireItem

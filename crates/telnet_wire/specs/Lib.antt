@@ -2,6 +2,7 @@ pub mod Token
 pub mod Items
 pub mod Reading
 pub mod Held
+pub mod Runs
 pub mod Messages
 pub mod Bounded
 pub mod DecoderStates

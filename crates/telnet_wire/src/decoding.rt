@@ -1,8 +1,10 @@
 //! The decoder: bytes in, items out.
-ghost use Rattle.std.specs.Prelude.{◌≡◌, ℕ, IfOk, IfErr, List, [], ◌∷◌, ◌++◌, IsSome, Some, Err};
+ghost use Rattle.std.specs.Prelude.{◌≡◌, ◌≢◌, ◌<◌, ◌≤◌, ℕ, IfOk, IfErr, List, [], ◌∷◌, ◌++◌, ◌==◌, IsSome, Some, Err, length, min, take};
+ghost use Rattle.std.specs.List.{AllByRecursion, position_or_len};
 ghost use Rattle.telnet_wire.specs.Items.{item_of};
-ghost use Rattle.telnet_wire.specs.Held.{Held, fresh, broken, Takes, Refuses, step_of};
-ghost use Rattle.telnet_wire.specs.DecoderStates.{held, ready_at, AreWithin};
+ghost use Rattle.telnet_wire.specs.Held.{Held, fresh, broken, Takes, TakesAll, Refuses, step_of};
+ghost use Rattle.telnet_wire.specs.Runs.{data_room, run_length};
+ghost use Rattle.telnet_wire.specs.DecoderStates.{held, ready_at, unfinished_record, AreWithin};
 ghost use Rattle.telnet_wire.specs.declared.decoding.DecoderState.TheVariants as states;
 ghost use Rattle.telnet_wire.specs.declared.wire.WireFault.{WireFault};
 ghost use Rattle.telnet_wire.specs.declared.wire.WireFault.TheVariants.{Memory};
@@ -10,6 +12,7 @@ ghost use Rattle.telnet_wire.specs.declared.wire.WireFault.TheVariants.{Memory};
 use crate::buffer::Buffer;
 use crate::codes::{DO, DONT, EOR, IAC, SB, SE, WILL, WONT};
 use crate::wire::{Item, Step, Verb, WireFault};
+use memchr::memchr;
 use std::alloc::Global;
 use std::marker::Model;
 
@@ -154,6 +157,63 @@ fn next(
     }
 }
 
+// How many bytes of data may follow.
+fn room_for_data(state: DecoderState, record_buffer: &Buffer, sub_buffer: &Buffer) -> usize
+    ensures { result ≡ data_room (held state record_buffer.now sub_buffer.now.bytes) }
+{
+    match state {
+        DecoderState::Done(Completed::Record) => record_buffer.limit(),
+        DecoderState::Between | DecoderState::Done(_) => record_buffer.room(),
+        DecoderState::AfterIac
+        | DecoderState::AfterVerb(_)
+        | DecoderState::InSub
+        | DecoderState::AfterIacInSub
+        | DecoderState::Failed => 0,
+    }
+}
+
+// The bytes before the first IAC, and at most `room` of them.
+fn data_before_iac(bytes: &[u8], room: usize) -> &[u8]
+    ensures length { length result.now ≡ min (position_or_len (λ byte. byte == 255) bytes.now) room }
+    ensures front { result.now ≡ take (length result.now) bytes.now }
+    ensures plain { AllByRecursion (λ byte. byte ≢ 255) result.now }
+{
+    let within = &bytes[..bytes.len().min(room)];
+    match memchr(IAC, within) {
+        Some(end) => &within[..end],
+        None => within,
+    }
+}
+
+// Empties the buffer if its record is complete.
+fn drop_complete_record(state: DecoderState, record_buffer: &mut Buffer)
+    ensures { record_buffer.new ≡ unfinished_record state record_buffer.old }
+{
+    match state {
+        DecoderState::Done(Completed::Record) => record_buffer.clear(),
+        _ => {}
+    }
+}
+
+// The state after bytes of data, for which there is room.
+fn take_data(
+    state: DecoderState,
+    run: &[u8],
+    record_buffer: &mut Buffer,
+    sub_buffer: &Buffer,
+) -> DecoderState
+    requires fits { AreWithin record_buffer.old sub_buffer.now }
+    requires some { 0 < length run.now }
+    requires plain { AllByRecursion (λ byte. byte ≢ 255) run.now }
+    requires room { length run.now ≤ data_room (held state record_buffer.old sub_buffer.now.bytes) }
+    ensures taken { TakesAll (held state record_buffer.old sub_buffer.now.bytes) run.now [] (held result record_buffer.new sub_buffer.now.bytes) }
+    ensures within { AreWithin record_buffer.new sub_buffer.now }
+{
+    drop_complete_record(state, record_buffer);
+    record_buffer.add_all(run);
+    DecoderState::Between
+}
+
 impl DecoderState {
     fn step(self) -> Step
         ensures { (gathered content : List ℕ) → result ≡ step_of (ready_at self gathered content) }
@@ -165,7 +225,7 @@ impl DecoderState {
     }
 }
 
-/// Takes a stream byte by byte, and lends the items that it completes.
+/// Takes a stream byte by byte or in runs of data, and lends the items that it completes.
 ///
 /// A byte costs the same however long the record is, and takes no memory: `new` makes the room for
 /// a record of `limit` bytes and a subnegotiation of 256. It makes no difference how the stream is
@@ -235,7 +295,27 @@ impl Decoder {
         }
     }
 
-    /// The item that the last push completed, lent from the decoder's buffers until the next push.
+    /// Takes the bytes of data up to the next IAC at once, and answers how many these are.
+    ///
+    /// It takes what [`Decoder::push`] takes of these bytes one by one, up to the first 255, or to the
+    /// last that the record has room for. They complete no item. It takes none in the middle of a
+    /// token (after IAC, or inside a subnegotiation), none after a fault, and none if a byte would be
+    /// refused: [`Decoder::push`] then takes or refuses the next byte. If it takes none, nothing
+    /// changes, and an item that is ready stays so. It takes no memory.
+    pub fn push_data(&mut self, bytes: &[u8]) -> usize
+        ensures length { result ≡ run_length self.old bytes.now }
+        ensures few { result ≤ length bytes.now }
+        ensures taken { TakesAll self.old (take result bytes.now) [] self.new }
+    {
+        let room = room_for_data(self.state, &self.record_buffer, &self.sub_buffer);
+        let run = data_before_iac(bytes, room);
+        if !run.is_empty() {
+            self.state = take_data(self.state, run, &mut self.record_buffer, &self.sub_buffer);
+        }
+        run.len()
+    }
+
+    /// The item that the last byte completed, lent from the decoder's buffers until the next byte.
     ///
     /// It may be called only after [`Step::Ready`].
     pub fn item(&self) -> Item<'_>

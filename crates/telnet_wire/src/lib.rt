@@ -2,8 +2,9 @@
 //! and back.
 //!
 //! A [`Decoder`] takes a stream byte by byte, cut anywhere, and lends each item that a byte
-//! completes. `new` makes its room: none of its other calls takes memory. The `put_` calls add an
-//! item's bytes to a vector, which may have to grow.
+//! completes. [`Decoder::push_data`] takes the bytes of data up to the next IAC at once. `new` makes
+//! the decoder's room: none of its other calls takes memory. The `put_` calls add an item's bytes to
+//! a vector, which may have to grow.
 //!
 //! ```text
 //! let mut decoder = Decoder::new(alloc, 16_384)?;
@@ -21,8 +22,8 @@
 //!
 //! `specs/` defines what a stream says: `Token` (the tokens and their spellings), `Items` (what a
 //! list of tokens says), `Reading` (how bytes are read, and where they go wrong), `Held` (what a
-//! byte does to a decoder). [`laws::one_reading`] has the laws for a caller that feeds a stream in
-//! pieces.
+//! byte does to a decoder), `Runs` (how many bytes are taken at once). [`laws::one_reading`] has the
+//! laws for a caller that feeds a stream in pieces.
 #![tactic(auto)]
 
 mod buffer;

@@ -1,6 +1,7 @@
 -- A record, an item, a byte and bytes, as the code takes them.
-use Rattle.std.proofs.Common.{◌≡◌, ◌≢◌, ℕ, ◌+◌, ◌<◌, List, [], ◌∷◌, ◌++◌, length, take, get_or, sym, ap, subst, refl, Option, None, Some, Vec}
-use Rattle.std.proofs.lemmas.List.{append-nil, take_more}
+use Rattle.std.proofs.Common.{◌≡◌, ◌≢◌, ℕ, ◌+◌, ◌-◌, ◌<◌, List, [], ◌∷◌, ◌++◌, length, take, drop, get_or, sym, ap, subst, arith, refl, Option, None, Some, Vec}
+use Rattle.std.proofs.lemmas.List.{append-nil, length-drop, take_all, take_more}
+use Rattle.std.proofs.Math.Seq.{take-add}
 use Rattle.std.proofs.lemmas.Bool.{ne_eqb}
 use Rattle.std.specs.Borrow.{Bor}
 use Rattle.std.specs.declared.alloc.Global.{Global}
@@ -11,7 +12,7 @@ use Rattle.telnet_wire.specs.declared.wire.WireFault.{WireFault}
 use Rattle.telnet_wire.specs.declared.wire.Item.{Item}
 use Rattle.telnet_wire.specs.declared.wire.Item.TheVariants as lent
 use Rattle.telnet_wire.specs.Items.{WireItem, Record, Opt, Sub, Other, item_of, sent_bytes}
-use Rattle.telnet_wire.specs.Held.{Held, Takes, Refuses, step_of}
+use Rattle.telnet_wire.specs.Held.{Held, Takes, TakesAll, Refuses, step_of}
 use Rattle.tn3270e_msg.specs.declared.cause.Cause.{Cause}
 use Rattle.tn3270e_msg.specs.declared.cause.Cause.TheVariants.{BadRecord, Wire}
 use Rattle.tn3270e_msg.specs.declared.header.DataType.TheVariants.{Data3270}
@@ -23,7 +24,7 @@ use Rattle.tn3270e_msg.specs.Header.{Begins, HasFault, record_limit}
 use Rattle.tn3270e_msg.specs.declared.reply.Reply.{Reply}
 use Rattle.tn3270e_msg.specs.Talk.{items_sent, closing}
 use Rattle.tn3270e_msg.specs.TermTable.{Term, TermTakes}
-use Rattle.telnet_wire.proofs.Running.{goes_wrong, delivers_none, delivers_item}
+use Rattle.telnet_wire.proofs.Running.{goes_wrong, delivers_none, delivers_item, none_completed, still_running}
 use Rattle.term_core.specs.State.{Station, Terminal, Attached}
 use Rattle.term_core.specs.declared.outcome.Outcome.{Outcome}
 use Rattle.term_core.specs.Says.{response}
@@ -173,15 +174,66 @@ pub up_to_one_more : (old : Terminal) (bytes : List ℕ) (place : ℕ) (mid new 
 up_to_one_more old bytes place mid new below taken more =
     subst (λ (some : List ℕ). TakesBytes old some new) (sym (take_more bytes place 0 below)) (one_more old (take place bytes) mid (get_or bytes place 0) new taken more)
 
--- room was made, and a byte was taken
-pub byte_more : (start : Terminal) (bytes : List ℕ) (place : ℕ) (held : Held) (talk : Term) (station : Station) (out roomy : Vec ℕ Global) (new : Terminal)
-    → place < length bytes → roomy.items ≡ out.items → TakesBytes start (take place bytes) (terminal_of held talk None station out)
-    → TakesByte (terminal_of held talk None station roomy) (get_or bytes place 0) new → TakesBytes start (take (place + 1) bytes) new
-byte_more start bytes place held talk station out roomy new below same taken more =
+more_bytes : (old mid new : Terminal) (bytes more : List ℕ) → TakesBytes old bytes mid → TakesBytes mid more new → TakesBytes old (bytes ++ more) new
+more_bytes old mid new [] more taken then_taken = subst (λ (from : Terminal). TakesBytes from more new) taken then_taken
+more_bytes old mid new (byte ∷ bytes) more taken then_taken = (taken.0, taken.1, more_bytes taken.0 mid new bytes more taken.2 then_taken)
+
+up_to_more : (old mid new : Terminal) (bytes : List ℕ) (place count : ℕ)
+    → TakesBytes old (take place bytes) mid → TakesBytes mid (take count (drop place bytes)) new → TakesBytes old (take (place + count) bytes) new
+up_to_more old mid new bytes place count taken then_taken =
+    subst (λ (some : List ℕ). TakesBytes old some new) (sym (take-add place count bytes)) (more_bytes old mid new (take place bytes) (take count (drop place bytes)) taken then_taken)
+
+-- room was made, and some bytes were taken
+pub some_more : (start : Terminal) (bytes : List ℕ) (place count : ℕ) (held after : Held) (talk talks : Term) (station new : Station) (out roomy sent : Vec ℕ Global) (closes is : Option Cause)
+    → closes ≡ is → roomy.items ≡ out.items → TakesBytes start (take place bytes) (terminal_of held talk None station out)
+    → TakesBytes (terminal_of held talk None station roomy) (take count (take (length bytes - place) (drop place bytes))) (terminal_of after talks closes new sent)
+    → TakesBytes start (take (place + count) bytes) (terminal_of after talks is new sent)
+some_more start bytes place count held after talk talks station new out roomy sent closes is ends same taken more =
     let as_before : terminal_of held talk None station roomy ≡ terminal_of held talk None station out =
-    ap (λ (sent : List ℕ). record { link = Attached held.rest talk; station = station; out = sent }) same in
-    up_to_one_more start bytes place (terminal_of held talk None station out) new below taken
-    (subst (λ (from : Terminal). TakesByte from (get_or bytes place 0) new) as_before more)
+    ap (λ (items : List ℕ). record { link = Attached held.rest talk; station = station; out = items }) same in
+    let rest : take (length bytes - place) (drop place bytes) ≡ drop place bytes = take_all (length bytes - place) (drop place bytes) (omega (arith, length-drop place bytes)) in
+    up_to_more start (terminal_of held talk None station out) (terminal_of after talks is new sent) bytes place count taken
+    (subst (λ (from : Terminal). TakesBytes from (take count (drop place bytes)) (terminal_of after talks is new sent)) as_before
+    (subst (λ (cause : Option Cause). TakesBytes (terminal_of held talk None station roomy) (take count (drop place bytes)) (terminal_of after talks cause new sent)) ends
+    (subst (λ (some : List ℕ). TakesBytes (terminal_of held talk None station roomy) (take count some) (terminal_of after talks closes new sent)) rest more)))
+
+-- the byte behind some bytes
+pub byte_behind : (start mid new : Terminal) (bytes : List ℕ) (place byte : ℕ) → place < length bytes → byte ≡ get_or bytes place 0
+    → TakesBytes start (take place bytes) mid → TakesByte mid byte new → TakesBytes start (take (place + 1) bytes) new
+byte_behind start mid new bytes place byte below at taken more =
+    up_to_one_more start bytes place mid new below taken (subst (λ (b : ℕ). TakesByte mid b new) at more)
+
+-- ---- data up to the next IAC
+
+-- behind its first byte
+data_goes_on : (run : List ℕ) (held after : Held) (talk : Term) (station : Station) (out : Vec ℕ Global) → IsRunning held → TakesAll held run [] after
+    → TakesBytes (terminal_of held talk None (before_byte station) out) run (terminal_of after talk None (before_byte station) out)
+data_goes_on [] held after talk station out running taken = ap (λ (h : Held). terminal_of h talk None (before_byte station) out) taken.1
+data_goes_on (byte ∷ run) held after talk station out running taken =
+    let none = none_completed taken.0.ready taken.1 taken.3 in (
+      terminal_of taken.0 talk None (before_byte station) out,
+      byte_goes_on held taken.0 talk (before_byte station) (before_byte station) out byte running taken.2 none.0 refl,
+      data_goes_on run taken.0 after talk station out (still_running record_limit held taken.0 byte running taken.2)
+          (subst (λ (items : List WireItem). TakesAll taken.0 run items after) none.1 taken.4),
+    )
+
+data_begins : (byte : ℕ) (run : List ℕ) (held after : Held) (talk : Term) (station : Station) (out : Vec ℕ Global) → IsRunning held → TakesAll held (byte ∷ run) [] after
+    → TakesBytes (terminal_of held talk None station out) (byte ∷ run) (terminal_of after talk None (before_byte station) out)
+data_begins byte run held after talk station out running taken =
+    let none = none_completed taken.0.ready taken.1 taken.3 in (
+      terminal_of taken.0 talk None (before_byte station) out,
+      byte_goes_on held taken.0 talk station (before_byte station) out byte running taken.2 none.0 refl,
+      data_goes_on run taken.0 after talk station out (still_running record_limit held taken.0 byte running taken.2)
+          (subst (λ (items : List WireItem). TakesAll taken.0 run items after) none.1 taken.4),
+    )
+
+pub data_taken : (run : List ℕ) (held after : Held) (talk : Term) (old station : Station) (out : Vec ℕ Global) → IsRunning held → TakesAll held run [] after
+    → 0 < length run → station ≡ before_byte old
+    → TakesBytes (terminal_of held talk None old out) run (terminal_of after talk None station out)
+data_taken [] held after talk old station out running taken some at = absurd (omega arith)
+data_taken (byte ∷ run) held after talk old station out running taken some at =
+    subst (λ (s : Station). TakesBytes (terminal_of held talk None old out) (byte ∷ run) (terminal_of after talk None s out)) (sym at)
+    (data_begins byte run held after talk old out running taken)
 
 -- ---- the parts of a terminal
 

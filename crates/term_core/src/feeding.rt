@@ -1,10 +1,11 @@
 //! How a terminal that is attached takes bytes.
-ghost use Rattle.std.specs.Prelude.{◌≡◌, ◌≤◌, ◌++◌, false, length, take, None};
+ghost use Rattle.std.specs.Prelude.{◌≡◌, ◌<◌, ◌≤◌, ◌++◌, ℕ, false, length, take, None, Vec};
+ghost use Rattle.std.specs.declared.alloc.Global.{Global};
 ghost use Rattle.std.specs.Vec.{vec_capacity};
 ghost use Rattle.telnet_wire.specs.Items.{item_of, sent_bytes};
 ghost use Rattle.tn3270e_msg.specs.Talk.{items_sent, IsOwnedMessage, closing};
 ghost use Rattle.term_core.specs.Room.{HasRoom};
-ghost use Rattle.tn3270e_msg.specs.TermTable.{is_agreed};
+ghost use Rattle.tn3270e_msg.specs.TermTable.{Term, is_agreed};
 ghost use Rattle.term_core.specs.Bytes.{TakesByte, TakesBytes};
 ghost use Rattle.term_core.specs.Feeds.{StopsFor};
 ghost use Rattle.term_core.specs.Over.{ItemTaken, IsRunning, IsLeft, terminal_of, cause_of};
@@ -29,24 +30,73 @@ pub(crate) fn feed_attached(
     ensures left { IsLeft (cause_of result.stop) decoder.new }
     ensures capacity { vec_capacity out.old ≤ vec_capacity out.new }
 {
-    for (taken, byte) in bytes.iter().enumerate() {
+    let mut taken = 0;
+    while taken < bytes.len() {
         if out.reserve(REPLY_ROOM).is_err() {
             return Fed {
                 taken,
                 stop: Stop::Memory,
             };
         }
-        if let Some(cause) = take_byte(talk, decoder, station, out, *byte) {
+        let (count, closes) = take_some(talk, decoder, station, out, &bytes[taken..]);
+        taken += count;
+        if let Some(cause) = closes {
             return Fed {
-                taken: taken + 1,
+                taken,
                 stop: Stop::Closed(cause),
             };
         }
     }
     Fed {
-        taken: bytes.len(),
+        taken,
         stop: Stop::Going,
     }
+}
+
+/// Takes the data up to the next IAC, which needs no room, and the byte after it. Answers how many bytes these are, and the cause by
+/// which the last closes the connection, if it does.
+fn take_some(
+    talk: &mut TermTalk,
+    decoder: &mut Decoder,
+    station: &mut Station,
+    out: &mut Vec<u8>,
+    bytes: &[u8],
+) -> (usize, Option<Cause>)
+    requires running { IsRunning decoder.old }
+    requires room { HasRoom out.old }
+    requires some { 0 < length bytes.now }
+    ensures some { 0 < result.0 }
+    ensures few { result.0 ≤ length bytes.now }
+    ensures taken { TakesBytes (terminal_of decoder.old talk.old None station.old out.old) (take result.0 bytes.now) (terminal_of decoder.new talk.new result.1 station.new out.new) }
+    ensures left { IsLeft result.1 decoder.new }
+    ensures capacity { vec_capacity out.old ≤ vec_capacity out.new }
+{
+    let count = take_data(decoder, station, bytes);
+    match bytes.get(count) {
+        Some(byte) => {
+            let closes = take_byte(talk, decoder, station, out, *byte);
+            (count + 1, closes)
+        }
+        None => (count, None),
+    }
+}
+
+/// Takes the data up to the next IAC, and answers how many bytes these are. Of a single byte it takes none.
+fn take_data(decoder: &mut Decoder, station: &mut Station, bytes: &[u8]) -> usize
+    requires { IsRunning decoder.old }
+    ensures few { result ≤ length bytes.now }
+    ensures taken { (talk : Term) (out : Vec ℕ Global) → TakesBytes (terminal_of decoder.old talk None station.old out) (take result bytes.now) (terminal_of decoder.new talk None station.new out) }
+    ensures running { IsRunning decoder.new }
+{
+    // A byte alone is pushed for less.
+    if bytes.len() < 2 {
+        return 0;
+    }
+    let count = decoder.push_data(bytes);
+    if count > 0 {
+        station.begin_byte();
+    }
+    count
 }
 
 /// Takes a byte, and answers the cause by which it closes the connection, if it does.

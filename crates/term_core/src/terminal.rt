@@ -224,7 +224,7 @@ impl Terminal {
     }
 
     /// The keyboard.
-    pub(crate) fn keyboard(&self) -> Keyboard
+    pub fn keyboard(&self) -> Keyboard
         ensures { result ≡ self.now.terminal.station.keyboard }
     {
         self.station.keyboard()

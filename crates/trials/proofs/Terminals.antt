@@ -101,6 +101,7 @@ happens_keep (event.Up number bytes) old answer new happens =
 happens_keep (event.Down number bytes) old answer new happens =
     goes_down (terminal_at number old.slots) number (take bytes (down_of number old)) old answer new happens
 happens_keep (event.Act number) old answer new happens = ap count happens.leaves
+happens_keep (event.Answer number ticket said) old answer new happens = ap count happens.leaves
 happens_keep (event.Note number text) old answer new happens = ap count happens.leaves
 happens_keep (event.KeepAlive number) old answer new happens = ap count happens.1
 happens_keep (event.Lose number) old answer new happens = ap count happens.1

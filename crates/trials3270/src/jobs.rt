@@ -4,6 +4,7 @@
 mod checks;
 mod commands;
 mod memory;
+mod operators;
 mod streams;
 mod terminals;
 mod texts;

@@ -10,7 +10,7 @@ use Rattle.codes3270.specs.declared.attention.Aid.TheVariants.{NoAid, Enter as E
 use Rattle.datastream.specs.Grammar.{CommandParts}
 use Rattle.datastream.specs.Wanted.{WantedScreen}
 use Rattle.panels.specs.declared.message.Message.{Message}
-use Rattle.panels.specs.declared.message.Message.TheVariants.{Fresh}
+use Rattle.panels.specs.declared.message.Message.TheVariants.{Fresh, Told}
 use Rattle.panels.specs.Screen.{Values}
 use Rattle.shadow.specs.Belief.{Shadow}
 use Rattle.shadow.specs.Meets.{Meets}
@@ -18,7 +18,7 @@ use Rattle.shadow.specs.Openness.{NothingIsOpen}
 use Rattle.shadow.specs.Paint.{paint}
 use Rattle.tn3270e_msg.specs.Talk.{Talk, start_at}
 use Rattle.tn3270e_msg.specs.declared.host_talk.HostState.{HostState}
-use Rattle.host_core.specs.Acts.{Act, Sent as Sending, after_key, act_on, wanted_by, done, may_act, acted}
+use Rattle.host_core.specs.Acts.{Act, Decision, Sent as Sending, after_key, decided, decision_on, wanted_by, done, may_act, acted}
 use Rattle.host_core.specs.Application.{Application, IsApplication, IsSizeOf}
 use Rattle.host_core.specs.Laws.{IsPaintable}
 use Rattle.host_core.specs.Messages.{ToTerminal}
@@ -29,6 +29,9 @@ use Rattle.host_core.specs.declared.turn.Turn.TheVariants as whose
 use Rattle.host_core.specs.declared.turn_reason.TurnReason.{TurnReason}
 use Rattle.host_core.specs.declared.turn_reason.TurnReason.TheVariants as turn_reasons
 use Rattle.host_core.specs.Session.{Conn, Pending, is_agreed, model_in}
+use Rattle.host_core.specs.Questions.{act_by, answered_on, has_its_panel, has_value_of, is_ask, is_asking, values_for}
+use Rattle.host_core.specs.declared.question.Answer.{Answer as Said}
+use Rattle.std.specs.Prelude.{◌&&◌, not}
 use Rattle.world3270.specs.Given.{Given}
 use Rattle.world3270.specs.Link.{Link, sent, host_sent}
 use Rattle.world3270.specs.Moments.{Kind, UnderWay, Talking, Serving, Moment, IsAt, host_talk_at, term_state_at, turn_at, pending_at, down_at, up_at, agreed, served_down, served_up}
@@ -108,33 +111,48 @@ size_shown given app is link k lu panel message keep values talks =
     (given.belief.sizes app link.host (Act.Show panel message keep values) is (subst (λ (m : Model). IsSizeOf app m link.host.shape) (sym here) k.sizes.host))
 
 -- after Clear nothing is read
-key_uncleared : (app : Application) (conn : Conn) (pressed : Aid) (buffered : Bool) → after_key app conn pressed buffered ≡ Act.Read → pressed ≡ ClearAid → ⊥
+key_uncleared : (app : Application) (conn : Conn) (pressed : Aid) (buffered : Bool) → after_key app conn pressed buffered ≡ Decision.Do Act.Read → pressed ≡ ClearAid → ⊥
 key_uncleared app conn ClearAid buffered e is = absurd (cc)
 key_uncleared app conn NoAid buffered e is = absurd (cc)
 key_uncleared app conn EnterAid buffered e is = absurd (cc)
 key_uncleared app conn (PfAid key) buffered e is = absurd (cc)
 key_uncleared app conn (PaAid key) buffered e is = absurd (cc)
 
-reads_uncleared : (app : Application) (conn : Conn) (turn_reason : TurnReason) (aid : Aid) → IsOccasion turn_reason aid → act_on app conn turn_reason ≡ Act.Read → aid ≡ ClearAid → ⊥
+reads_uncleared : (app : Application) (conn : Conn) (turn_reason : TurnReason) (aid : Aid) → IsOccasion turn_reason aid → decision_on app conn turn_reason ≡ Decision.Do Act.Read → aid ≡ ClearAid → ⊥
 reads_uncleared app conn turn_reasons.Agreement aid is e clear = absurd (cc)
 reads_uncleared app conn (turn_reasons.Key pressed buffered) aid is e clear = key_uncleared app conn pressed buffered e (is.0 ∙ clear)
 reads_uncleared app conn turn_reasons.Refusal aid is e clear = absurd is
 
--- nothing is open where a panel is shown
-key_closed : (app : Application) (conn : Conn) (pressed : Aid) (buffered : Bool) (shadow : Shadow) (panel : ℕ) (message : Message) (keep : Bool) (values : Values)
-    → after_key app conn pressed buffered ≡ Act.Show panel message keep values → IsOpenBy pressed buffered shadow → NothingIsOpen shadow
-key_closed app conn ClearAid buffered shadow panel message keep values e o = o
-key_closed app conn NoAid buffered shadow panel message keep values e o = o
-key_closed app conn EnterAid buffered shadow panel message keep values e o = o
-key_closed app conn (PfAid key) buffered shadow panel message keep values e o = o
-key_closed app conn (PaAid key) true shadow panel message keep values e o = o
-key_closed app conn (PaAid key) false shadow panel message keep values e o = absurd (cc)
+-- it isn't to be read
+NotRead : Decision → Type 0
+NotRead decision = decision ≡ Decision.Do Act.Read → ⊥
 
-shown_closed : (app : Application) (conn : Conn) (turn_reason : TurnReason) (shadow : Shadow) (panel : ℕ) (message : Message) (keep : Bool) (values : Values)
-    → act_on app conn turn_reason ≡ Act.Show panel message keep values → IsOpenFor turn_reason shadow → NothingIsOpen shadow
-shown_closed app conn turn_reasons.Agreement shadow panel message keep values e o = o
-shown_closed app conn (turn_reasons.Key pressed buffered) shadow panel message keep values e o = key_closed app conn pressed buffered shadow panel message keep values e o
-shown_closed app conn turn_reasons.Refusal shadow panel message keep values e o = absurd o
+-- nothing is open where the screen isn't read
+key_closed : (app : Application) (conn : Conn) (pressed : Aid) (buffered : Bool) (shadow : Shadow) → NotRead (after_key app conn pressed buffered) → IsOpenBy pressed buffered shadow → NothingIsOpen shadow
+unfolding NotRead
+key_closed app conn ClearAid buffered shadow unread o = o
+key_closed app conn NoAid buffered shadow unread o = o
+key_closed app conn EnterAid buffered shadow unread o = o
+key_closed app conn (PfAid key) buffered shadow unread o = o
+key_closed app conn (PaAid key) true shadow unread o = o
+key_closed app conn (PaAid key) false shadow unread o = absurd (unread refl)
+
+decided_closed : (app : Application) (conn : Conn) (turn_reason : TurnReason) (shadow : Shadow) → NotRead (decision_on app conn turn_reason) → IsOpenFor turn_reason shadow → NothingIsOpen shadow
+decided_closed app conn turn_reasons.Agreement shadow unread o = o
+decided_closed app conn (turn_reasons.Key pressed buffered) shadow unread o = key_closed app conn pressed buffered shadow unread o
+decided_closed app conn turn_reasons.Refusal shadow unread o = absurd o
+
+shows_unread : (decision : Decision) (panel : ℕ) (message : Message) (keep : Bool) (values : Values) → decision ≡ Decision.Do (Act.Show panel message keep values) → NotRead decision
+unfolding NotRead
+shows_unread decision panel message keep values is = λ reads. absurd (let both = sym is ∙ reads in cc)
+
+asks_unread : (decision : Decision) → is_ask decision ≡ true → NotRead decision
+unfolding NotRead
+asks_unread decision asks = λ reads. absurd (let both = sym (ap is_ask reads) ∙ asks in cc)
+
+-- at agreement nothing is asked
+pub agreed_unasked : (app : Application) (conn : Conn) → conn.turn_reason ≡ turn_reasons.Agreement → is_ask (decision_on app conn conn.turn_reason) ≡ true → ⊥
+agreed_unasked app conn is asks = absurd (let both = sym (ap (λ (r : TurnReason). is_ask (decision_on app conn r)) is) ∙ asks in cc)
 
 abbrev command_of : Application → Conn → ℕ → Message → Bool → Values → CommandParts
 command_of app conn panel message keep values =
@@ -187,30 +205,48 @@ module _ (given : Given) (app : Application) (is : IsApplication app) (link : Li
       (sent_at link sending k.wanted (Moment.Serves lu Serving.Deciding) to same at refl refl at.turn refl refl refl)
       (record { decides = f; not_cleared = not_cleared })
 
-  acts_at : (lu : List ℕ) (act : Act) → link.term.display.shape ≡ link.host.shape → act_on app link.host link.host.turn_reason ≡ act → IsAt (view_of link) k.wanted (Moment.Serves lu Serving.Deciding) → Decides (scene_of (view_of link)) link.host.shadow → Kept app (view_of (sent_view (done app link.host act) link))
-  acts_at lu Act.Read steady e at f = asks lu steady (reads_uncleared app link.host link.host.turn_reason link.term.display.screen.aid f.turn_reason e) at f
-  acts_at lu (Act.Show panel message keep values) steady e at f =
-      paints lu panel message keep values (shown_closed app link.host link.host.turn_reason link.host.shadow panel message keep values e f.closed) at f
+  acts_at : (lu : List ℕ) (decision : Decision) → link.term.display.shape ≡ link.host.shape → decision_on app link.host link.host.turn_reason ≡ decision → IsAt (view_of link) k.wanted (Moment.Serves lu Serving.Deciding)
+      → Decides (scene_of (view_of link)) link.host.shadow → Kept app (view_of (host_sent (decided app link.host decision) link))
+  acts_at lu (Decision.Do Act.Read) steady e at f = asks lu steady (reads_uncleared app link.host link.host.turn_reason link.term.display.screen.aid f.turn_reason e) at f
+  acts_at lu (Decision.Do (Act.Show panel message keep values)) steady e at f =
+      paints lu panel message keep values
+      (decided_closed app link.host link.host.turn_reason link.host.shadow (shows_unread (decision_on app link.host link.host.turn_reason) panel message keep values e) f.closed) at f
+  acts_at lu Decision.Asks steady e at f = k
 
   -- at agreement the first panel is shown
   acts_new : (lu : List ℕ) → IsAt (view_of link) k.wanted (Moment.Talks (Talking.Agreeing lu)) → IsNew (scene_of (view_of link))
-      → Kept app (view_of (sent_view (done app link.host (act_on app link.host link.host.turn_reason)) link))
+      → Kept app (view_of (host_sent (decided app link.host (decision_on app link.host link.host.turn_reason)) link))
   acts_new lu at n =
-      subst (λ o. Kept app (view_of (sent_view (done app link.host (act_on app link.host o)) link))) (sym n.turn_reason)
+      subst (λ o. Kept app (view_of (host_sent (decided app link.host (decision_on app link.host o)) link))) (sym n.turn_reason)
       (paints_first lu app.start Fresh false link.host.values at n)
 
-  abbrev now : Link
-  now = sent_view (done app link.host (act_on app link.host link.host.turn_reason)) link
+  -- what is answered is shown
+  answers_at : (lu : List ℕ) (said : Said) (panel : Option ℕ) → is_ask (decision_on app link.host link.host.turn_reason) ≡ true → IsAt (view_of link) k.wanted (Moment.Serves lu Serving.Deciding)
+      → Decides (scene_of (view_of link)) link.host.shadow → Kept app (view_of (sent_view (done app link.host (act_by app link.host said panel)) link))
+  answers_at lu said panel is_asked at f = by_panel panel
+    where
+      closed : NothingIsOpen link.host.shadow
+      closed = decided_closed app link.host link.host.turn_reason link.host.shadow (asks_unread (decision_on app link.host link.host.turn_reason) is_asked) f.closed
 
-  -- it may act at two moments alone
-  may_act_at : link.host.turn ≡ whose.Host → link.host.pending ≡ Pending.Nothing → is_agreed link.host.talk.state ≡ true → Kept app (view_of now)
+      by_panel : (panel : Option ℕ) → Kept app (view_of (sent_view (done app link.host (act_by app link.host said panel)) link))
+      by_panel None =
+          paints lu link.host.panel (Told said.message said.cursor) (not (has_value_of (app.fields link.host.panel) said.values)) (values_for app link.host said None) closed at f
+      by_panel (Some shown_next) = paints lu shown_next (Told said.message said.cursor) false (values_for app link.host said (Some shown_next)) closed at f
+
+  -- The host may act at two moments alone: at agreement, and when it decides on a key.
+  data MayAct : Type 0 where
+    agreeing : (lu : List ℕ) → IsAt (view_of link) k.wanted (Moment.Talks (Talking.Agreeing lu)) → IsNew (scene_of (view_of link)) → MayAct
+    deciding : (lu : List ℕ) → Sizes app (view_of link) (Moment.Serves lu Serving.Deciding) → IsAt (view_of link) k.wanted (Moment.Serves lu Serving.Deciding)
+        → Decides (scene_of (view_of link)) link.host.shadow → MayAct
+
+  may_act_at : link.host.turn ≡ whose.Host → link.host.pending ≡ Pending.Nothing → is_agreed link.host.talk.state ≡ true → MayAct
   may_act_at turns pends agrees = by_moment k.moment k.sizes k.at k.fact
     where
       not_yet : (moment : Moment) → IsAt (view_of link) k.wanted moment → is_agreed (host_talk_at link.term.display.model moment).state ≡ true
       not_yet moment at = sym (ap (λ (t : Talk HostState). is_agreed t.state) at.host_talk) ∙ agrees
 
-      by_talk : (talking : Talking) → IsAt (view_of link) k.wanted (Moment.Talks talking) → IsNew (scene_of (view_of link)) → Kept app (view_of now)
-      by_talk (Talking.Agreeing lu) at n = acts_new lu at n
+      by_talk : (talking : Talking) → IsAt (view_of link) k.wanted (Moment.Talks talking) → IsNew (scene_of (view_of link)) → MayAct
+      by_talk (Talking.Agreeing lu) at n = MayAct.agreeing lu at n
       by_talk Talking.Offering at n = let x = not_yet (Moment.Talks Talking.Offering) at in absurd (cc)
       by_talk Talking.Accepting at n = let x = not_yet (Moment.Talks Talking.Accepting) at in absurd (cc)
       by_talk Talking.AskingType at n = let x = not_yet (Moment.Talks Talking.AskingType) at in absurd (cc)
@@ -221,8 +257,8 @@ module _ (given : Given) (app : Application) (is : IsApplication app) (link : Li
       by_talk (Talking.Rejected reason) at n = let x = not_yet (Moment.Talks (Talking.Rejected reason)) at in absurd (cc)
 
       by_serving : (lu : List ℕ) (serving : Serving) → Sizes app (view_of link) (Moment.Serves lu serving) → IsAt (view_of link) k.wanted (Moment.Serves lu serving) → Fact k.wanted (scene_of (view_of link)) (Moment.Serves lu serving) → turn_at (Moment.Serves lu serving) ≡ whose.Host
-          → pending_at (Moment.Serves lu serving) ≡ Pending.Nothing → Kept app (view_of now)
-      by_serving lu Serving.Deciding s at f t p = acts_at lu (act_on app link.host link.host.turn_reason) (s.same refl) refl at f
+          → pending_at (Moment.Serves lu serving) ≡ Pending.Nothing → MayAct
+      by_serving lu Serving.Deciding s at f t p = MayAct.deciding lu s at f
       by_serving lu (Serving.Reading number) s at f t p = absurd (cc)
       by_serving lu (Serving.Reported number parts) s at f t p = absurd (cc)
       by_serving lu (Serving.NotedLate number command) s at f t p = absurd (cc)
@@ -236,14 +272,18 @@ module _ (given : Given) (app : Application) (is : IsApplication app) (link : Li
       by_serving lu (Serving.KeyNoted number command parts) s at f t p = absurd (cc)
       by_serving lu (Serving.KeyBefore number command parts) s at f t p = absurd (cc)
 
-      by_moment : (moment : Moment) → Sizes app (view_of link) moment → IsAt (view_of link) k.wanted moment → Fact k.wanted (scene_of (view_of link)) moment → Kept app (view_of now)
+      by_moment : (moment : Moment) → Sizes app (view_of link) moment → IsAt (view_of link) k.wanted moment → Fact k.wanted (scene_of (view_of link)) moment → MayAct
       by_moment (Moment.Talks talking) s at f = by_talk talking at f.0
       by_moment (Moment.Begins lu number command wants over) s at f = let t = sym at.turn ∙ turns in absurd (cc)
       by_moment (Moment.Serves lu serving) s at f = by_serving lu serving s at f (sym at.turn ∙ turns) (sym at.pending ∙ pends)
 
+  acts_then : MayAct → Kept app (view_of (host_sent (decided app link.host (decision_on app link.host link.host.turn_reason)) link))
+  acts_then (MayAct.agreeing lu at n) = acts_new lu at n
+  acts_then (MayAct.deciding lu s at f) = acts_at lu (decision_on app link.host link.host.turn_reason) (s.same refl) refl at f
+
   acts_by : (turn : Turn) (pending : Pending) (agreed : Bool) → link.host.turn ≡ turn → link.host.pending ≡ pending → is_agreed link.host.talk.state ≡ agreed
-      → Kept app (view_of (host_sent (if may_act turn pending agreed then Some (done app link.host (act_on app link.host link.host.turn_reason)) else None) link))
-  acts_by whose.Host Pending.Nothing true turns pends agrees = may_act_at turns pends agrees
+      → Kept app (view_of (host_sent (if may_act turn pending agreed then decided app link.host (decision_on app link.host link.host.turn_reason) else None) link))
+  acts_by whose.Host Pending.Nothing true turns pends agrees = acts_then (may_act_at turns pends agrees)
   acts_by whose.Host Pending.Nothing false turns pends agrees = k
   acts_by whose.Host (Pending.Writing number command) agreed turns pends agrees = k
   acts_by whose.Host (Pending.Reading number) agreed turns pends agrees = k
@@ -253,6 +293,55 @@ module _ (given : Given) (app : Application) (is : IsApplication app) (link : Li
   -- the host acts, if it may
   pub acts : Kept app (view_of (host_sent (acted app link.host) link))
   acts = acts_by link.host.turn link.host.pending (is_agreed link.host.talk.state) refl refl refl
+
+  -- ---- the application answers
+
+  answers_then : (said : Said) → is_ask (decision_on app link.host link.host.turn_reason) ≡ true → MayAct → Kept app (view_of (sent_view (done app link.host (act_by app link.host said said.panel)) link))
+  answers_then said is_asked (MayAct.agreeing lu at n) = absurd (agreed_unasked app link.host n.turn_reason is_asked)
+  answers_then said is_asked (MayAct.deciding lu s at f) = answers_at lu said said.panel is_asked at f
+
+  answers_by : (said : Said) (turn : Turn) (pending : Pending) (agreed is_asked has : Bool) → link.host.turn ≡ turn → link.host.pending ≡ pending → is_agreed link.host.talk.state ≡ agreed
+      → is_ask (decision_on app link.host link.host.turn_reason) ≡ is_asked
+      → Kept app (view_of (host_sent (if (may_act turn pending agreed && is_asked) && has then Some (done app link.host (act_by app link.host said said.panel)) else None) link))
+  answers_by said whose.Host Pending.Nothing true true true turns pends agrees is_asked = answers_then said is_asked (may_act_at turns pends agrees)
+  answers_by said whose.Host Pending.Nothing true true false turns pends agrees is_asked = k
+  answers_by said whose.Host Pending.Nothing true false has turns pends agrees is_asked = k
+  answers_by said whose.Host Pending.Nothing false asks_it has turns pends agrees is_asked = k
+  answers_by said whose.Host (Pending.Writing number command) agreed asks_it has turns pends agrees is_asked = k
+  answers_by said whose.Host (Pending.Reading number) agreed asks_it has turns pends agrees is_asked = k
+  answers_by said whose.Host (Pending.Noting number command) agreed asks_it has turns pends agrees is_asked = k
+  answers_by said whose.Terminal pending agreed asks_it has turns pends agrees is_asked = k
+
+  -- what the application answers is shown, if a question is open
+  pub answers_are_shown : (said : Said) → Kept app (view_of (host_sent (answered_on app link.host said) link))
+  answers_are_shown said =
+      answers_by said link.host.turn link.host.pending (is_agreed link.host.talk.state) (is_ask (decision_on app link.host link.host.turn_reason)) (has_its_panel app said) refl refl refl refl
+
+  -- ---- a question is open
+
+  -- the host decides, and asks
+  abbrev pub Asks : Type 0
+  Asks = (lu : List ℕ) × IsAt (view_of link) k.wanted (Moment.Serves lu Serving.Deciding) × Decides (scene_of (view_of link)) link.host.shadow
+      × (is_ask (decision_on app link.host link.host.turn_reason) ≡ true)
+
+  asks_then : is_ask (decision_on app link.host link.host.turn_reason) ≡ true → MayAct → Asks
+  asks_then is_asked (MayAct.agreeing lu at n) = absurd (agreed_unasked app link.host n.turn_reason is_asked)
+  asks_then is_asked (MayAct.deciding lu s at f) = (lu, at, f, is_asked)
+
+  asks_by : (turn : Turn) (pending : Pending) (agreed is_asked : Bool) → link.host.turn ≡ turn → link.host.pending ≡ pending → is_agreed link.host.talk.state ≡ agreed
+      → is_ask (decision_on app link.host link.host.turn_reason) ≡ is_asked → (may_act turn pending agreed && is_asked) ≡ true → Asks
+  asks_by whose.Host Pending.Nothing true true turns pends agrees is_asked open_now = asks_then is_asked (may_act_at turns pends agrees)
+  asks_by whose.Host Pending.Nothing true false turns pends agrees is_asked open_now = absurd (cc)
+  asks_by whose.Host Pending.Nothing false asks_it turns pends agrees is_asked open_now = absurd (cc)
+  asks_by whose.Host (Pending.Writing number command) agreed asks_it turns pends agrees is_asked open_now = absurd (cc)
+  asks_by whose.Host (Pending.Reading number) agreed asks_it turns pends agrees is_asked open_now = absurd (cc)
+  asks_by whose.Host (Pending.Noting number command) agreed asks_it turns pends agrees is_asked open_now = absurd (cc)
+  asks_by whose.Terminal pending agreed asks_it turns pends agrees is_asked open_now = absurd (cc)
+
+  -- where a question is open, the host decides
+  pub asks_deciding : is_asking app link.host ≡ true → Asks
+  asks_deciding open_now =
+      asks_by link.host.turn link.host.pending (is_agreed link.host.talk.state) (is_ask (decision_on app link.host link.host.turn_reason)) refl refl refl refl open_now
 
 -- ---- the host sends a note
 

@@ -1,9 +1,13 @@
 -- What the host sends in its turn, and notes that it sends, over bytes: they stand for the messages that it sends.
 use Rattle.std.proofs.Common.{◌≡◌, ◌<◌, ◌==◌, ℕ, Bool, true, false, Option, Some, None, is_some, List, [], ◌∷◌, ◌++◌, length, refl, ap, sym, subst, ◌∙◌, IfSome, if◌then◌else◌}
+use Rattle.host_core.specs.Questions.{act_by, answered_by, answered_on, has_its_panel, is_asking, is_ticket, ticket_of}
+use Rattle.host_core.specs.declared.question.Answer.{Answer as Said}
+use Rattle.host_core.specs.declared.question.Ticket.{Ticket}
+use Rattle.world3270.proofs.Answered.{as_answer}
 use Rattle.world3270.proofs.StandsSizes.{is_narrow}
 use Rattle.world3270.proofs.Down.{shape_of_model}
 use Rattle.codes3270.specs.declared.size.Model.{Model}
-use Rattle.std.specs.Prelude.{All}
+use Rattle.std.specs.Prelude.{All, ◌&&◌}
 use Rattle.std.proofs.lemmas.Bool.{and_parts, ltb-true}
 use Rattle.std.proofs.lemmas.List.{length-set, set-get_or}
 use Rattle.std.proofs.lemmas.List.Elements.{All-head, All-nil, All-tail}
@@ -12,10 +16,10 @@ use Rattle.shadow.specs.Belief.{Shadow}
 use Rattle.shadow.specs.Fits.{is_paintable}
 use Rattle.shadow.specs.Laws.{PaintIsBounded}
 use Rattle.telnet_wire.specs.Items.{sent_bytes}
-use Rattle.host_core.specs.Acts.{Sent, acted, act_on, done as done_act, may_act}
+use Rattle.host_core.specs.Acts.{Act, Decision, Sent, acted, decided, decision_on, done as done_act, may_act}
 use Rattle.host_core.specs.Answering.{number_in}
 use Rattle.host_core.specs.Application.{Application, application_of}
-use Rattle.host_core.specs.Does.{Does as HostDoes, acted_by, noted_by, with_conn, sent_on}
+use Rattle.host_core.specs.Does.{acted_by, noted_by, with_conn, sent_on, DoesAnswer}
 use Rattle.host_core.specs.KeepAlive.{is_bound, may_keep_alive, no_operation, with_nop}
 use Rattle.host_core.specs.Laws.{PaintsWhatFits}
 use Rattle.host_core.specs.Messages.{ToTerminal}
@@ -23,20 +27,20 @@ use Rattle.host_core.specs.NoteLaws.{IsNoteOf}
 use Rattle.host_core.specs.Notes.{note_command, may_note, noted, noted_as}
 use Rattle.host_core.specs.Says.{item_sent}
 use Rattle.host_core.specs.Session.{Conn, is_agreed}
-use Rattle.host_core.specs.State.{Host, Connection, Service, unused, most_connections, connection_at, service_at, with_connection}
+use Rattle.host_core.specs.State.{Host, Connection, Service, unused, most_connections, connection_at, service_at, with_connection, session_at}
 use Rattle.host_core.specs.declared.acted.Acted.{Acted}
 use Rattle.host_core.specs.declared.acted.Acted.TheVariants as acted_as
 use Rattle.panels.specs.Panel.{Panels}
 use Rattle.world3270.specs.Known.{Known}
-use Rattle.world3270.specs.ByteSteps.{ActsHost, answer_acted, is_link}
+use Rattle.world3270.specs.ByteSteps.{ActsHost, answer_acted, is_link, AnswersHost}
 use Rattle.world3270.specs.ByteWorld.{ByteWorld, Transits, is_there, transits_at, with_host, host_there, host_out, out_of}
 use Rattle.world3270.specs.Given.{Given}
 use Rattle.world3270.specs.Happens.{done}
 use Rattle.world3270.specs.Link.{Link, sent, host_sent}
 use Rattle.world3270.specs.Numbers.{IsNumber}
-use Rattle.world3270.specs.Placed.{has_place as has_place_over_messages}
+use Rattle.world3270.specs.Placed.{has_place as has_place_over_messages, host_is_answered}
 use Rattle.world3270.specs.Places.{EndsAgree}
-use Rattle.world3270.specs.Refines.{Begin, IsBegin, Reached, GoesOn, SkipsAreThose, once, after}
+use Rattle.world3270.specs.Refines.{Begin, IsBegin, Reached, GoesOn, SkipsAreThose, once, after, once_taken}
 use Rattle.world3270.specs.TrackedTerminals.{TrackedTerminal}
 use Rattle.world3270.specs.Sendable.{IsTyped, PaintsAScreen, IsSpelt}
 use Rattle.world3270.specs.Standing.{WorldStands, IsFlow, AreTransits, IsNotClosed, IsSettled, conn_of, tracked_of, link_with}
@@ -284,8 +288,27 @@ only_if : (b : Bool) (one sending : Sent) → (if b then Some one else None) ≡
 only_if true one sending is = cc
 only_if false one sending is = absurd (cc)
 
-act_sent : (app : Application) (conn : Conn) (sending : Sent) → acted app conn ≡ Some sending → sending ≡ done_act app conn (act_on app conn conn.turn_reason)
-act_sent app conn sending is = only_if (may_act conn.turn conn.pending (is_agreed conn.talk.state)) (done_act app conn (act_on app conn conn.turn_reason)) sending is
+decided_sent : (app : Application) (conn : Conn) (b : Bool) (decision : Decision) (sending : Sent) → (if b then decided app conn decision else None) ≡ Some sending
+    → (act : Act) × (sending ≡ done_act app conn act)
+decided_sent app conn true (Decision.Do act) sending is = (act, cc)
+decided_sent app conn true Decision.Asks sending is = absurd (cc)
+decided_sent app conn false decision sending is = absurd (cc)
+
+act_sent : (app : Application) (conn : Conn) (sending : Sent) → acted app conn ≡ Some sending → (act : Act) × (sending ≡ done_act app conn act)
+act_sent app conn sending is = decided_sent app conn (may_act conn.turn conn.pending (is_agreed conn.talk.state)) (decision_on app conn conn.turn_reason) sending is
+
+if_some : (b : Bool) (what : Option Sent) (sending : Sent) → (if b then what else None) ≡ Some sending → what ≡ Some sending
+if_some true what sending is = is
+if_some false what sending is = absurd (cc)
+
+answering : (app : Application) (session : ℕ) (ticket : Ticket) (said : Said) (service : Service) (sending : Sent) → answered_by app session ticket said service ≡ Some sending
+    → (is_there service ≡ true) × (answered_on app (conn_of service) said ≡ Some sending)
+answering app session ticket said Service.Free sending is = absurd (cc)
+answering app session ticket said (Service.Open rest conn) sending is = (refl, if_some (is_ticket ticket (ticket_of session conn)) (answered_on app conn said) sending is)
+answering app session ticket said (Service.Closed cause) sending is = absurd (cc)
+
+answer_sent : (app : Application) (conn : Conn) (said : Said) (sending : Sent) → answered_on app conn said ≡ Some sending → sending ≡ done_act app conn (act_by app conn said said.panel)
+answer_sent app conn said sending is = only_if (is_asking app conn && has_its_panel app said) (done_act app conn (act_by app conn said said.panel)) sending is
 
 note_sent : (text : List ℕ) (conn : Conn) (sending : Sent) → noted text conn ≡ Some sending → sending ≡ noted_as text conn
 note_sent text conn sending is = only_if (may_note conn.turn conn.pending (is_agreed conn.talk.state)) (noted_as text conn) sending is
@@ -321,7 +344,7 @@ record Went (begin : Begin) (events : List Event) (message : Event) (answer : St
   reached : Reached begin (events ++ more) new
 
 went_on : (begin : Begin) (events : List Event) (message : Event) (number : ℕ) (sending : Sent) (old new : ByteWorld) (answer : Stepped) (host : Host) (act : Acted)
-    → HostDoes (Some sending) (connection_at number old.host) act (connection_at number host) → host ≡ with_connection number (connection_at number host) old.host
+    → DoesAnswer (Some sending) (connection_at number old.host) act (connection_at number host) → host ≡ with_connection number (connection_at number host) old.host
     → answer ≡ answer_acted act → new ≡ with_host host old → Reached begin events old → Reached begin (events ++ message ∷ []) (told sending number old)
     → Went begin events message answer new
 went_on begin events message number sending old new answer host acted_as.Sent does others answers leaves before reached = record {
@@ -333,7 +356,7 @@ went_on begin events message number sending old new answer host acted_as.Sent do
 went_on begin events message number sending old new answer host acted_as.Memory does others answers leaves before reached = record {
   more = [];
   is_once = ap (λ (a : Stepped). once message a) (sym answers);
-  reached = reached_still begin events old new before (leaves ∙ nothing_said number old host others does.0);
+  reached = reached_still begin events old new before (leaves ∙ nothing_said number old host others does);
 }
 went_on begin events message number sending old new answer host acted_as.Nothing does others answers leaves before reached = absurd does
 
@@ -384,12 +407,58 @@ module _ (known : Known) (skips : SkipsAreThose) (given : Given) (stands_for : P
           (ap (λ (panels : Panels). acted_by (application_of panels) (service_at number old.host)) (sym reached.panels) ∙ e) in
           let does : acted app link.host ≡ Some sending = ap (λ (c : Conn). acted app c) (sym (same_conn begin events old number reached found.0)) ∙ found.1 in
           let suits : Suits sending.message =
-          subst (λ (s : Sent). Suits s.message) (sym (act_sent app link.host sending does))
-          (act_suits _ link.host.shadow _ (known.worlds.given.belief.fit app link.host (act_on app link.host link.host.turn_reason) (is_application known.worlds begin is))) in
-          let went = went_on begin events (Event.Act number) number sending old new answer acts.host acts.act acts.acts acts.others acts.answers acts.leaves reached
+          let sent_by = act_sent app link.host sending does in
+          subst (λ (s : Sent). Suits s.message) (sym sent_by.1)
+          (act_suits _ link.host.shadow _ (known.worlds.given.belief.fit app link.host sent_by.0 (is_application known.worlds begin is))) in
+          let went = went_on begin events (Event.Act number) number sending old new answer acts.host acts.act (as_answer (Some sending) (connection_at number old.host) acts.act (connection_at number acts.host) acts.acts) acts.others acts.answers acts.leaves reached
           (told_reached begin events (Event.Act number) number sending old is reached tt tt (sym (skips begin events (event.Act number) old is reached tt) ∙ place)
           (ap (λ (o : Option Sent). with_link number (host_sent o link) (after begin events)) does) below found.0 suits) in
           record { more = went.more; comes_to = went.is_once; reached = went.reached }
+
+  -- it has a place over messages
+  answer_has_place : (app : Application) (said : Said) (number : ℕ) (link : Link) (sending : Sent) → is_link number ≡ true → link.host_here ≡ true → answered_on app link.host said ≡ Some sending
+      → (is_link number && host_is_answered app said link) ≡ true
+  answer_has_place app said number link sending linked here does =
+      ap (λ (b : Bool). b && host_is_answered app said link) linked ∙ ap (λ (b : Bool). b && is_some (answered_on app link.host said)) here ∙ ap (λ (o : Option Sent). is_some o) does
+
+  taken_if : (message : Event) (answer : Stepped) (act : Acted) → answer ≡ answer_acted act → (act ≡ acted_as.Nothing → ⊥) → once message answer ≡ once_taken message answer
+  taken_if message answer acted_as.Sent is some = ap (once message) is ∙ sym (ap (once_taken message) is)
+  taken_if message answer acted_as.Memory is some = ap (once message) is ∙ sym (ap (once_taken message) is)
+  taken_if message answer acted_as.Nothing is some = absurd (some refl)
+
+  does_something : (sending : Sent) (old : Connection) (act : Acted) (new : Connection) → DoesAnswer (Some sending) old act new → act ≡ acted_as.Nothing → ⊥
+  does_something sending old acted_as.Sent new does nothing = absurd (cc)
+  does_something sending old acted_as.Memory new does nothing = absurd (cc)
+  does_something sending old acted_as.Nothing new does nothing = does
+
+  pub answer_goes : (number : ℕ) (ticket : Ticket) (said : Said) → Goes (event.Answer number ticket said)
+  answer_goes number ticket said begin events old answer new is reached real place happens =
+      let session : ℕ = session_at number old.host in
+      let parts = and_parts (is_link number) (is_some (answered_by (application_of old.host.panels) session ticket said (service_at number old.host))) place in
+      by_does (answered_by (application_of old.host.panels) session ticket said (service_at number old.host)) refl parts.0 parts.1 happens
+    where
+      by_does : (does : Option Sent) → answered_by (application_of old.host.panels) (session_at number old.host) ticket said (service_at number old.host) ≡ does → is_link number ≡ true → is_some does ≡ true
+          → AnswersHost does number old answer new → GoesOn begin events (event.Answer number ticket said) old answer new
+      by_does None e linked some acts = absurd (cc)
+      by_does (Some sending) e linked some acts =
+          let app : Application = application_of begin.panels in
+          let link : Link = (after begin events).link number in
+          let below : number < most_connections = ltb-true number most_connections linked in
+          let found = answering app (session_at number old.host) ticket said (service_at number old.host) sending
+          (ap (λ (panels : Panels). answered_by (application_of panels) (session_at number old.host) ticket said (service_at number old.host)) (sym reached.panels) ∙ e) in
+          let does : answered_on app link.host said ≡ Some sending = ap (λ (c : Conn). answered_on app c said) (sym (same_conn begin events old number reached found.0)) ∙ found.1 in
+          let here : link.host_here ≡ true = sym (reached.stands.links number).host_here ∙ found.0 in
+          let suits : Suits sending.message =
+          subst (λ (s : Sent). Suits s.message) (sym (answer_sent app link.host said sending does))
+          (act_suits _ link.host.shadow _ (known.worlds.given.belief.fit app link.host (act_by app link.host said said.panel) (is_application known.worlds begin is))) in
+          let went = went_on begin events (Event.Answer number said) number sending old new answer acts.host acts.act acts.acts acts.others acts.answers acts.leaves reached
+          (told_reached begin events (Event.Answer number said) number sending old is reached real.0 tt (answer_has_place app said number link sending linked here does)
+          (ap (λ (o : Option Sent). with_link number (host_sent o link) (after begin events)) does) below found.0 suits) in
+          record {
+            more = went.more;
+            comes_to = went.is_once ∙ taken_if (Event.Answer number said) answer acts.act acts.answers (does_something sending (connection_at number old.host) acts.act (connection_at number acts.host) acts.acts);
+            reached = went.reached;
+          }
 
   pub note_goes : (number : ℕ) (text : List ℕ) → Goes (event.Note number text)
   note_goes number text begin events old answer new is reached real place happens =
@@ -413,7 +482,7 @@ module _ (known : Known) (skips : SkipsAreThose) (given : Given) (stands_for : P
           let suits : Suits sending.message =
           subst (λ (s : Sent). Suits s.message) (sym (note_sent text link.host sending does))
           (link.host.shape, shape_of_model app model link.host.shape app_is kept.sizes.host, is_narrow model link.host.shape kept.sizes.host, note) in
-          let went = went_on begin events (Event.Note number text) number sending old new answer acts.host acts.act acts.acts acts.others acts.answers acts.leaves reached
+          let went = went_on begin events (Event.Note number text) number sending old new answer acts.host acts.act (as_answer (Some sending) (connection_at number old.host) acts.act (connection_at number acts.host) acts.acts) acts.others acts.answers acts.leaves reached
           (told_reached begin events (Event.Note number text) number sending old is reached real.0 tt (sym (skips begin events (event.Note number text) old is reached tt) ∙ place)
           (ap (λ (o : Option Sent). with_link number (host_sent o link) (after begin events)) does) below found.0 suits) in
           record { more = went.more; comes_to = went.is_once; reached = went.reached }

@@ -8,7 +8,7 @@ use Rattle.host_core.specs.Application.{Application, application_of}
 use Rattle.host_core.specs.Does.{acted_by, noted_by}
 use Rattle.host_core.specs.Notes.{noted}
 use Rattle.host_core.specs.Session.{Conn}
-use Rattle.host_core.specs.State.{Service, service_at, most_connections}
+use Rattle.host_core.specs.State.{Service, service_at, most_connections, session_at}
 use Rattle.panels.specs.Panel.{Panels}
 use Rattle.shadow.specs.Pairs.{Pairwise}
 use Rattle.telnet_wire.specs.Items.{WireItem, items_after, unfinished_after}
@@ -16,12 +16,15 @@ use Rattle.telnet_wire.specs.Laws.{OneDelivery, ReadingNothing}
 use Rattle.telnet_wire.specs.Reading.{Rest, nothing, Delivers}
 use Rattle.telnet_wire.specs.Token.{Token, Data, End, Opt as OptToken, Sub as SubToken, Other as OtherToken, text}
 use Rattle.tn3270e_msg.specs.Header.{record_limit}
+use Rattle.host_core.specs.Questions.{answered_by, answered_in, answered_on, is_ticket, ticket_of}
+use Rattle.host_core.specs.declared.question.Answer.{Answer as Said}
+use Rattle.host_core.specs.declared.question.Ticket.{Ticket}
 use Rattle.world3270.specs.ByteSteps.{is_link, is_terminal, is_lost, is_held, is_up, sees_loss, free_from, free_number, may_connect}
 use Rattle.world3270.specs.ByteWorld.{ByteWorld, is_there, is_live, transits_at, slot_at, host_there, terminal_at, terminal_there, up_of, down_of}
 use Rattle.world3270.specs.Deliveries.{BringAMessage, rest_at, rest_of_terminal, terminal_rest}
 use Rattle.world3270.specs.Link.{Link, is_free, is_up as is_link_up}
-use Rattle.world3270.specs.Placed.{is_queued, comes_up, comes_down, host_acts, host_notes, host_sees, terminal_sees, free_number as free_link, may_connect as may_join}
-use Rattle.world3270.specs.Refines.{SkipsAreThose, after}
+use Rattle.world3270.specs.Placed.{is_queued, comes_up, comes_down, host_acts, host_notes, host_sees, terminal_sees, free_number as free_link, may_connect as may_join, host_is_answered}
+use Rattle.world3270.specs.Refines.{SkipsAreThose, after, IsTicketAt}
 use Rattle.world3270.specs.Standing.{WorldStands, IsAt, IsNotClosed, conn_of, link_with}
 use Rattle.world3270.specs.Stands.{StandsDown, StandsUp, BytesStand, LinkStands, all_items, without_nops}
 use Rattle.world3270.specs.World.{Place, World}
@@ -60,6 +63,24 @@ acts_alike : (app : Application) (number : ℕ) (bytes : ByteWorld) (world : Wor
 acts_alike app number bytes world stands =
     let link = stands.links number in
     acts_by app (service_at number bytes.host) (world.link number) link.host_here (stands.none_closed number) (λ here. (link.host here).host)
+
+answers_in : (app : Application) (session : ℕ) (ticket : Ticket) (said : Said) (conn : Conn) → is_ticket ticket (ticket_of session conn) ≡ true
+    → is_some (answered_in app session ticket said conn) ≡ is_some (answered_on app conn said)
+answers_in app session ticket said conn is = ap (λ (b : Bool). is_some (if b then answered_on app conn said else None)) is
+
+answers_by : (app : Application) (session : ℕ) (ticket : Ticket) (said : Said) (service : Service) (link : Link) → IsTicketAt ticket session service → is_there service ≡ link.host_here → IsNotClosed service
+    → (link.host_here ≡ true → conn_of service ≡ link.host) → is_some (answered_by app session ticket said service) ≡ host_is_answered app said link
+answers_by app session ticket said Service.Free link is here going same = ap (λ (b : Bool). b && is_some (answered_on app link.host said)) here
+answers_by app session ticket said (Service.Open rest conn) link is here going same =
+    answers_in app session ticket said conn is
+    ∙ ap (λ (c : Conn). is_some (answered_on app c said)) (same (sym here)) ∙ ap (λ (b : Bool). b && is_some (answered_on app link.host said)) here
+answers_by app session ticket said (Service.Closed cause) link is here going same = absurd going
+
+answers_alike : (app : Application) (session : ℕ) (ticket : Ticket) (said : Said) (number : ℕ) (bytes : ByteWorld) (world : World) → WorldStands bytes world
+    → IsTicketAt ticket session (service_at number bytes.host) → is_some (answered_by app session ticket said (service_at number bytes.host)) ≡ host_is_answered app said (world.link number)
+answers_alike app session ticket said number bytes world stands is =
+    let link = stands.links number in
+    answers_by app session ticket said (service_at number bytes.host) (world.link number) is link.host_here (stands.none_closed number) (λ here. (link.host here).host)
 
 notes_by : (text : List ℕ) (service : Service) (link : Link) → is_there service ≡ link.host_here → IsNotClosed service → (link.host_here ≡ true → conn_of service ≡ link.host)
     → is_some (noted_by text service) ≡ host_notes text link
@@ -222,6 +243,10 @@ module _ (one : OneDelivery) (no_bytes : ReadingNothing) where
       ap (λ (b : Bool). is_link number && b)
       (ap (λ (panels : Panels). is_some (acted_by (application_of panels) (service_at number bytes.host))) reached.panels
       ∙ acts_alike (application_of begin.panels) number bytes (after begin events) reached.stands)
+  skips_are_those begin events (event.Answer number ticket said) bytes is reached counted =
+      ap (λ (b : Bool). is_link number && b)
+      (ap (λ (panels : Panels). is_some (answered_by (application_of panels) (session_at number bytes.host) ticket said (service_at number bytes.host))) reached.panels
+      ∙ answers_alike (application_of begin.panels) (session_at number bytes.host) ticket said number bytes (after begin events) reached.stands counted)
   skips_are_those begin events (event.Note number text) bytes is reached counted =
       ap (λ (b : Bool). is_link number && b) (notes_alike text number bytes (after begin events) reached.stands)
   skips_are_those begin events (event.KeepAlive number) bytes is reached counted = tt

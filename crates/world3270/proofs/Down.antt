@@ -8,6 +8,7 @@ use Rattle.std.specs.Str.{bytes_eq}
 use Rattle.std.proofs.lemmas.Bool.{eqb-true}
 use Rattle.std.proofs.lemmas.List.{length-replicate}
 use Rattle.std.proofs.lemmas.List.Elements.{All-nil, All-cons}
+use Rattle.codes3270.specs.Aid.{is_short_aid}
 use Rattle.codes3270.specs.Size.{Shape, cells_in}
 use Rattle.codes3270.specs.declared.attention.Aid.{Aid}
 use Rattle.codes3270.specs.declared.attention.Aid.TheVariants.{NoAid, Enter, Clear, Pf, Pa}
@@ -55,7 +56,7 @@ use Rattle.world3270.specs.Headline.{SentFields}
 use Rattle.world3270.specs.Unreturned.{UnmodifiedIsKept}
 use Rattle.world3270.specs.Link.{Link, sent}
 use Rattle.world3270.specs.Moments.{Kind, Talking, Serving, Moment, UnderWay, IsAt, host_talk_at, term_state_at, turn_at, pending_at, down_at, up_at}
-use Rattle.world3270.specs.TurnReasons.{IsOccasion, IsOpenBy, IsOpenFor, IsCleared}
+use Rattle.world3270.specs.TurnReasons.{IsOccasion, IsCursorFor, IsOpenBy, IsOpenFor, IsCleared}
 use Rattle.world3270.specs.Stages.{scene_of, once_taken, FactsAreExact, Suits, IsPainted, Operates, Sees, IsRead, Fact, Kept, Sizes, may_differ_at}
 use Rattle.world3270.specs.Terminal.{TermStep, with_talk, is_bound, bound_to, once_bound, paint_came, note_came, read_came, talked, took}
 use Rattle.world3270.specs.View.{view_of}
@@ -468,6 +469,7 @@ obeys given app is link message rest e k = by_moment k.moment k.sizes k.at k.fac
         (record {
           lock = f.0.lock;
           turn_reason = subst (λ o. IsOccasion o screen.aid) (sym f.0.turn_reason) f.0.aid;
+          cursor = subst (λ o. IsCursorFor o link.host.cursor screen.cursor) (sym f.0.turn_reason) tt;
           closed = subst (λ o. IsOpenFor o link.host.shadow) (sym f.0.turn_reason) (none_open link.host.shadow f.0.shadow);
           sees = record {
             exact = k.exact;
@@ -507,7 +509,7 @@ obeys given app is link message rest e k = by_moment k.moment k.sizes k.at k.fac
         as_message app link rest (ToTerminal.Note number command) message first.0
         (takes_note given app is link rest k (s.same refl) lu number command (Serving.KeyNoted number command parts) (Serving.KeyBefore number command parts) at f.2.note f.2.takes
         (record { host_talk = refl; turn = refl; pending = refl; up = refl }) first.1 (
-          record { lock = f.0.lock; form = f.0.form; size = f.0.size; pressed = f.0.pressed ∙ sym noted.aid; some = λ none. f.0.some (sym noted.aid ∙ none) },
+          record { lock = f.0.lock; form = f.0.form; size = f.0.size; pressed = f.0.pressed ∙ sym noted.aid; cursor = λ long. f.0.cursor (sym (ap is_short_aid noted.aid) ∙ long) ∙ ap (λ (n : ℕ). Some n) (sym noted.cursor); some = λ none. f.0.some (sym noted.aid ∙ none) },
           ok_map (Sees link.host.shape screen) (λ shadow. Sees link.host.shape (after_command command screen) (once_taken link.host.shape command shadow)) (heard (cells_in link.host.shape) link.host.shadow parts)
               (λ shadow seen. sees_noted given link.host.shape command screen shadow f.2.note (whole_here given app is link rest k (s.same refl)) noted seen) f.1,
         ))
@@ -520,6 +522,7 @@ obeys given app is link message rest e k = by_moment k.moment k.sizes k.at k.fac
         (record {
           lock = f.0.lock;
           turn_reason = subst (IsOccasion link.host.turn_reason) (sym noted.aid) f.0.turn_reason;
+          cursor = subst (λ (n : ℕ). IsCursorFor link.host.turn_reason link.host.cursor n) (sym noted.cursor) f.0.cursor;
           closed = open_for link.host.turn_reason link.host.shadow (once_taken link.host.shape command link.host.shadow)
               (λ o. subst (λ n. NothingIsOpen (taken n command link.host.shadow)) (whole_here given app is link rest k (s.same refl)) (given.notes.opens command link.host.shadow screen noted.over f.0.sees.meets o)) f.0.closed;
           sees = sees_noted given link.host.shape command screen link.host.shadow f.1.note (whole_here given app is link rest k (s.same refl)) noted f.0.sees;

@@ -12,6 +12,7 @@ use Rattle.host_core.specs.Application.{Application}
 use Rattle.host_core.specs.Messages.{ToTerminal, ToHost}
 use Rattle.host_core.specs.Notes.{noted}
 use Rattle.host_core.specs.Takes.{freed_if, HostStep, took as host_took}
+use Rattle.host_core.specs.Questions.{answered_on}
 use Rattle.world3270.specs.Always.{Always}
 use Rattle.world3270.specs.Given.{Given}
 use Rattle.world3270.specs.Happens.{closed_if, came_up, left_alone, came_down, went_down, key_went, host_parted, parted, term_saw, joined, term_anew, host_left_from, host_anew, done, happens, run}
@@ -178,6 +179,7 @@ done_both given app (Event.Up number) world here b =
     came_up_both given world number link.up (and_parts link.host_here (is_queued link.up) comes).0 b
 done_both given app (Event.Down number) world here b = went_down_both world number (world.link number).term_here b
 done_both given app (Event.Act number) world here b = sends_both world number (acted app (world.link number).host) b
+done_both given app (Event.Answer number said) world here b = sends_both world number (answered_on app (world.link number).host said) b
 done_both given app (Event.Note number text) world here b = sends_both world number (noted text (world.link number).host) b
 done_both given app (Event.Lose number) world here b = changed world.pool world.link number (cut (world.link number)) (λ e. absurd (cc)) (λ e. e) b
 done_both given app (Event.HostSees number) world here b = host_parted_both given world number b

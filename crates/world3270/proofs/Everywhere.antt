@@ -16,6 +16,8 @@ use Rattle.host_core.specs.Application.{Application, IsApplication}
 use Rattle.host_core.specs.Messages.{ToTerminal, ToHost}
 use Rattle.host_core.specs.Notes.{noted}
 use Rattle.host_core.specs.Takes.{Answers, HostStep, took as host_took}
+use Rattle.host_core.specs.Questions.{answered_on}
+use Rattle.host_core.specs.declared.question.Answer.{Answer as Said}
 use Rattle.world3270.specs.Given.{Given}
 use Rattle.world3270.specs.Happens.{closed_if, said, freed_if, came_up, left_alone, place_after, came_down, went_down, key_went, parted, term_saw, joined, term_anew, host_left_from, done, happens, run}
 use Rattle.world3270.specs.Link.{Link, begun, unused, cut, host_left, host_stepped, host_sent, term_left, term_left_if, term_stepped}
@@ -35,6 +37,8 @@ pub record Steps (app : Application) (IsSuch : Event → Type 0) (OfLink : Link 
   pub up : (pool : Answers) (link : Link) (message : ToHost) (rest : List ToHost) → link.up ≡ message ∷ rest → Kept app (view_of link) → OfLink link
       → OfLink (host_stepped (host_took pool link.host message) rest link)
   pub acts : (link : Link) → Kept app (view_of link) → OfLink link → OfLink (host_sent (acted app link.host) link)
+  pub answers : (number : ℕ) (said : Said) (link : Link) → IsSuch (Event.Answer number said) → Kept app (view_of link) → OfLink link
+      → OfLink (host_sent (answered_on app link.host said) link)
   pub notes : (number : ℕ) (text : List ℕ) (link : Link) → IsSuch (Event.Note number text) → Kept app (view_of link) → OfLink link
       → OfLink (host_sent (noted text link.host) link)
   pub down : (link : Link) (message : ToTerminal) (rest : List ToTerminal) → link.down ≡ message ∷ rest → Kept app (view_of link) → OfLink link
@@ -145,6 +149,9 @@ module _ (given : Given) (app : Application) (is : IsApplication app) (IsSuch : 
   done_holds (Event.Act number) world such g h =
       let link : Link = world.link number in
       changed world number (host_sent (acted app link.host) link) (steps.acts link (g.links number) (h.links number)) h
+  done_holds (Event.Answer number said) world such g h =
+      let link : Link = world.link number in
+      changed world number (host_sent (answered_on app link.host said) link) (steps.answers number said link such (g.links number) (h.links number)) h
   done_holds (Event.Note number text) world such g h =
       let link : Link = world.link number in
       changed world number (host_sent (noted text link.host) link) (steps.notes number text link such (g.links number) (h.links number)) h

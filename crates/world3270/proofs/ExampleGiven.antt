@@ -94,6 +94,7 @@ is_well_noted text = nat_lt (length text) (longest_note + 1) && list_all is_grap
 -- an event that may happen
 unfoldable pub is_well_formed : Event → Bool
 is_well_formed (Event.Connect terminal wanted) = option_map_or is_lu wanted true
+is_well_formed (Event.Answer number said) = false
 is_well_formed (Event.Note number text) = is_well_noted text
 is_well_formed _ = true
 
@@ -112,6 +113,7 @@ is_event (Event.Press terminal key) well = tt
 is_event (Event.Up number) well = tt
 is_event (Event.Down number) well = tt
 is_event (Event.Act number) well = tt
+is_event (Event.Answer number said) well = absurd (cc)
 is_event (Event.Note number text) well = is_note text well
 is_event (Event.Lose number) well = tt
 is_event (Event.HostSees number) well = tt

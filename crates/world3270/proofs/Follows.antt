@@ -8,6 +8,8 @@ use Rattle.telnet_wire.specs.Items.{WireItem}
 use Rattle.telnet_wire.specs.Reading.{Rest, IsRest}
 use Rattle.tn3270e_msg.specs.Header.{record_limit}
 use Rattle.host_core.specs.Application.{application_of}
+use Rattle.host_core.specs.declared.question.Answer.{Answer as Said}
+use Rattle.host_core.specs.declared.question.Ticket.{Ticket}
 use Rattle.world3270.specs.ByteRuns.{AllHappen, StopsAt, refused_at}
 use Rattle.world3270.specs.ByteSteps.{HappensIf, Steps, has_place}
 use Rattle.world3270.specs.ByteWorld.{ByteWorld, down_of, up_of}
@@ -15,7 +17,7 @@ use Rattle.world3270.specs.Deliveries.{AreDeliveries, host_rest, taken_by, termi
 use Rattle.world3270.specs.Happens.{done, happens}
 use Rattle.world3270.specs.Known.{Known}
 use Rattle.world3270.specs.Placed.{has_place as has_place_over_messages}
-use Rattle.world3270.specs.Refines.{Begin, IsBegin, Reached, IsReached, IsReal, GoesOn, ComesTo, StepsGoOn, SkipsAreThose, ComeTo, NextComesTo, RunGoesOn, RunsGoOn, StepOverMessages, RunOverMessages, AreReal, after, once}
+use Rattle.world3270.specs.Refines.{Begin, IsBegin, Reached, IsReached, IsReal, GoesOn, ComesTo, StepsGoOn, SkipsAreThose, ComeTo, NextComesTo, RunGoesOn, RunsGoOn, StepOverMessages, RunOverMessages, AreReal, after, once, once_taken}
 use Rattle.world3270.specs.Sendable.{IsTyped}
 use Rattle.world3270.specs.Standing.{WorldStands}
 use Rattle.world3270.specs.Stands.{all_items, without_nops}
@@ -34,6 +36,7 @@ pub record EventsGo : Type 0 where
   pub up : (number count : ℕ) → Goes (event.Up number count)
   pub down : (number count : ℕ) → Goes (event.Down number count)
   pub act : (number : ℕ) → Goes (event.Act number)
+  pub answer : (number : ℕ) (ticket : Ticket) (said : Said) → Goes (event.Answer number ticket said)
   pub note : (number : ℕ) (text : List ℕ) → Goes (event.Note number text)
   pub keep_alive : (number : ℕ) → Goes (event.KeepAlive number)
   pub lose : (number : ℕ) → Goes (event.Lose number)
@@ -48,6 +51,7 @@ goes go (event.Key terminal key) = go.key terminal key
 goes go (event.Up number count) = go.up number count
 goes go (event.Down number count) = go.down number count
 goes go (event.Act number) = go.act number
+goes go (event.Answer number ticket said) = go.answer number ticket said
 goes go (event.Note number text) = go.note number text
 goes go (event.KeepAlive number) = go.keep_alive number
 goes go (event.Lose number) = go.lose number
@@ -105,6 +109,8 @@ module _ (known : Known) (skips : SkipsAreThose) (begin : Begin) (events : List 
   }
   skips_go (event.Key terminal key) real place = skips_once (event.Key terminal key) (MessageEvent.Press terminal key) real (skips begin events (event.Key terminal key) old is reached tt) place (is_once (MessageEvent.Press terminal key))
   skips_go (event.Act number) real place = skips_once (event.Act number) (MessageEvent.Act number) real (skips begin events (event.Act number) old is reached tt) place (is_once (MessageEvent.Act number))
+  skips_go (event.Answer number ticket said) real place =
+      record { more = []; comes_to = sym (ap (once_taken (MessageEvent.Answer number said)) skip); reached = reached_still begin events old new reached same }
   skips_go (event.Note number text) real place = skips_once (event.Note number text) (MessageEvent.Note number text) real (skips begin events (event.Note number text) old is reached tt) place (is_once (MessageEvent.Note number text))
   skips_go (event.Lose number) real place = skips_once (event.Lose number) (MessageEvent.Lose number) real (skips begin events (event.Lose number) old is reached tt) place (is_once (MessageEvent.Lose number))
   skips_go (event.HostSees number) real place = skips_once (event.HostSees number) (MessageEvent.HostSees number) real (skips begin events (event.HostSees number) old is reached tt) place (is_once (MessageEvent.HostSees number))

@@ -72,7 +72,7 @@ host_attached : (here : Bool) (conn : Conn) (host : HostSeen) → host_seen here
 host_attached true conn host e = (refl, let same : Some host ≡ Some (conn_seen conn) = sym e in cc)
 host_attached false conn host e = absurd (cc)
 
-terminal_attached : (here : Option ℕ) (end : TermEnd) (terminal : TerminalSeen) → terminal_seen here end ≡ Some terminal → (number : ℕ) × (here ≡ Some number) × (terminal ≡ end_seen number end)
+pub terminal_attached : (here : Option ℕ) (end : TermEnd) (terminal : TerminalSeen) → terminal_seen here end ≡ Some terminal → (number : ℕ) × (here ≡ Some number) × (terminal ≡ end_seen number end)
 terminal_attached None end terminal e = absurd (cc)
 terminal_attached (Some number) end terminal e = (number, refl, let same : Some terminal ≡ Some (end_seen number end) = sym e in cc)
 

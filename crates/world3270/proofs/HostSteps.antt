@@ -69,17 +69,17 @@ talks pool conn lu talk (reply.Close cause) = replies conn lu None (talk, reply.
 -- ---- data
 
 -- what waits for an answer still does, or nothing does
-believes : (turn_reason : TurnReason) (pending : Pending) (conn : Conn) (result : Result Shadow HeardFault) → (pending ≡ conn.pending) ⊎ (pending ≡ Pending.Nothing)
-    → JustTalks conn (believed turn_reason pending conn result)
-believes turn_reason pending conn (Ok shadow) waits = record { number = refl; values = refl; pending = waits; talk = []; says = refl }
-believes turn_reason pending conn (Err fault) waits = closes conn _
+believes : (turn_reason : TurnReason) (pending : Pending) (cursor : Option ℕ) (conn : Conn) (result : Result Shadow HeardFault) → (pending ≡ conn.pending) ⊎ (pending ≡ Pending.Nothing)
+    → JustTalks conn (believed turn_reason pending cursor conn result)
+believes turn_reason pending cursor conn (Ok shadow) waits = record { number = refl; values = refl; pending = waits; talk = []; says = refl }
+believes turn_reason pending cursor conn (Err fault) waits = closes conn _
 
 hears_key : (parts : InboundParts) (aid : Aid) (conn : Conn) → JustTalks conn (key_came parts aid conn)
 hears_key parts NoAid conn = closes conn _
-hears_key parts Enter conn = believes (turn_reasons.Key Enter false) conn.pending conn (hears parts conn) (inl refl)
-hears_key parts Clear conn = believes (turn_reasons.Key Clear false) conn.pending conn (hears parts conn) (inl refl)
-hears_key parts (Pf key) conn = believes (turn_reasons.Key (Pf key) false) conn.pending conn (hears parts conn) (inl refl)
-hears_key parts (Pa key) conn = believes (turn_reasons.Key (Pa key) false) conn.pending conn (hears parts conn) (inl refl)
+hears_key parts Enter conn = believes (turn_reasons.Key Enter false) conn.pending parts.cursor conn (hears parts conn) (inl refl)
+hears_key parts Clear conn = believes (turn_reasons.Key Clear false) conn.pending parts.cursor conn (hears parts conn) (inl refl)
+hears_key parts (Pf key) conn = believes (turn_reasons.Key (Pf key) false) conn.pending parts.cursor conn (hears parts conn) (inl refl)
+hears_key parts (Pa key) conn = believes (turn_reasons.Key (Pa key) false) conn.pending parts.cursor conn (hears parts conn) (inl refl)
 
 hears_key_data : (parts : InboundParts) (form : Form) (conn : Conn) → JustTalks conn (key_data_came parts form conn)
 hears_key_data parts Modified conn = hears_key parts parts.aid conn
@@ -87,7 +87,7 @@ hears_key_data parts AllModified conn = closes conn _
 hears_key_data parts Buffer conn = closes conn _
 
 hears_buffer : (parts : InboundParts) (form : Form) (conn : Conn) → JustTalks conn (buffer_came parts form conn)
-hears_buffer parts Buffer conn = believes (once_read conn.turn_reason) Pending.Nothing conn (hears parts conn) (inr refl)
+hears_buffer parts Buffer conn = believes (once_read conn.turn_reason) Pending.Nothing parts.cursor conn (hears parts conn) (inr refl)
 hears_buffer parts Modified conn = closes conn _
 hears_buffer parts AllModified conn = closes conn _
 

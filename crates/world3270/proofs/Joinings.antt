@@ -11,7 +11,7 @@ use Rattle.telnet_wire.specs.Reading.{nothing}
 use Rattle.lu_pool.specs.declared.entry.Entry.{Entry}
 use Rattle.panels.specs.Panel.{Panels}
 use Rattle.host_core.specs.Application.{application_of}
-use Rattle.host_core.specs.State.{Connection, unused, opened, connection_at, with_connection, most_connections}
+use Rattle.host_core.specs.State.{Connection, unused, opened, connection_at, most_connections, with_opened}
 use Rattle.world3270.specs.ByteSteps.{is_held, free_from}
 use Rattle.world3270.specs.ByteWorld.{ByteWorld, Transits, TerminalSlot, under_way, is_live, is_there, unused_transits, begun_transits, model_at, new_slot, attached_slot, is_attached_to, new_byte_world, transits_at, slot_at, with_transits, with_slot, with_host, terminal_at, host_there, host_out, out_of}
 use Rattle.world3270.specs.Link.{Link, begun, unused as unused_link}
@@ -42,7 +42,7 @@ found_below (suc count) number found world is = by_test (is_held number world) i
 
 module _ (model : Model) (number terminal : ℕ) (wanted : Option (List ℕ)) (old : ByteWorld) where
   abbrev pub connected : ByteWorld
-  connected = with_transits number begun_transits (with_slot terminal (attached_slot (model_at terminal old) wanted number) (with_host (with_connection number (opened old.host.panels) old.host) old))
+  connected = with_transits number begun_transits (with_slot terminal (attached_slot (model_at terminal old) wanted number) (with_host (with_opened number old.host) old))
 
   -- the connection that begins
   begun_link : BeginStands → transits_at number connected ≡ begun_transits → connection_at number connected.host ≡ opened old.host.panels → slot_at terminal connected ≡ attached_slot (model_at terminal old) wanted number → model_at terminal old ≡ model
@@ -73,7 +73,7 @@ module _ (model : Model) (number terminal : ℕ) (wanted : Option (List ℕ)) (o
       → WorldStands connected (record was { link = with_at number (begun (application_of old.host.panels) model terminal wanted) was.link; place = with_at terminal (Place.At number) was.place })
   connected_stands was begins agree stands below there_is alone modelled agrees =
       let now : World = record was { link = with_at number (begun (application_of old.host.panels) model terminal wanted) was.link; place = with_at terminal (Place.At number) was.place } in
-      let hosted : ByteWorld = with_host (with_connection number (opened old.host.panels) old.host) old in
+      let hosted : ByteWorld = with_host (with_opened number old.host) old in
       let attached : ByteWorld = with_slot terminal (attached_slot (model_at terminal old) wanted number) hosted in
       let within : number < length old.host.connections = subst (λ (n : ℕ). number < n) (stands.transits ∙ sym stands.connections) below in
       let transits : transits_at number connected ≡ begun_transits = transits_same number begun_transits attached below in

@@ -47,7 +47,7 @@ use Rattle.world3270.specs.Terminal.{Display, is_bound, bound_to, data_of, erase
 use Rattle.world3270.specs.View.{View, view_of}
 use Rattle.world3270.proofs.Down.{ok_map}
 use Rattle.world3270.proofs.Queues.{more, nothing_sent}
-use Rattle.world3270.proofs.Sent.{key_form, key_aid, key_size, sent_long, nulls_known}
+use Rattle.world3270.proofs.Sent.{key_form, key_aid, key_cursor, key_size, sent_long, nulls_known}
 use Rattle.world3270.proofs.Unreturned.{kept_of}
 
 -- ---- in Wait
@@ -326,7 +326,7 @@ module _ (given : Given) (app : Application) (link : Link) (key : Key) (k : Kept
         sizes = record { host = k.sizes.host; screen = k.sizes.screen; same = λ steady. same };
         at = typing.at_to parts screen lock erased;
         fact = typing.press parts screen lock erased
-            (record { lock = waits; form = key_form v.shape screen; size = key_size v.shape screen ∙ same; pressed = key_aid v.shape screen; some = λ none. some (sym is ∙ none) })
+            (record { lock = waits; form = key_form v.shape screen; size = key_size v.shape screen ∙ same; pressed = key_aid v.shape screen; cursor = key_cursor v.shape screen; some = λ none. some (sym is ∙ none) })
             (will_see given erased v.host.shape v.shape shadow f.shown screen aid is (whole ∙ ap (λ (s : Shape). cells_in s) same) f.exact f.knows f.closed f.meets keeps)
             (takes_notes given v.host.shape erased f.shown.cells screen.cells aid keeps f.messages);
       }

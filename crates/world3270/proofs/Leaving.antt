@@ -1,17 +1,20 @@
 -- An end leaves its connection by the events that make it leave, and by no other: first over messages, then over bytes.
-use Rattle.std.proofs.Common.{◌≡◌, ◌==◌, ℕ, Bool, true, false, Option, None, Some, List, ◌++◌, refl, ap, sym, subst, ◌∙◌, if◌then◌else◌}
+use Rattle.std.proofs.Common.{◌≡◌, ◌==◌, ℕ, Bool, true, false, Option, None, Some, List, ◌++◌, refl, ap, sym, subst, ◌∙◌, if◌then◌else◌, inl, inr}
 use Rattle.std.proofs.lemmas.Bool.{and_parts, eqb-true}
 use Rattle.std.proofs.lemmas.List.{append-nil}
 use Rattle.keyboard.specs.declared.key.Key.{Key}
 use Rattle.host_core.specs.Acts.{Sent, acted}
 use Rattle.host_core.specs.Application.{Application, application_of}
 use Rattle.host_core.specs.Notes.{noted}
+use Rattle.host_core.specs.Questions.{answered_on}
+use Rattle.host_core.specs.declared.question.Answer.{Answer as Said}
+use Rattle.std.specs.Prelude.{◌⊎◌}
 use Rattle.world3270.specs.ByteWorld.{ByteWorld, host_there, terminal_at}
 use Rattle.world3270.specs.Happens.{done, happens, joined, key_went, run, term_anew, term_saw}
 use Rattle.world3270.specs.Known.{KnownWorlds}
 use Rattle.world3270.specs.Link.{Link, host_sent}
 use Rattle.world3270.specs.Placed.{free_number, has_place, is_terminal, may_connect}
-use Rattle.world3270.specs.Refines.{Begin, IsBegin, Reached, GoesOn, after, once}
+use Rattle.world3270.specs.Refines.{Begin, IsBegin, Reached, GoesOn, after, once, once_taken}
 use Rattle.world3270.specs.Unbroken.{EndsStay, NobodyCloses}
 use Rattle.world3270.specs.Terminal.{Display, after_key}
 use Rattle.world3270.specs.World.{Place, World, Event, with_at, display_at}
@@ -68,6 +71,12 @@ act_host : (app : Application) (at number : ℕ) → HostKept app (Event.Act at)
 act_host app at number world is =
     if_placed (HostIs number) (has_place app (Event.Act at) world) (done app (Event.Act at) world) world is
     (one_kept IsHere at (host_sent (acted app (world.link at).host) (world.link at)) world.link (still_sends (acted app (world.link at).host) (world.link at)) number is)
+
+answer_host : (app : Application) (at : ℕ) (said : Said) (number : ℕ) → HostKept app (Event.Answer at said) number
+answer_host app at said number world is =
+    if_placed (HostIs number) (has_place app (Event.Answer at said) world) (done app (Event.Answer at said) world) world is
+    (one_kept IsHere at (host_sent (answered_on app (world.link at).host said) (world.link at)) world.link
+    (still_sends (answered_on app (world.link at).host said) (world.link at)) number is)
 
 note_host : (app : Application) (at : ℕ) (text : List ℕ) (number : ℕ) → HostKept app (Event.Note at text) number
 note_host app at text number world is =
@@ -180,10 +189,14 @@ module _ (known : KnownWorlds) (begin : Begin) (events : List Event) (old : Byte
   abbrev app : Application
   app = application_of begin.panels
 
+  -- the event happens once, or it may not have been taken
+  abbrev Comes : Event → List Event → Type 0
+  Comes it more = (more ≡ once it answer) ⊎ (more ≡ once_taken it answer)
+
   -- what holds of the world over messages still does, where the event keeps it
-  over : (P : World → Type 0) (it : Event) (more : List Event) → ((world : World) → P world → P (happens app it world)) → more ≡ once it answer
+  over : (P : World → Type 0) (it : Event) (more : List Event) → ((world : World) → P world → P (happens app it world)) → Comes it more
       → P (after begin events) → P (after begin (events ++ more))
-  over P it more keeps comes was =
+  over P it more keeps (inl comes) was =
       subst P (sym (after_more begin events more)) (subst (λ (es : List Event). P (run app es (after begin events))) (sym comes) (by_answer answer))
     where
       by_answer : (a : Stepped) → P (run app (once it a) (after begin events))
@@ -192,17 +205,26 @@ module _ (known : KnownWorlds) (begin : Begin) (events : List Event) (old : Byte
       by_answer stepped.Skipped = keeps (after begin events) was
       by_answer (stepped.Part taken) = keeps (after begin events) was
       by_answer stepped.Memory = was
+  over P it more keeps (inr comes) was =
+      subst P (sym (after_more begin events more)) (subst (λ (es : List Event). P (run app es (after begin events))) (sym comes) (by_taken answer))
+    where
+      by_taken : (a : Stepped) → P (run app (once_taken it a) (after begin events))
+      by_taken stepped.Done = keeps (after begin events) was
+      by_taken (stepped.Refused why) = was
+      by_taken stepped.Skipped = was
+      by_taken (stepped.Part taken) = was
+      by_taken stepped.Memory = was
 
   abbrev Goes : ByteEvent → Type 0
   Goes it = GoesOn begin events it old answer new
 
-  host_still : (it : Event) (more : List Event) (number : ℕ) → HostKept app it number → more ≡ once it answer → Reached begin (events ++ more) new
+  host_still : (it : Event) (more : List Event) (number : ℕ) → HostKept app it number → Comes it more → Reached begin (events ++ more) new
       → host_there number old ≡ true → host_there number new ≡ true
   host_still it more number keeps comes reaches there =
       (reaches.stands.links number).host_here
       ∙ over (HostIs number) it more keeps comes (sym (reached.stands.links number).host_here ∙ there)
 
-  terminal_still : (it : Event) (more : List Event) (terminal number : ℕ) → TerminalKept app it terminal number → more ≡ once it answer → Reached begin (events ++ more) new
+  terminal_still : (it : Event) (more : List Event) (terminal number : ℕ) → TerminalKept app it terminal number → Comes it more → Reached begin (events ++ more) new
       → terminal_at number old.slots ≡ Some terminal → terminal_at number new.slots ≡ Some terminal
   terminal_still it more terminal number keeps comes reaches there =
       let before = facts_now known begin events old is reached in
@@ -213,8 +235,8 @@ module _ (known : KnownWorlds) (begin : Begin) (events : List Event) (old : Byte
 
   ends_stay : (it : ByteEvent) → Goes it → EndsStay it old new
   ends_stay (event.Key at key) goes = record {
-    host = λ number none. host_still (Event.Press at key) goes.more number (key_host app at key number) goes.comes_to goes.reached;
-    terminal = λ terminal number none. terminal_still (Event.Press at key) goes.more terminal number (key_terminal app at key terminal number) goes.comes_to goes.reached;
+    host = λ number none. host_still (Event.Press at key) goes.more number (key_host app at key number) (inl goes.comes_to) goes.reached;
+    terminal = λ terminal number none. terminal_still (Event.Press at key) goes.more terminal number (key_terminal app at key terminal number) (inl goes.comes_to) goes.reached;
   }
   ends_stay (event.Up at count) goes = record {
     host = λ number none there. (up_same known begin events at count old answer new is reached goes number).host ∙ there;
@@ -225,14 +247,19 @@ module _ (known : KnownWorlds) (begin : Begin) (events : List Event) (old : Byte
     terminal = λ terminal number none there. (down_same known begin events at count old answer new is reached goes number).terminal ∙ there;
   }
   ends_stay (event.Act at) goes = record {
-    host = λ number none. host_still (Event.Act at) goes.more number (act_host app at number) goes.comes_to goes.reached;
+    host = λ number none. host_still (Event.Act at) goes.more number (act_host app at number) (inl goes.comes_to) goes.reached;
     terminal = λ terminal number none. terminal_still (Event.Act at) goes.more terminal number
-        (same_places app (Event.Act at) terminal number (λ world same. same)) goes.comes_to goes.reached;
+        (same_places app (Event.Act at) terminal number (λ world same. same)) (inl goes.comes_to) goes.reached;
+  }
+  ends_stay (event.Answer at ticket said) goes = record {
+    host = λ number none. host_still (Event.Answer at said) goes.more number (answer_host app at said number) (inr goes.comes_to) goes.reached;
+    terminal = λ terminal number none. terminal_still (Event.Answer at said) goes.more terminal number
+        (same_places app (Event.Answer at said) terminal number (λ world same. same)) (inr goes.comes_to) goes.reached;
   }
   ends_stay (event.Note at text) goes = record {
-    host = λ number none. host_still (Event.Note at text) goes.more number (note_host app at text number) goes.comes_to goes.reached;
+    host = λ number none. host_still (Event.Note at text) goes.more number (note_host app at text number) (inl goes.comes_to) goes.reached;
     terminal = λ terminal number none. terminal_still (Event.Note at text) goes.more terminal number
-        (same_places app (Event.Note at text) terminal number (λ world same. same)) goes.comes_to goes.reached;
+        (same_places app (Event.Note at text) terminal number (λ world same. same)) (inl goes.comes_to) goes.reached;
   }
   -- nothing happens over messages
   ends_stay (event.KeepAlive at) goes =
@@ -242,32 +269,32 @@ module _ (known : KnownWorlds) (begin : Begin) (events : List Event) (old : Byte
         terminal = λ terminal number none there. (same.stands.links number).term_here ∙ sym (reached.stands.links number).term_here ∙ there;
       }
   ends_stay (event.Lose at) goes = record {
-    host = λ number none. host_still (Event.Lose at) goes.more number (lose_host app at number) goes.comes_to goes.reached;
+    host = λ number none. host_still (Event.Lose at) goes.more number (lose_host app at number) (inl goes.comes_to) goes.reached;
     terminal = λ terminal number none. terminal_still (Event.Lose at) goes.more terminal number
-        (same_places app (Event.Lose at) terminal number (λ world same. same)) goes.comes_to goes.reached;
+        (same_places app (Event.Lose at) terminal number (λ world same. same)) (inl goes.comes_to) goes.reached;
   }
   ends_stay (event.HostSees at) goes = record {
-    host = λ number none. host_still (Event.HostSees at) goes.more number (sees_host app at number none) goes.comes_to goes.reached;
+    host = λ number none. host_still (Event.HostSees at) goes.more number (sees_host app at number none) (inl goes.comes_to) goes.reached;
     terminal = λ terminal number none. terminal_still (Event.HostSees at) goes.more terminal number
-        (same_places app (Event.HostSees at) terminal number (λ world same. same)) goes.comes_to goes.reached;
+        (same_places app (Event.HostSees at) terminal number (λ world same. same)) (inl goes.comes_to) goes.reached;
   }
   ends_stay (event.TermSees at) goes = record {
-    host = λ number none. host_still (Event.TermSees at) goes.more number (saw_host app at number) goes.comes_to goes.reached;
-    terminal = λ terminal number none. terminal_still (Event.TermSees at) goes.more terminal number (saw_terminal app at terminal number none) goes.comes_to goes.reached;
+    host = λ number none. host_still (Event.TermSees at) goes.more number (saw_host app at number) (inl goes.comes_to) goes.reached;
+    terminal = λ terminal number none. terminal_still (Event.TermSees at) goes.more terminal number (saw_terminal app at terminal number none) (inl goes.comes_to) goes.reached;
   }
   ends_stay (event.Connect at wanted) goes = record {
-    host = λ number none. host_still (Event.Connect at wanted) goes.more number (connect_host app at wanted number) goes.comes_to goes.reached;
+    host = λ number none. host_still (Event.Connect at wanted) goes.more number (connect_host app at wanted number) (inl goes.comes_to) goes.reached;
     terminal = λ terminal number none. terminal_still (Event.Connect at wanted) goes.more terminal number
-        (connect_terminal app at wanted terminal number) goes.comes_to goes.reached;
+        (connect_terminal app at wanted terminal number) (inl goes.comes_to) goes.reached;
   }
   ends_stay (event.RestartTerm at) goes = record {
-    host = λ number none. host_still (Event.RestartTerm at) goes.more number (anew_host app at number) goes.comes_to goes.reached;
-    terminal = λ terminal number none. terminal_still (Event.RestartTerm at) goes.more terminal number (anew_terminal app at terminal number none) goes.comes_to goes.reached;
+    host = λ number none. host_still (Event.RestartTerm at) goes.more number (anew_host app at number) (inl goes.comes_to) goes.reached;
+    terminal = λ terminal number none. terminal_still (Event.RestartTerm at) goes.more terminal number (anew_terminal app at terminal number none) (inl goes.comes_to) goes.reached;
   }
   ends_stay event.RestartHost goes = record {
     host = λ number none. absurd (cc);
     terminal = λ terminal number none. terminal_still Event.RestartHost goes.more terminal number
-        (same_places app Event.RestartHost terminal number (λ world same. same)) goes.comes_to goes.reached;
+        (same_places app Event.RestartHost terminal number (λ world same. same)) (inl goes.comes_to) goes.reached;
   }
 
 pub nobody_closes : KnownWorlds → NobodyCloses

@@ -3,9 +3,12 @@ pub mod OneOfMany
 pub mod Sent
 pub mod Unreturned
 pub mod AsLeft
+pub mod Asked
+pub mod AskedOverBytes
 pub mod Down
 pub mod Up
 pub mod Acting
+pub mod Answered
 pub mod Keys
 pub mod Worlds
 pub mod Headline

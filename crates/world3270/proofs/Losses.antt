@@ -11,6 +11,7 @@ use Rattle.host_core.specs.Application.{Application}
 use Rattle.host_core.specs.Messages.{ToTerminal, ToHost}
 use Rattle.host_core.specs.Notes.{noted}
 use Rattle.host_core.specs.Takes.{HostStep, took as host_took}
+use Rattle.host_core.specs.Questions.{answered_on}
 use Rattle.world3270.specs.Happens.{freed_if, came_up, came_down, went_down, key_went, term_saw, joined, term_anew, host_left_from, done}
 use Rattle.world3270.specs.Link.{Link, begun, cut, sent, host_left, host_left_if, host_stepped, host_sent, term_left, term_left_if, term_stepped}
 use Rattle.world3270.specs.Losses.{IsRest, NothingNew, LostTakesNothing}
@@ -116,6 +117,9 @@ done_fades app (Event.Down at) world number = went_down_fades world at number (w
 done_fades app (Event.Act at) world number =
     let link : Link = world.link at in
     at_number world.link at number (host_sent (acted app link.host) link) (sends link (acted app link.host))
+done_fades app (Event.Answer at said) world number =
+    let link : Link = world.link at in
+    at_number world.link at number (host_sent (answered_on app link.host said) link) (sends link (answered_on app link.host said))
 done_fades app (Event.Note at text) world number =
     let link : Link = world.link at in
     at_number world.link at number (host_sent (noted text link.host) link) (sends link (noted text link.host))

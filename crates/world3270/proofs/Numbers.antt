@@ -1,6 +1,6 @@
 -- Numbers of commands and responses have 15 bits, after every event.
 use Rattle.std.proofs.Common.{◌≡◌, ◌⊎◌, inl, inr, nat_lt, ◌+◌, ℕ, Bool, true, false, Option, None, Some, List, [], ◌∷◌, arith, refl, sym, subst, IfSome, if◌then◌else◌}
-use Rattle.std.specs.Prelude.{⊤}
+use Rattle.std.specs.Prelude.{⊤, ◌&&◌}
 use Rattle.std.specs.List.{All}
 use Rattle.std.proofs.lemmas.Bool.{ltb-true}
 use Rattle.std.proofs.lemmas.List.Elements.{All-nil, All-cons, All-head, All-tail, All-append, All-map}
@@ -10,13 +10,14 @@ use Rattle.keyboard.specs.declared.key.Pressed.{Pressed}
 use Rattle.keyboard.specs.declared.key.Pressed.TheVariants.{Done, Refused, Send}
 use Rattle.tn3270e_msg.specs.Header.{next_number}
 use Rattle.tn3270e_msg.specs.declared.cause.Cause.{Cause}
-use Rattle.host_core.specs.Acts.{Act, Sent, act_on, done, may_act, acted}
+use Rattle.host_core.specs.Acts.{Act, Decision, Sent, decided, decision_on, done, may_act, acted}
 use Rattle.host_core.specs.Answering.{number_of, number_in}
 use Rattle.host_core.specs.Application.{Application}
 use Rattle.host_core.specs.Messages.{ToTerminal, ToHost, Verdict}
 use Rattle.host_core.specs.Notes.{noted_as, may_note, noted}
 use Rattle.host_core.specs.Session.{Conn, Pending, is_agreed}
 use Rattle.host_core.specs.Takes.{Answers, HostStep, took as host_took}
+use Rattle.host_core.specs.Questions.{act_by, answered_on, has_its_panel, is_asking}
 use Rattle.world3270.specs.Always.{Always}
 use Rattle.world3270.specs.Given.{Given}
 use Rattle.world3270.specs.Link.{Link, sent, host_left_if, host_sent}
@@ -114,9 +115,14 @@ sends link (Some sending) n fits = record {
   up = n.up;
 }
 
-acts_if : (app : Application) (link : Link) (b : Bool) → AreNumbered link → IfSome (if b then Some (done app link.host (act_on app link.host link.host.turn_reason)) else None) SendingFits
-acts_if app link true n = done_fits app link.host (act_on app link.host link.host.turn_reason) (record { next = n.next; pending = n.pending })
-acts_if app link false n = tt
+acts_if : (app : Application) (link : Link) (decision : Decision) (b : Bool) → AreNumbered link → IfSome (if b then decided app link.host decision else None) SendingFits
+acts_if app link (Decision.Do act) true n = done_fits app link.host act (record { next = n.next; pending = n.pending })
+acts_if app link Decision.Asks true n = tt
+acts_if app link decision false n = tt
+
+answers_if : (app : Application) (link : Link) (act : Act) (b : Bool) → AreNumbered link → IfSome (if b then Some (done app link.host act) else None) SendingFits
+answers_if app link act true n = done_fits app link.host act (record { next = n.next; pending = n.pending })
+answers_if app link act false n = tt
 
 notes_if : (text : List ℕ) (link : Link) (b : Bool) → AreNumbered link → IfSome (if b then Some (noted_as text link.host) else None) SendingFits
 notes_if text link true n = note_fits text link.host (record { next = n.next; pending = n.pending })
@@ -135,7 +141,8 @@ steps app = record {
         down = sent_all FitsDown link.lost link.down step.sends n.down fits.sends;
         up = All-tail FitsUp message rest (subst (All FitsUp) e n.up);
       });
-  acts = λ link k n. sends link (acted app link.host) n (acts_if app link (may_act link.host.turn link.host.pending (is_agreed link.host.talk.state)) n);
+  acts = λ link k n. sends link (acted app link.host) n (acts_if app link (decision_on app link.host link.host.turn_reason) (may_act link.host.turn link.host.pending (is_agreed link.host.talk.state)) n);
+  answers = λ number said link such k n. sends link (answered_on app link.host said) n (answers_if app link (act_by app link.host said said.panel) (is_asking app link.host && has_its_panel app said) n);
   notes = λ number text link such k n. sends link (noted text link.host) n (notes_if text link (may_note link.host.turn link.host.pending (is_agreed link.host.talk.state)) n);
   down = λ link message rest e k n.
       let down : All FitsDown (message ∷ rest) = subst (All FitsDown) e n.down in

@@ -10,10 +10,10 @@ use Rattle.tn3270e_msg.specs.declared.cause.Stop.TheVariants as stop
 use Rattle.host_core.specs.Acts.{Sent}
 use Rattle.host_core.specs.Application.{application_of}
 use Rattle.host_core.specs.Bytes.{Counter, TakesByte, TakesBytes}
-use Rattle.host_core.specs.Does.{Does as HostDoes, acted_by, noted_by}
+use Rattle.host_core.specs.Does.{Does as HostDoes, acted_by, noted_by, DoesAnswer}
 use Rattle.host_core.specs.Feeds.{Feeds, IsOpen, StopsFor as HostStopsFor, counter_at, with_counter}
 use Rattle.host_core.specs.Machine.{OneOutcome as OneHost}
-use Rattle.host_core.specs.State.{Host, Connection, Service, connection_at, service_at, with_connection}
+use Rattle.host_core.specs.State.{Host, Connection, Service, connection_at, service_at, with_connection, session_at}
 use Rattle.host_core.specs.declared.acted.Acted.{Acted}
 use Rattle.host_core.specs.declared.acted.Acted.TheVariants as acted
 use Rattle.term_core.specs.Bytes.{TakesByte as TermTakesByte}
@@ -21,8 +21,10 @@ use Rattle.term_core.specs.Feeds.{IsAttached, StopsFor as TermStopsFor}
 use Rattle.term_core.specs.Laws.{OneOutcome as OneTerminal}
 use Rattle.term_core.specs.Room.{out_room}
 use Rattle.term_core.specs.State.{Link, Terminal, Detached, Closed}
+use Rattle.host_core.specs.Questions.{answered_by}
+use Rattle.world3270.proofs.Answered.{as_answer}
 use Rattle.world3270.specs.ByteRuns.{AllHappen, Runs, StopsAt, refused_at}
-use Rattle.world3270.specs.ByteSteps.{ActsHost, ComesDown, ComesUp, Connects, ConnectsIf, GoesDown, Happens, HappensIf, Is, Presses, TrackedFeeds, answer_acted, answer_fed, down_came, free_number, has_place, host_gone_if, terminal_gone_if, up_came}
+use Rattle.world3270.specs.ByteSteps.{ActsHost, ComesDown, ComesUp, Connects, ConnectsIf, GoesDown, Happens, HappensIf, Is, Presses, TrackedFeeds, answer_acted, answer_fed, down_came, free_number, has_place, host_gone_if, terminal_gone_if, up_came, AnswersHost}
 use Rattle.world3270.specs.ByteWorld.{ByteWorld, down_of, slot_at, terminal_at, up_of, with_host, with_slot}
 use Rattle.world3270.specs.OneOutcome.{EventsAreOne, RunsAreOne, StepsAreOne}
 use Rattle.world3270.specs.TrackedTerminals.{History, TrackedTerminal, TrackedTakes, TrackedTakesByte, marked}
@@ -275,20 +277,33 @@ one_press terminal key old new other answer reply (Presses.refused lacks is new_
 one_press terminal key old new other answer reply (Presses.done is new_is) none (Presses.refused lacks also other_is) other_none = absurd (not_memory reply also other_none)
 one_press terminal key old new other answer reply (Presses.done is new_is) none (Presses.done also other_is) other_none = (is ∙ sym also, new_is ∙ sym other_is)
 
+one_answering : (does : Option Sent) (old one other : Connection) (act reply : Acted) → DoesAnswer does old act one → refused_at (answer_acted act) ≡ None
+    → DoesAnswer does old reply other → refused_at (answer_acted reply) ≡ None → (act ≡ reply) × (one ≡ other)
+one_answering None old one other act reply is none also other_none = (is.0 ∙ sym also.0, is.1 ∙ sym also.1)
+one_answering (Some sent) old one other acted.Sent acted.Sent is none also other_none = (refl, is ∙ sym also)
+one_answering (Some sent) old one other acted.Sent acted.Memory is none also other_none = absurd (not_memory stepped.Memory refl other_none)
+one_answering (Some sent) old one other acted.Sent acted.Nothing is none also other_none = absurd also
+one_answering (Some sent) old one other acted.Memory reply is none also other_none = absurd (not_memory stepped.Memory refl none)
+one_answering (Some sent) old one other acted.Nothing reply is none also other_none = absurd is
+
 one_doing : (does : Option Sent) (old one other : Connection) (act reply : Acted) → HostDoes does old act one → refused_at (answer_acted act) ≡ None
     → HostDoes does old reply other → refused_at (answer_acted reply) ≡ None → (act ≡ reply) × (one ≡ other)
-one_doing None old one other act reply is none also other_none = (is.0 ∙ sym also.0, is.1 ∙ sym also.1)
-one_doing (Some sent) old one other acted.Sent acted.Sent is none also other_none = (refl, is ∙ sym also)
-one_doing (Some sent) old one other acted.Sent acted.Memory is none also other_none = absurd (not_memory stepped.Memory refl other_none)
-one_doing (Some sent) old one other acted.Sent acted.Nothing is none also other_none = absurd also
-one_doing (Some sent) old one other acted.Memory reply is none also other_none = absurd (not_memory stepped.Memory refl none)
-one_doing (Some sent) old one other acted.Nothing reply is none also other_none = absurd is
+one_doing does old one other act reply is none also other_none = one_answering does old one other act reply (as_answer does old act one is) none (as_answer does old reply other also) other_none
 
 one_act : (does : Option Sent) (number : ℕ) (old new other : ByteWorld) (answer reply : Stepped) → ActsHost does number old answer new → refused_at answer ≡ None
     → ActsHost does number old reply other → refused_at reply ≡ None → Alike answer reply new other
 one_act does number old new other answer reply is none also other_none =
     let same =
     one_doing does (connection_at number old.host) (connection_at number is.host) (connection_at number also.host) is.act also.act is.acts (sym (ap refused_at is.answers) ∙ none)
+    also.acts (sym (ap refused_at also.answers) ∙ other_none) in
+    let host : is.host ≡ also.host = is.others ∙ ap (λ (connection : Connection). with_connection number connection old.host) same.1 ∙ sym also.others in
+    (is.answers ∙ ap answer_acted same.0 ∙ sym also.answers, is.leaves ∙ ap (λ (h : Host). with_host h old) host ∙ sym also.leaves)
+
+one_answer : (does : Option Sent) (number : ℕ) (old new other : ByteWorld) (answer reply : Stepped) → AnswersHost does number old answer new → refused_at answer ≡ None
+    → AnswersHost does number old reply other → refused_at reply ≡ None → Alike answer reply new other
+one_answer does number old new other answer reply is none also other_none =
+    let same =
+    one_answering does (connection_at number old.host) (connection_at number is.host) (connection_at number also.host) is.act also.act is.acts (sym (ap refused_at is.answers) ∙ none)
     also.acts (sym (ap refused_at also.answers) ∙ other_none) in
     let host : is.host ≡ also.host = is.others ∙ ap (λ (connection : Connection). with_connection number connection old.host) same.1 ∙ sym also.others in
     (is.answers ∙ ap answer_acted same.0 ∙ sym also.answers, is.leaves ∙ ap (λ (h : Host). with_host h old) host ∙ sym also.leaves)
@@ -325,6 +340,8 @@ module _ (one_host : OneHost) (one_terminal : OneTerminal) where
       one_going_down one_terminal (terminal_at number old.slots) number (take count (down_of number old)) old new other answer reply is none also other_none
   one_happening (event.Act number) old new other answer reply is none also other_none =
       one_act (acted_by (application_of old.host.panels) (service_at number old.host)) number old new other answer reply is none also other_none
+  one_happening (event.Answer number ticket said) old new other answer reply is none also other_none =
+      one_answer (answered_by (application_of old.host.panels) (session_at number old.host) ticket said (service_at number old.host)) number old new other answer reply is none also other_none
   one_happening (event.Note number text) old new other answer reply is none also other_none =
       one_act (noted_by text (service_at number old.host)) number old new other answer reply is none also other_none
   one_happening (event.KeepAlive number) old new other answer reply is none also other_none = one_made _ new other answer reply is also

@@ -38,6 +38,7 @@ use Rattle.host_core.specs.declared.turn_reason.TurnReason.TheVariants as turn_r
 use Rattle.host_core.specs.Session.{Conn, Pending, is_agreed}
 use Rattle.host_core.specs.Rejections.{lu_asked}
 use Rattle.host_core.specs.Takes.{Answers, HostStep, quiet, closed_by, asked, talked_on, hears, believed, once_read, buffer_came, key_came, key_data_came, data_came, refused, write_refused, if_answers, verdict_came, read_verdict_came, response_came, once_agreed, took as host_took}
+use Rattle.host_core.specs.Questions.{answered_on}
 use Rattle.world3270.specs.Always.{Always}
 use Rattle.world3270.specs.Given.{Given}
 use Rattle.world3270.specs.Happens.{closed_if, freed_if, came_up, came_down, went_down, key_went, term_saw, joined, term_anew, done}
@@ -102,6 +103,8 @@ done_link app (Event.Press terminal key) world number here e = key_went_link wor
 done_link app (Event.Up at) world number here e = came_up_link world at number (world.link at).up e
 done_link app (Event.Down at) world number here e = went_down_link world at number (world.link at).term_here e
 done_link app (Event.Act at) world number here e = with_other at number (host_sent (acted app (world.link at).host) (world.link at)) world.link (differs number at e)
+done_link app (Event.Answer at said) world number here e =
+    with_other at number (host_sent (answered_on app (world.link at).host said) (world.link at)) world.link (differs number at e)
 done_link app (Event.Note at text) world number here e = with_other at number (host_sent (noted text (world.link at).host) (world.link at)) world.link (differs number at e)
 done_link app (Event.Lose at) world number here e = with_other at number (cut (world.link at)) world.link (differs number at e)
 done_link app (Event.HostSees at) world number here e = with_other at number (host_left (world.link at)) world.link (differs number at e)
@@ -145,16 +148,16 @@ talked_grants pool conn sought talk (reply.Refused reason) lu e = absurd (cc)
 talked_grants pool conn sought talk (reply.Close cause) lu e = absurd (cc)
 
 -- records grant nothing
-believed_grants : (turn_reason : TurnReason) (pending : Pending) (conn : Conn) (result : Result Shadow HeardFault) → (believed turn_reason pending conn result).grants ≡ None
-believed_grants turn_reason pending conn (Ok shadow) = refl
-believed_grants turn_reason pending conn (Err fault) = refl
+believed_grants : (turn_reason : TurnReason) (pending : Pending) (cursor : Option ℕ) (conn : Conn) (result : Result Shadow HeardFault) → (believed turn_reason pending cursor conn result).grants ≡ None
+believed_grants turn_reason pending cursor conn (Ok shadow) = refl
+believed_grants turn_reason pending cursor conn (Err fault) = refl
 
 key_grants : (parts : InboundParts) (aid : Aid) (conn : Conn) → (key_came parts aid conn).grants ≡ None
 key_grants parts NoAid conn = refl
-key_grants parts Enter conn = believed_grants (turn_reasons.Key Enter false) conn.pending conn (hears parts conn)
-key_grants parts Clear conn = believed_grants (turn_reasons.Key Clear false) conn.pending conn (hears parts conn)
-key_grants parts (Pf key) conn = believed_grants (turn_reasons.Key (Pf key) false) conn.pending conn (hears parts conn)
-key_grants parts (Pa key) conn = believed_grants (turn_reasons.Key (Pa key) false) conn.pending conn (hears parts conn)
+key_grants parts Enter conn = believed_grants (turn_reasons.Key Enter false) conn.pending parts.cursor conn (hears parts conn)
+key_grants parts Clear conn = believed_grants (turn_reasons.Key Clear false) conn.pending parts.cursor conn (hears parts conn)
+key_grants parts (Pf key) conn = believed_grants (turn_reasons.Key (Pf key) false) conn.pending parts.cursor conn (hears parts conn)
+key_grants parts (Pa key) conn = believed_grants (turn_reasons.Key (Pa key) false) conn.pending parts.cursor conn (hears parts conn)
 
 key_data_grants : (parts : InboundParts) (form : Form) (conn : Conn) → (key_data_came parts form conn).grants ≡ None
 key_data_grants parts Modified conn = key_grants parts parts.aid conn
@@ -162,7 +165,7 @@ key_data_grants parts AllModified conn = refl
 key_data_grants parts Buffer conn = refl
 
 buffer_grants : (parts : InboundParts) (form : Form) (conn : Conn) → (buffer_came parts form conn).grants ≡ None
-buffer_grants parts Buffer conn = believed_grants (once_read conn.turn_reason) Pending.Nothing conn (hears parts conn)
+buffer_grants parts Buffer conn = believed_grants (once_read conn.turn_reason) Pending.Nothing parts.cursor conn (hears parts conn)
 buffer_grants parts Modified conn = refl
 buffer_grants parts AllModified conn = refl
 
@@ -320,6 +323,7 @@ done_holds given app (Event.Up at) world number lu sound e =
     (came_up_holds given world at number lu (world.link at).up sound e, came_up_was given world at number lu (world.link at).up e)
 done_holds given app (Event.Down at) world number lu sound e = same_holder world.pool _ number lu (went_down_pool world at (world.link at).term_here)
 done_holds given app (Event.Act at) world number lu sound e = same_holder world.pool world.pool number lu refl
+done_holds given app (Event.Answer at said) world number lu sound e = same_holder world.pool world.pool number lu refl
 done_holds given app (Event.Note at text) world number lu sound e = same_holder world.pool world.pool number lu refl
 done_holds given app (Event.Lose at) world number lu sound e = same_holder world.pool world.pool number lu refl
 done_holds given app (Event.HostSees at) world number lu sound e =

@@ -12,6 +12,7 @@ use Rattle.host_core.specs.Application.{Application}
 use Rattle.host_core.specs.Messages.{ToTerminal, ToHost}
 use Rattle.host_core.specs.Notes.{noted}
 use Rattle.host_core.specs.Takes.{HostStep, took as host_took}
+use Rattle.host_core.specs.Questions.{answered_on}
 use Rattle.world3270.specs.Always.{Always}
 use Rattle.world3270.specs.Happens.{closed_if, said, freed_if, came_up, left_alone, place_after, came_down, went_down, key_went, parted, term_saw, joined, term_anew, host_left_from, host_anew, done, happens, run}
 use Rattle.world3270.specs.Link.{Link, is_free, begun, cut, host_left, host_left_if, host_stepped, host_sent, term_left, term_left_if, term_stepped}
@@ -200,6 +201,7 @@ done_agrees app (Event.Press terminal key) world here a = key_went_agrees world 
 done_agrees app (Event.Up number) world here a = came_up_agrees world number (world.link number).up a
 done_agrees app (Event.Down number) world here a = went_down_agrees world number (world.link number).term_here refl a
 done_agrees app (Event.Act number) world here a = sends_agrees world number (acted app (world.link number).host) a
+done_agrees app (Event.Answer number said) world here a = sends_agrees world number (answered_on app (world.link number).host said) a
 done_agrees app (Event.Note number text) world here a = sends_agrees world number (noted text (world.link number).host) a
 done_agrees app (Event.Lose number) world here a = link_changed world.link world.place number (cut (world.link number)) refl a
 done_agrees app (Event.HostSees number) world here a = link_changed world.link world.place number (host_left (world.link number)) refl a

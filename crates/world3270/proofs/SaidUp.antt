@@ -20,6 +20,7 @@ use Rattle.host_core.specs.Application.{Application}
 use Rattle.host_core.specs.Messages.{ToTerminal, ToHost}
 use Rattle.host_core.specs.Notes.{noted}
 use Rattle.host_core.specs.Takes.{HostStep, pool_after, took as host_took}
+use Rattle.host_core.specs.Questions.{answered_on}
 use Rattle.world3270.specs.Happens.{closed_if, said, came_up, place_after, came_down, went_down, key_went, term_saw, joined, term_anew, host_left_from, done, happens, run}
 use Rattle.world3270.specs.Link.{Link, sent as sent_on, host_left, host_left_if, host_stepped, host_sent, term_left, term_left_if, term_stepped, begun}
 use Rattle.world3270.specs.Placed.{has_place, free_number}
@@ -197,6 +198,9 @@ done_named app (Event.Down number) world is h = went_named world number (world.l
 done_named app (Event.Act number) world is h =
     let link : Link = world.link number in
     changed number (host_sent (acted app link.host) link) world.link (sent_named (acted app link.host) link (h number)) h
+done_named app (Event.Answer number said) world is h =
+    let link : Link = world.link number in
+    changed number (host_sent (answered_on app link.host said) link) world.link (sent_named (answered_on app link.host said) link (h number)) h
 done_named app (Event.Note number text) world is h =
     let link : Link = world.link number in
     changed number (host_sent (noted text link.host) link) world.link (sent_named (noted text link.host) link (h number)) h

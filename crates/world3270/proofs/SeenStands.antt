@@ -69,7 +69,7 @@ module _ (bytes : ByteWorld) (world : World) (stands : WorldStands bytes world) 
       ap (λ (t : TerminalSeen). Some t) same ∙ ap (λ (h : Option ℕ). terminal_seen h link.term) is.term_here
 
   -- A connection over bytes is seen as the one over messages that it represents.
-  same_seen : (number : ℕ) → seen_connection number bytes ≡ seen_link (world.link number)
+  pub same_seen : (number : ℕ) → seen_connection number bytes ≡ seen_link (world.link number)
   same_seen number =
       let link : Link = world.link number in
       let is : LinkStands (link_of number bytes) link = stands.links number in

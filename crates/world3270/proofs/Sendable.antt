@@ -1,5 +1,10 @@
 -- Screens keep their shape and can be sent, what is painted is a screen, and values are characters, after every event.
 use Rattle.std.proofs.Common.{◌≡◌, ◌<◌, ◌≤◌, ◌==◌, ◌&&◌, ◌++◌, ◌-◌, ◌+◌, not, ℕ, zero, suc, arith, Bool, true, false, Option, None, Some, List, [], ◌∷◌, length, replicate, refl, ap, sym, subst, ◌∙◌, IfSome, IsTrue, if◌then◌else◌, inl}
+use Rattle.host_core.specs.Questions.{act_by, answered_on, has_its_panel, is_ask}
+use Rattle.host_core.specs.declared.question.Answer.{Answer as Said}
+use Rattle.std.specs.Map.{remove_entry, values_of}
+use Rattle.std.specs.BTreeMap.{insert_entry, is_at}
+use Rattle.panels.specs.declared.message.Message.TheVariants.{Fresh}
 use Rattle.world3270.proofs.Queues.{front, nothing}
 use Rattle.world3270.specs.Moments.{Moment, Serving, Talking, UnderWay, down_at, served_down, talk_down}
 use Rattle.world3270.specs.Always.{AlwaysOf}
@@ -11,7 +16,7 @@ use Rattle.std.specs.Ordering.{nat_cmp}
 use Rattle.std.proofs.lemmas.Bool.{and_from}
 use Rattle.std.proofs.lemmas.List.{length-replicate}
 use Rattle.std.proofs.lemmas.List.Elements.{All-nil, All-cons, All-head, All-tail, All-map, All-replicate}
-use Rattle.std.proofs.lemmas.Map.Views.{All-values-insert_entry}
+use Rattle.std.proofs.lemmas.Map.Views.{All-values-insert_entry, All-map-remove_entry}
 use Rattle.codes3270.specs.Size.{Shape, cells_in, most_cells}
 use Rattle.codes3270.specs.Storable.{is_storable}
 use Rattle.codes3270.specs.declared.attention.Aid.{Aid}
@@ -33,10 +38,10 @@ use Rattle.keyboard.specs.declared.key.Pressed.{Pressed}
 use Rattle.keyboard.specs.declared.key.Pressed.TheVariants.{Done, Refused, Send}
 use Rattle.panels.specs.Characters.{is_character, AreCharacters}
 use Rattle.panels.specs.Screen.{Values}
-use Rattle.panels.specs.Values.{set_if}
+use Rattle.panels.specs.Values.{set_if, with_values, without_fields}
 use Rattle.panels.specs.declared.message.Message.{Message}
 use Rattle.panels.specs.declared.next.Next.{Next}
-use Rattle.panels.specs.declared.next.Next.TheVariants.{Go, Again}
+use Rattle.panels.specs.declared.next.Next.TheVariants.{Go, Ask, Again}
 use Rattle.panels.specs.declared.panel.Field.{Field as PanelField}
 use Rattle.presentation.proofs.Storable.{storable_unmodified}
 use Rattle.shadow.specs.Asked.{belief_with}
@@ -47,7 +52,7 @@ use Rattle.shadow.specs.Meets.{Holds, FieldMeets, Meets, told}
 use Rattle.shadow.specs.Painted.{keeps_ahead, attr_or_kept, cells_under, painted_from, plainly_painted}
 use Rattle.shadow.specs.Pairs.{Pairwise}
 use Rattle.tn3270e_msg.specs.declared.cause.Cause.{Cause}
-use Rattle.host_core.specs.Acts.{Act, Sent, text_known, learned, first_missing, is_to_be_read, unless_missing, gone_to, led, after_key as after_the_key, act_on, wanted_by, done, may_act, acted}
+use Rattle.host_core.specs.Acts.{Act, Decision, Sent, text_known, learned, first_missing, is_to_be_read, unless_missing, once_filled_in, led, after_key as after_the_key, decided, decision_on, wanted_by, done, may_act, acted}
 use Rattle.host_core.specs.Application.{Application, IsShape, IsApplication, AsksForScreens, AreTexts}
 use Rattle.host_core.specs.Messages.{ToTerminal, ToHost, Verdict}
 use Rattle.host_core.specs.NoteLaws.{TakesNotes, IsProperNote}
@@ -102,6 +107,7 @@ size_steps given app is = record {
   begins = λ model terminal wanted. tt;
   up = λ pool link message rest e k h. tt;
   acts = λ link k h. tt;
+  answers = λ number said link such k h. tt;
   notes = λ number text link such k h. tt;
   down = λ link message rest e k h. tt;
   key = λ terminal key link such k h. tt;
@@ -252,37 +258,62 @@ abbrev ActsOnTexts : Act → Type 0
 ActsOnTexts Act.Read = ⊤
 ActsOnTexts (Act.Show panel message keep values) = AreTexts values
 
-unless_texts : (panel target : ℕ) (values : Values) (missing : Option ℕ) → AreTexts values → ActsOnTexts (unless_missing panel target values missing)
-unless_texts panel target values None texts = texts
-unless_texts panel target values (Some field) texts = texts
+abbrev DecidesOnTexts : Decision → Type 0
+DecidesOnTexts (Decision.Do act) = ActsOnTexts act
+DecidesOnTexts Decision.Asks = ⊤
 
-gone_texts : (app : Application) (conn : Conn) (target : ℕ) (values : Values) (aid : Aid) → AreTexts values → ActsOnTexts (gone_to app conn target values aid)
-gone_texts app conn target values Enter texts = unless_texts conn.panel target values (first_missing values (app.fields conn.panel)) texts
-gone_texts app conn target values NoAid texts = texts
-gone_texts app conn target values Clear texts = texts
-gone_texts app conn target values (Pf key) texts = texts
-gone_texts app conn target values (Pa key) texts = texts
+unless_texts : (panel : ℕ) (decision : Decision) (values : Values) (missing : Option ℕ) → AreTexts values → DecidesOnTexts decision → DecidesOnTexts (unless_missing panel decision values missing)
+unless_texts panel decision values None texts is = is
+unless_texts panel decision values (Some field) texts is = texts
 
-led_texts : (app : Application) (conn : Conn) (values : Values) (aid : Aid) (next : Next) → AreTexts values → ActsOnTexts (led app conn values aid next)
+filled_texts : (app : Application) (conn : Conn) (decision : Decision) (values : Values) (aid : Aid) → AreTexts values → DecidesOnTexts decision → DecidesOnTexts (once_filled_in app conn decision values aid)
+filled_texts app conn decision values Enter texts is = unless_texts conn.panel decision values (first_missing values (app.fields conn.panel)) texts is
+filled_texts app conn decision values NoAid texts is = is
+filled_texts app conn decision values Clear texts is = is
+filled_texts app conn decision values (Pf key) texts is = is
+filled_texts app conn decision values (Pa key) texts is = is
+
+led_texts : (app : Application) (conn : Conn) (values : Values) (aid : Aid) (next : Next) → AreTexts values → DecidesOnTexts (led app conn values aid next)
 led_texts app conn values aid Again texts = texts
-led_texts app conn values aid (Go target) texts = gone_texts app conn target values aid texts
+led_texts app conn values aid (Go target) texts = filled_texts app conn (Decision.Do (Act.Show target Fresh false values)) values aid texts texts
+led_texts app conn values aid Ask texts = filled_texts app conn Decision.Asks values aid texts tt
 
 read_or_led : (app : Application) (conn : Conn) (aid : Aid) (b : Bool) → AreTexts (learned conn.shadow (app.fields conn.panel) conn.values)
-    → ActsOnTexts (if b then Act.Read else led app conn (learned conn.shadow (app.fields conn.panel) conn.values) aid (app.next conn.panel aid))
+    → DecidesOnTexts (if b then Decision.Do Act.Read else led app conn (learned conn.shadow (app.fields conn.panel) conn.values) aid (app.next conn.panel aid))
 read_or_led app conn aid true texts = tt
 read_or_led app conn aid false texts = led_texts app conn (learned conn.shadow (app.fields conn.panel) conn.values) aid (app.next conn.panel aid) texts
 
-key_texts : (app : Application) (conn : Conn) (aid : Aid) (buffered : Bool) → AreTexts conn.values → AreTexts (learned conn.shadow (app.fields conn.panel) conn.values) → ActsOnTexts (after_the_key app conn aid buffered)
+key_texts : (app : Application) (conn : Conn) (aid : Aid) (buffered : Bool) → AreTexts conn.values → AreTexts (learned conn.shadow (app.fields conn.panel) conn.values) → DecidesOnTexts (after_the_key app conn aid buffered)
 key_texts app conn Clear buffered texts known = texts
 key_texts app conn NoAid buffered texts known = read_or_led app conn NoAid (is_to_be_read app conn NoAid && not buffered) known
 key_texts app conn Enter buffered texts known = read_or_led app conn Enter (is_to_be_read app conn Enter && not buffered) known
 key_texts app conn (Pf key) buffered texts known = read_or_led app conn (Pf key) (is_to_be_read app conn (Pf key) && not buffered) known
 key_texts app conn (Pa key) buffered texts known = read_or_led app conn (Pa key) (is_to_be_read app conn (Pa key) && not buffered) known
 
-act_texts : (app : Application) (conn : Conn) (turn_reason : TurnReason) → AreTexts conn.values → AreTexts (learned conn.shadow (app.fields conn.panel) conn.values) → ActsOnTexts (act_on app conn turn_reason)
-act_texts app conn turn_reasons.Agreement texts known = texts
-act_texts app conn (turn_reasons.Key aid buffered) texts known = key_texts app conn aid buffered texts known
-act_texts app conn turn_reasons.Refusal texts known = texts
+decision_texts : (app : Application) (conn : Conn) (turn_reason : TurnReason) → AreTexts conn.values → AreTexts (learned conn.shadow (app.fields conn.panel) conn.values) → DecidesOnTexts (decision_on app conn turn_reason)
+decision_texts app conn turn_reasons.Agreement texts known = texts
+decision_texts app conn (turn_reasons.Key aid buffered) texts known = key_texts app conn aid buffered texts known
+decision_texts app conn turn_reasons.Refusal texts known = texts
+
+-- so does an answer
+without_texts : (panel : List PanelField) (values : Values) → AreTexts values → AreTexts (without_fields panel values)
+without_texts [] values texts = texts
+without_texts (field ∷ panel) values texts =
+    without_texts panel (remove_entry (is_at (nat_cmp field.number)) values) (All-map-remove_entry (is_at (nat_cmp field.number)) (λ (entry : ℕ × List ℕ). entry.1) AreCharacters values texts)
+
+with_texts : (values others : Values) → AreTexts values → AreTexts others → AreTexts (with_values values others)
+with_texts values [] texts are = texts
+with_texts values (other ∷ others) texts are =
+    with_texts (insert_entry nat_cmp values other.0 other.1) others
+    (All-values-insert_entry nat_cmp other.0 other.1 AreCharacters values texts (All-head AreCharacters other.1 (values_of others) are))
+    (All-tail AreCharacters other.1 (values_of others) are)
+
+answer_texts : (app : Application) (conn : Conn) (said : Said) (panel : Option ℕ) → AreTexts (learned conn.shadow (app.fields conn.panel) conn.values) → AreTexts said.values → ActsOnTexts (act_by app conn said panel)
+answer_texts app conn said None known are = with_texts (learned conn.shadow (app.fields conn.panel) conn.values) said.values known are
+answer_texts app conn said (Some panel) known are =
+    let fields : List PanelField = app.fields (app.shown (model_in conn) panel) in
+    with_texts (without_fields fields (learned conn.shadow (app.fields conn.panel) conn.values)) said.values
+    (without_texts fields (learned conn.shadow (app.fields conn.panel) conn.values) known) are
 
 wanted_is : (app : Application) (conn : Conn) (panel : ℕ) (message : Message) (keep : Bool) (values : Values) → AsksForScreens app → AreTexts values → IsScreen (wanted_by app conn panel message keep values)
 wanted_is app conn panel message false values asks texts = asks panel values message false texts
@@ -414,17 +445,39 @@ sends link (Some sending) c is = record {
 }
 
 -- where the host may act, the screen meets what it believes, and so what it learns is characters
-acts_by : (app : Application) → AsksForScreens app → (link : Link) (turn : Turn) (pending : Pending) (agreed : Bool) → Kept app (view_of link) → CanSend link
-    → link.host.turn ≡ turn → link.host.pending ≡ pending → IfSome (if may_act turn pending agreed then Some (done app link.host (act_on app link.host link.host.turn_reason)) else None) SendsTexts
-acts_by app asks link whose.Host Pending.Nothing true k c turns pends =
+what_is_learned : (app : Application) (link : Link) → Kept app (view_of link) → CanSend link → link.host.turn ≡ whose.Host → link.host.pending ≡ Pending.Nothing
+    → AreTexts (learned link.host.shadow (app.fields link.host.panel) link.host.values)
+what_is_learned app link k c turns pends =
     let known = knows_at app (view_of link) k turns pends in
-    let texts = learned_texts link.host.shadow link.term.display.screen (app.fields link.host.panel) link.host.values known.meets c.screen.storable c.values in
-    done_texts app link.host (act_on app link.host link.host.turn_reason) asks c.values (act_texts app link.host link.host.turn_reason c.values texts)
+    learned_texts link.host.shadow link.term.display.screen (app.fields link.host.panel) link.host.values known.meets c.screen.storable c.values
+
+decided_texts : (app : Application) (conn : Conn) (decision : Decision) → AsksForScreens app → AreTexts conn.values → DecidesOnTexts decision → IfSome (decided app conn decision) SendsTexts
+decided_texts app conn (Decision.Do act) asks texts is = done_texts app conn act asks texts is
+decided_texts app conn Decision.Asks asks texts is = tt
+
+acts_by : (app : Application) → AsksForScreens app → (link : Link) (turn : Turn) (pending : Pending) (agreed : Bool) → Kept app (view_of link) → CanSend link
+    → link.host.turn ≡ turn → link.host.pending ≡ pending → IfSome (if may_act turn pending agreed then decided app link.host (decision_on app link.host link.host.turn_reason) else None) SendsTexts
+acts_by app asks link whose.Host Pending.Nothing true k c turns pends =
+    decided_texts app link.host (decision_on app link.host link.host.turn_reason) asks c.values
+    (decision_texts app link.host link.host.turn_reason c.values (what_is_learned app link k c turns pends))
 acts_by app asks link whose.Host Pending.Nothing false k c turns pends = tt
 acts_by app asks link whose.Host (Pending.Writing number command) agreed k c turns pends = tt
 acts_by app asks link whose.Host (Pending.Reading number) agreed k c turns pends = tt
 acts_by app asks link whose.Host (Pending.Noting number command) agreed k c turns pends = tt
 acts_by app asks link whose.Terminal pending agreed k c turns pends = tt
+
+answers_by : (app : Application) → AsksForScreens app → (said : Said) → AreTexts said.values → (link : Link) (turn : Turn) (pending : Pending) (agreed asks_it has : Bool) → Kept app (view_of link) → CanSend link
+    → link.host.turn ≡ turn → link.host.pending ≡ pending
+    → IfSome (if (may_act turn pending agreed && asks_it) && has then Some (done app link.host (act_by app link.host said said.panel)) else None) SendsTexts
+answers_by app asks said are link whose.Host Pending.Nothing true true true k c turns pends =
+    done_texts app link.host (act_by app link.host said said.panel) asks c.values (answer_texts app link.host said said.panel (what_is_learned app link k c turns pends) are)
+answers_by app asks said are link whose.Host Pending.Nothing true true false k c turns pends = tt
+answers_by app asks said are link whose.Host Pending.Nothing true false has k c turns pends = tt
+answers_by app asks said are link whose.Host Pending.Nothing false asks_it has k c turns pends = tt
+answers_by app asks said are link whose.Host (Pending.Writing number command) agreed asks_it has k c turns pends = tt
+answers_by app asks said are link whose.Host (Pending.Reading number) agreed asks_it has k c turns pends = tt
+answers_by app asks said are link whose.Host (Pending.Noting number command) agreed asks_it has k c turns pends = tt
+answers_by app asks said are link whose.Terminal pending agreed asks_it has k c turns pends = tt
 
 notes_if : Given → (text : List ℕ) (link : Link) (b : Bool) → IsShape link.host.shape → IsNoteText text → CanSend link
     → IfSome (if b then Some (noted_as text link.host) else None) SendsTexts
@@ -462,6 +515,9 @@ steps read given app is asks = record {
         values = subst AreTexts (sym just.values) c.values;
       });
   acts = λ link k c. sends link (acted app link.host) c (acts_by app asks link link.host.turn link.host.pending (is_agreed link.host.talk.state) k c refl refl);
+  answers = λ number said link such k c.
+      sends link (answered_on app link.host said) c
+      (answers_by app asks said such.0 link link.host.turn link.host.pending (is_agreed link.host.talk.state) (is_ask (decision_on app link.host link.host.turn_reason)) (has_its_panel app said) k c refl refl);
   notes = λ number text link such k c.
       sends link (noted text link.host) c (notes_if given text link (may_note link.host.turn link.host.pending (is_agreed link.host.talk.state)) (shape_of_model app link.term.display.model link.host.shape is k.sizes.host) such.0 c);
   down = λ link message rest e k c.

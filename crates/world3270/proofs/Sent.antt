@@ -41,6 +41,18 @@ key_size size screen =
     (record { form = Modified; size = size; aid = screen.aid; cursor = Some screen.cursor; parts = parts_of_fields (lead_of screen.cells) (returned_of screen.cells) })
     refl refl
 
+-- a key that sends more than its identifier sends where the cursor is
+second_of : (P : InboundParts → Type 0) (b : Bool) (first second : InboundParts) → b ≡ false → P second → P (if b then first else second)
+second_of P true first second is p = absurd (cc)
+second_of P false first second is p = p
+
+pub key_cursor : (size : Shape) (screen : Screen) → is_short_aid screen.aid ≡ false → (modified_data Modified size screen).cursor ≡ Some screen.cursor
+key_cursor size screen long =
+    second_of (λ (parts : InboundParts). parts.cursor ≡ Some screen.cursor) (is_short_aid screen.aid)
+    (record { form = Modified; size = size; aid = screen.aid; cursor = None; parts = [] })
+    (record { form = Modified; size = size; aid = screen.aid; cursor = Some screen.cursor; parts = parts_of_fields (lead_of screen.cells) (returned_of screen.cells) })
+    long refl
+
 -- Enter and PF keys send more than their identifier
 pub sent_long : (aid : Aid) → SentFields aid → is_short_aid aid ≡ false
 sent_long NoAid s = absurd s

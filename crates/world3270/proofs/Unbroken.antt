@@ -192,6 +192,7 @@ module _ (known : KnownWorlds) (goes : StepsGoOn) where
       (goes is.begin is.events (event.Down at count) old answer new is.is_begin is.reached (tt, tt) steps) number
   deliveries_close_nothing (event.Key terminal key) old answer new is delivery steps number = absurd delivery
   deliveries_close_nothing (event.Act at) old answer new is delivery steps number = absurd delivery
+  deliveries_close_nothing (event.Answer at ticket said) old answer new is delivery steps number = absurd delivery
   deliveries_close_nothing (event.Note at text) old answer new is delivery steps number = absurd delivery
   deliveries_close_nothing (event.KeepAlive at) old answer new is delivery steps number = absurd delivery
   deliveries_close_nothing (event.Lose at) old answer new is delivery steps number = absurd delivery

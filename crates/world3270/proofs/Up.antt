@@ -39,10 +39,11 @@ use Rattle.host_core.specs.Session.{Conn, Pending, is_agreed}
 use Rattle.host_core.specs.Rejections.{lu_asked}
 use Rattle.host_core.specs.declared.rejection.Rejection.{Rejection}
 use Rattle.host_core.specs.Takes.{HostStep, Answers, quiet, with_talk, replied, granted_by, talked_on, talked, hears, believed, once_read, key_came, key_data_came, data_came, answered, if_answers, response_came, once_agreed, took}
+use Rattle.std.specs.Prelude.{unwrap_or}
 use Rattle.world3270.specs.Given.{Given}
 use Rattle.world3270.specs.Link.{Link, sent}
 use Rattle.world3270.specs.Moments.{Kind, awaiting, Talking, Serving, Moment, UnderWay, IsAt, host_talk_at, term_state_at, turn_at, pending_at, down_at, up_at, served_down, served_up}
-use Rattle.world3270.specs.TurnReasons.{IsOccasion, IsOpenBy, IsOpenFor}
+use Rattle.world3270.specs.TurnReasons.{IsOccasion, IsCursorFor, IsOpenBy, IsOpenFor}
 use Rattle.world3270.specs.Stages.{scene_of, once_taken, FactsAreExact, Suits, Sees, IsPressed, WillBeHeard, IsRead, Fact, Kept, Sizes}
 use Rattle.world3270.specs.View.{view_of}
 use Rattle.world3270.proofs.OneOfMany.{same_number}
@@ -217,10 +218,10 @@ data IsKeyTime (pending : Pending) : Type 0 where
   note_waits : (number : ℕ) (command : CommandParts) → pending ≡ Pending.Noting number command → IsKeyTime pending
 
 key_data_took : (parts : InboundParts) (conn : Conn) (aid : Aid) → parts.form ≡ Modified → parts.aid ≡ aid → (aid ≡ NoAid → ⊥)
-    → key_data_came parts parts.form conn ≡ believed (turn_reasons.Key aid false) conn.pending conn (hears parts conn)
+    → key_data_came parts parts.form conn ≡ believed (turn_reasons.Key aid false) conn.pending parts.cursor conn (hears parts conn)
 key_data_took parts conn aid form is some = ap (λ f. key_data_came parts f conn) form ∙ ap (λ a. key_came parts a conn) is ∙ by_aid aid some
   where
-    by_aid : (a : Aid) → (a ≡ NoAid → ⊥) → key_came parts a conn ≡ believed (turn_reasons.Key a false) conn.pending conn (hears parts conn)
+    by_aid : (a : Aid) → (a ≡ NoAid → ⊥) → key_came parts a conn ≡ believed (turn_reasons.Key a false) conn.pending parts.cursor conn (hears parts conn)
     by_aid NoAid n = absurd (n refl)
     by_aid Enter n = refl
     by_aid Clear n = refl
@@ -232,14 +233,14 @@ data_took parts conn pending turns (IsKeyTime.nothing_waits e) = ap (λ p. data_
 data_took parts conn pending turns (IsKeyTime.note_waits number command e) = ap (λ p. data_came parts conn.turn p conn) e ∙ ap (λ t. data_came parts t (Pending.Noting number command) conn) turns
 
 key_took : (pool : Answers) (conn : Conn) (parts : InboundParts) (aid : Aid) → is_agreed conn.talk.state ≡ true → conn.turn ≡ whose.Terminal → IsKeyTime conn.pending → parts.form ≡ Modified → parts.aid ≡ aid → (aid ≡ NoAid → ⊥)
-    → took pool conn (ToHost.Data parts) ≡ believed (turn_reasons.Key aid false) conn.pending conn (hears parts conn)
+    → took pool conn (ToHost.Data parts) ≡ believed (turn_reasons.Key aid false) conn.pending parts.cursor conn (hears parts conn)
 key_took pool conn parts aid agrees turns time form is some =
     ap (λ b. once_agreed b (data_came parts conn.turn conn.pending conn) conn) agrees
     ∙ data_took parts conn conn.pending turns time
     ∙ key_data_took parts conn aid form is some
 
 buffer_took : (pool : Answers) (conn : Conn) (size : Shape) (screen : Screen) (number : ℕ) → is_agreed conn.talk.state ≡ true → conn.pending ≡ Pending.Reading number
-    → took pool conn (ToHost.Data (buffer_data size screen)) ≡ believed (once_read conn.turn_reason) Pending.Nothing conn (hears (buffer_data size screen) conn)
+    → took pool conn (ToHost.Data (buffer_data size screen)) ≡ believed (once_read conn.turn_reason) Pending.Nothing (buffer_data size screen).cursor conn (hears (buffer_data size screen) conn)
 buffer_took pool conn size screen number agrees pends =
     let parts : InboundParts = buffer_data size screen in
     ap (λ b. once_agreed b (data_came parts conn.turn conn.pending conn) conn) agrees
@@ -265,6 +266,12 @@ read_occasion turn_reasons.Agreement aid is = is
 read_occasion (turn_reasons.Key pressed buffered) aid is = is
 read_occasion turn_reasons.Refusal aid is = absurd is
 
+-- once the screen was read the host knows where the cursor is
+read_cursor : (turn_reason : TurnReason) (place : ℕ) → IsCursorFor (once_read turn_reason) place place
+read_cursor turn_reasons.Agreement place = tt
+read_cursor (turn_reasons.Key aid buffered) place = refl
+read_cursor turn_reasons.Refusal place = tt
+
 module _ (given : Given) (app : Application) (pool : List Entry) (link : Link) (rest : List ToHost) (k : Kept app (view_of link)) (same : link.term.display.shape ≡ link.host.shape) where
   abbrev screen : Screen
   screen = link.term.display.screen
@@ -273,15 +280,15 @@ module _ (given : Given) (app : Application) (pool : List Entry) (link : Link) (
   size = cells_in link.host.shape
 
   -- what is heard is believed, and it is the host's turn
-  believes : (lu : List ℕ) (from to : Serving) (parts : InboundParts) (turn_reason : TurnReason) (pending : Pending) (Then : Shadow → Type 0) (r : Result Shadow HeardFault)
+  believes : (lu : List ℕ) (from to : Serving) (parts : InboundParts) (turn_reason : TurnReason) (pending : Pending) (cursor : Option ℕ) (Then : Shadow → Type 0) (r : Result Shadow HeardFault)
       → IsAt (view_of link) k.wanted (Moment.Serves lu from) → IfOk r KnownIsExact → IfOk r ProtectedIsExact → IsOkAnd r Then
       → whose.Host ≡ turn_at (Moment.Serves lu to) → pending ≡ pending_at (Moment.Serves lu to) → served_down from ++ [] ≡ served_down to → UnderWay link.lost rest (served_up to)
       → ((shadow : Shadow) → Then shadow
-      → Fact k.wanted (record { shape = link.host.shape; shadow = shadow; turn_reason = turn_reason; lock = link.term.display.keyboard.lock; screen = screen; last_restored = link.term.display.last_restored; erased = link.term.display.erased }) (Moment.Serves lu to))
-      → Answered app pool link rest (believed turn_reason pending link.host r)
-  believes lu from to parts turn_reason pending Then (Ok shadow) at knows protects ok turn pends down left fact =
-      serves app pool link rest k lu from to (record link.host { shadow = shadow; turn = whose.Host; pending = pending; turn_reason = turn_reason }) same at refl refl (record { known = knows; protected = protects }) turn pends down left (fact shadow ok)
-  believes lu from to parts turn_reason pending Then (Err fault) at knows protects ok turn pends down left fact = absurd ok
+      → Fact k.wanted (record { shape = link.host.shape; shadow = shadow; turn_reason = turn_reason; cursor = unwrap_or cursor link.host.cursor; lock = link.term.display.keyboard.lock; screen = screen; last_restored = link.term.display.last_restored; erased = link.term.display.erased }) (Moment.Serves lu to))
+      → Answered app pool link rest (believed turn_reason pending cursor link.host r)
+  believes lu from to parts turn_reason pending cursor Then (Ok shadow) at knows protects ok turn pends down left fact =
+      serves app pool link rest k lu from to (record link.host { shadow = shadow; turn = whose.Host; pending = pending; turn_reason = turn_reason; cursor = unwrap_or cursor link.host.cursor }) same at refl refl (record { known = knows; protected = protects }) turn pends down left (fact shadow ok)
+  believes lu from to parts turn_reason pending cursor Then (Err fault) at knows protects ok turn pends down left fact = absurd ok
 
   -- a key's data
   hears_key : (lu : List ℕ) (from to : Serving) (parts : InboundParts) (message : ToHost) (Then : Shadow → Type 0) → IsAt (view_of link) k.wanted (Moment.Serves lu from) → IsPressed (scene_of (view_of link)) parts
@@ -289,12 +296,12 @@ module _ (given : Given) (app : Application) (pool : List Entry) (link : Link) (
       → whose.Host ≡ turn_at (Moment.Serves lu to) → pending_at (Moment.Serves lu from) ≡ pending_at (Moment.Serves lu to) → served_down from ++ [] ≡ served_down to
       → UnderWay link.lost rest (served_up to)
       → ((shadow : Shadow) → Then shadow
-      → Fact k.wanted (record { shape = link.host.shape; shadow = shadow; turn_reason = turn_reasons.Key screen.aid false; lock = link.term.display.keyboard.lock; screen = screen; last_restored = link.term.display.last_restored; erased = link.term.display.erased }) (Moment.Serves lu to))
+      → Fact k.wanted (record { shape = link.host.shape; shadow = shadow; turn_reason = turn_reasons.Key screen.aid false; cursor = unwrap_or parts.cursor link.host.cursor; lock = link.term.display.keyboard.lock; screen = screen; last_restored = link.term.display.last_restored; erased = link.term.display.erased }) (Moment.Serves lu to))
       → Answered app pool link rest (took (answer_to pool) link.host message)
   hears_key lu from to parts message Then at p will e turns time turn pends down left fact =
-      as_step app pool link rest k (ToHost.Data parts) message (believed (turn_reasons.Key screen.aid false) link.host.pending link.host (hears parts link.host)) e
+      as_step app pool link rest k (ToHost.Data parts) message (believed (turn_reasons.Key screen.aid false) link.host.pending parts.cursor link.host (hears parts link.host)) e
       (key_took (answer_to pool) link.host parts screen.aid (agreed_at app pool link rest k lu from at) (at.turn ∙ turns) (subst IsKeyTime (sym at.pending) time) p.form p.pressed p.some)
-      (believes lu from to parts (turn_reasons.Key screen.aid false) link.host.pending Then (hears parts link.host) at
+      (believes lu from to parts (turn_reasons.Key screen.aid false) link.host.pending parts.cursor Then (hears parts link.host) at
       (given.belief.heard_exact size link.host.shadow parts k.exact.known) (given.belief.heard_protected size link.host.shadow parts k.exact.protected) will turn (at.pending ∙ pends) down left fact)
 
   -- a response to a write
@@ -313,13 +320,13 @@ module _ (given : Given) (app : Application) (pool : List Entry) (link : Link) (
       → parts ≡ buffer_data link.host.shape screen → message ≡ ToHost.Data parts → UnderWay link.lost rest [] → Answered app pool link rest (took (answer_to pool) link.host message)
   hears_buffer lu number parts message at f is e left =
       let read : InboundParts = buffer_data link.host.shape screen in
-      as_step app pool link rest k (ToHost.Data read) message (believed (once_read link.host.turn_reason) Pending.Nothing link.host (hears read link.host)) (e ∙ ap (λ p. ToHost.Data p) is)
+      as_step app pool link rest k (ToHost.Data read) message (believed (once_read link.host.turn_reason) Pending.Nothing read.cursor link.host (hears read link.host)) (e ∙ ap (λ p. ToHost.Data p) is)
       (buffer_took (answer_to pool) link.host link.host.shape screen number (agreed_at app pool link rest k lu (Serving.Reported number parts) at) at.pending)
-      (believes lu (Serving.Reported number parts) Serving.Deciding read (once_read link.host.turn_reason) Pending.Nothing (λ s. Sees link.host.shape screen s × NothingIsOpen s) (hears read link.host) at
+      (believes lu (Serving.Reported number parts) Serving.Deciding read (once_read link.host.turn_reason) Pending.Nothing read.cursor (λ s. Sees link.host.shape screen s × NothingIsOpen s) (hears read link.host) at
       (given.belief.heard_exact size link.host.shadow read k.exact.known) (given.belief.heard_protected size link.host.shadow read k.exact.protected)
       (by_result (heard size link.host.shadow read) (subst (λ n. IsOkAnd (heard n link.host.shadow read) (Believed false screen)) (k.whole ∙ ap (λ (s : Shape). cells_in s) same) (given.belief.reads link.host.shape link.host.shadow screen f.decides.sees.meets))
       (given.belief.heard_exact size link.host.shadow read k.exact.known) (given.belief.heard_protected size link.host.shadow read k.exact.protected) (given.belief.read_leaves size link.host.shadow read refl))
-      refl refl refl left (λ shadow sees. record { lock = f.decides.lock; turn_reason = read_occasion link.host.turn_reason screen.aid f.decides.turn_reason; closed = open_read link.host.turn_reason shadow link.host.shadow sees.1 f.decides.closed; sees = sees.0 }))
+      refl refl refl left (λ shadow sees. record { lock = f.decides.lock; turn_reason = read_occasion link.host.turn_reason screen.aid f.decides.turn_reason; cursor = read_cursor link.host.turn_reason screen.cursor; closed = open_read link.host.turn_reason shadow link.host.shadow sees.1 f.decides.closed; sees = sees.0 }))
     where
       by_result : (r : Result Shadow HeardFault) → IsOkAnd r (Believed false screen) → IfOk r KnownIsExact → IfOk r ProtectedIsExact → IfOk r NothingIsOpen → IsOkAnd r (λ s. Sees link.host.shape screen s × NothingIsOpen s)
       by_result (Ok s) believed known protected closed =
@@ -365,7 +372,7 @@ answers given app pool sound link message rest e k = by_moment k.moment k.sizes 
     by_serving lu (Serving.AnsweredLate number command) s at f =
         let first = front link.lost link.up message rest _ [] e at.goes_up in
         hears_response given app pool link rest k (s.same refl) lu (Serving.AnsweredLate number command) Serving.Deciding Kind.ANote number command message at first.0 refl f.sees.exact refl refl refl first.1
-        (record { lock = f.lock; turn_reason = f.turn_reason; closed = f.closed; sees = f.sees })
+        (record { lock = f.lock; turn_reason = f.turn_reason; cursor = f.cursor; closed = f.closed; sees = f.sees })
     by_serving lu (Serving.Answering kind number command) s at f =
         let first = front link.lost link.up message rest _ [] e at.goes_up in
         hears_response given app pool link rest k (s.same refl) lu (Serving.Answering kind number command) Serving.Operating kind number command message at first.0 refl f.exact refl refl refl first.1
@@ -374,20 +381,20 @@ answers given app pool sound link message rest e k = by_moment k.moment k.sizes 
         let first = front link.lost link.up message rest _ _ e at.goes_up in
         hears_response given app pool link rest k (s.same refl) lu (Serving.KeyBehind kind number command parts) (Serving.KeyAlone parts) kind number command message at first.0 refl
         f.3 refl refl refl first.1
-        (record { lock = f.0.lock; form = f.0.form; size = f.0.size; pressed = f.0.pressed; some = f.0.some }, f.1, f.2)
+        (record { lock = f.0.lock; form = f.0.form; size = f.0.size; pressed = f.0.pressed; cursor = f.0.cursor; some = f.0.some }, f.1, f.2)
     by_serving lu (Serving.KeyAlone parts) s at f =
         let first = front link.lost link.up message rest _ [] e at.goes_up in
         hears_key given app pool link rest k (s.same refl) lu (Serving.KeyAlone parts) Serving.Deciding parts message (Sees link.host.shape screen) at f.0 f.1 first.0 refl (IsKeyTime.nothing_waits refl) refl refl refl first.1
-        (λ shadow sees. record { lock = f.0.lock; turn_reason = (refl, f.0.some); closed = sees.closed; sees = sees })
+        (λ shadow sees. record { lock = f.0.lock; turn_reason = (refl, f.0.some); cursor = λ long. ap (λ (c : Option ℕ). unwrap_or c link.host.cursor) (f.0.cursor long); closed = sees.closed; sees = sees })
     by_serving lu (Serving.KeyNoted number command parts) s at f =
         let first = front link.lost link.up message rest _ [] e at.goes_up in
         hears_key given app pool link rest k (s.same refl) lu (Serving.KeyNoted number command parts) (Serving.NotedLate number command) parts message (Sees link.host.shape screen) at f.0 f.1 first.0 refl (IsKeyTime.note_waits number command refl) refl refl refl first.1
-        (λ shadow sees. (record { lock = f.0.lock; turn_reason = (refl, f.0.some); closed = sees.closed; sees = sees }, record { note = f.2.note; takes = f.2.takes }))
+        (λ shadow sees. (record { lock = f.0.lock; turn_reason = (refl, f.0.some); cursor = λ long. ap (λ (c : Option ℕ). unwrap_or c link.host.cursor) (f.0.cursor long); closed = sees.closed; sees = sees }, record { note = f.2.note; takes = f.2.takes }))
     by_serving lu (Serving.KeyBefore number command parts) s at f =
         let first = front link.lost link.up message rest _ _ e at.goes_up in
         hears_key given app pool link rest k (s.same refl) lu (Serving.KeyBefore number command parts) (Serving.AnsweredLate number command) parts message (λ shadow. Sees link.host.shape screen (once_taken link.host.shape command shadow)) at f.0 f.1 first.0 refl
         (IsKeyTime.note_waits number command refl) refl refl refl first.1
-        (λ shadow sees. record { lock = f.0.lock; turn_reason = (refl, f.0.some); closed = sees.closed; sees = sees })
+        (λ shadow sees. record { lock = f.0.lock; turn_reason = (refl, f.0.some); cursor = λ long. ap (λ (c : Option ℕ). unwrap_or c link.host.cursor) (f.0.cursor long); closed = sees.closed; sees = sees })
     by_serving lu Serving.Deciding s at f = no_more at.goes_up
     by_serving lu (Serving.Reading number) s at f = no_more at.goes_up
     by_serving lu (Serving.NotedLate number command) s at f = no_more at.goes_up

@@ -1,7 +1,7 @@
 -- Each event leads from a world that keeps what is known of each connection to one that does.
 use Rattle.std.proofs.Common.{◌≡◌, ◌<◌, ◌==◌, ◌&&◌, ◌++◌, ℕ, Bool, true, false, Option, None, Some, List, [], ◌∷◌, arith, replicate, refl, ap, sym, subst, ◌∙◌, if◌then◌else◌, inl}
 use Rattle.codes3270.specs.declared.size.Model.{Model}
-use Rattle.std.specs.Prelude.{filter_map}
+use Rattle.std.specs.Prelude.{filter_map, ◌&&◌}
 use Rattle.std.specs.List.{list_any}
 use Rattle.std.proofs.lemmas.Bool.{and_parts}
 use Rattle.std.proofs.lemmas.List.{length-replicate}
@@ -17,15 +17,17 @@ use Rattle.telnet_wire.specs.declared.wire.Verb.TheVariants.{Do}
 use Rattle.shadow.proofs.HeardOthers.{no_field}
 use Rattle.tn3270e_msg.specs.Talk.{IsLuIfSome, Saying}
 use Rattle.tn3270e_msg.specs.declared.cause.Cause.{Cause}
-use Rattle.host_core.specs.Acts.{Act, act_on, done as done_act, may_act, acted}
+use Rattle.host_core.specs.Acts.{Act, Decision, decided, decision_on, done as done_act, may_act, acted}
 use Rattle.host_core.specs.Application.{Application, IsShape, IsApplication}
 use Rattle.host_core.specs.Messages.{ToTerminal, ToHost, Verdict}
 use Rattle.host_core.specs.Notes.{IsNoteText, may_note, noted_as, noted}
 use Rattle.host_core.specs.Session.{Conn, is_agreed}
 use Rattle.host_core.specs.Takes.{freed_if, HostStep, took as host_took}
+use Rattle.host_core.specs.Questions.{act_by, answered_on, has_its_panel, is_asking}
+use Rattle.host_core.specs.declared.question.Answer.{Answer as Said}
 use Rattle.world3270.specs.Always.{is_negative}
 use Rattle.world3270.specs.Given.{Given}
-use Rattle.world3270.specs.Happens.{closed_if, verdict_in, said, came_up, host_acted, host_noted, left_alone, place_after, came_down, went_down, key_went, host_parted, parted, term_saw, joined, term_anew, host_left_from, host_anew, done, happens, run, RunsCompose}
+use Rattle.world3270.specs.Happens.{closed_if, verdict_in, said, came_up, host_acted, host_noted, left_alone, place_after, came_down, went_down, key_went, host_parted, parted, term_saw, joined, term_anew, host_left_from, host_anew, done, happens, run, RunsCompose, host_answered}
 use Rattle.world3270.specs.Link.{Link, begun, unused, cut, host_left, host_left_if, host_sent, term_left, term_left_if, term_stepped}
 use Rattle.world3270.specs.Moments.{Talking, Moment}
 use Rattle.world3270.specs.Placed.{has_place, free_number, is_link, comes_up, is_queued}
@@ -33,7 +35,7 @@ use Rattle.world3270.specs.Stages.{Kept}
 use Rattle.world3270.specs.Terminal.{Display, TermStep, new_display, after_key, key_came, took as term_took}
 use Rattle.world3270.specs.View.{view_of}
 use Rattle.world3270.specs.World.{Place, World, Event, IsEvent, AreEvents, new_world, with_at, with_link, display_at}
-use Rattle.world3270.proofs.Acting.{acts, notes, loses}
+use Rattle.world3270.proofs.Acting.{acts, notes, loses, answers_are_shown}
 use Rattle.world3270.proofs.Down.{term_view, obeys}
 use Rattle.world3270.proofs.Keys.{keys}
 use Rattle.world3270.proofs.OneOfMany.{all_with, differs}
@@ -121,9 +123,14 @@ record SameEnd (old new : Link) : Type 0 where
   claims : claim new.host ≡ claim old.host
   here : new.host_here ≡ old.host_here
 
-acted_same : (app : Application) (link : Link) (b : Bool) → SameEnd link (host_sent (if b then Some (done_act app link.host (act_on app link.host link.host.turn_reason)) else None) link)
-acted_same app link true = record { claims = act_claims app link.host (act_on app link.host link.host.turn_reason); here = refl }
-acted_same app link false = record { claims = refl; here = refl }
+decided_same : (app : Application) (link : Link) (decision : Decision) (b : Bool) → SameEnd link (host_sent (if b then decided app link.host decision else None) link)
+decided_same app link (Decision.Do act) true = record { claims = act_claims app link.host act; here = refl }
+decided_same app link Decision.Asks true = record { claims = refl; here = refl }
+decided_same app link decision false = record { claims = refl; here = refl }
+
+answered_same : (app : Application) (link : Link) (act : Act) (b : Bool) → SameEnd link (host_sent (if b then Some (done_act app link.host act) else None) link)
+answered_same app link act true = record { claims = act_claims app link.host act; here = refl }
+answered_same app link act false = record { claims = refl; here = refl }
 
 noted_same : (text : List ℕ) (link : Link) (b : Bool) → SameEnd link (host_sent (if b then Some (noted_as text link.host) else None) link)
 noted_same text link true = record { claims = refl; here = refl }
@@ -136,7 +143,13 @@ sent_good app world number new kept same g =
 host_acted_good : Given → (app : Application) → IsApplication app → (world : World) (number : ℕ) → GoodWorld app world → GoodWorld app (host_acted app number world)
 host_acted_good given app is world number g =
     let link : Link = world.link number in
-    sent_good app world number (host_sent (acted app link.host) link) (acts given app is link (g.links number)) (acted_same app link (may_act link.host.turn link.host.pending (is_agreed link.host.talk.state))) g
+    sent_good app world number (host_sent (acted app link.host) link) (acts given app is link (g.links number)) (decided_same app link (decision_on app link.host link.host.turn_reason) (may_act link.host.turn link.host.pending (is_agreed link.host.talk.state))) g
+
+host_answered_good : Given → (app : Application) → IsApplication app → (world : World) (number : ℕ) (said : Said) → GoodWorld app world → GoodWorld app (host_answered app number said world)
+host_answered_good given app is world number said g =
+    let link : Link = world.link number in
+    sent_good app world number (host_sent (answered_on app link.host said) link) (answers_are_shown given app is link (g.links number) said)
+    (answered_same app link (act_by app link.host said said.panel) (is_asking app link.host && has_its_panel app said)) g
 
 host_noted_good : (app : Application) (world : World) (number : ℕ) (text : List ℕ) → IsNoteText text → GoodWorld app world → GoodWorld app (host_noted number text world)
 host_noted_good app world number text is g =
@@ -294,6 +307,7 @@ done_good given app is (Event.Press terminal key) world e p g = key_went_good gi
 done_good given app is (Event.Up number) world e p g = came_up_good given app world number (world.link number).up refl (up_held (world.link number) number p) g
 done_good given app is (Event.Down number) world e p g = went_down_good given app is world number (world.link number).term_here g
 done_good given app is (Event.Act number) world e p g = host_acted_good given app is world number g
+done_good given app is (Event.Answer number said) world e p g = host_answered_good given app is world number said g
 done_good given app is (Event.Note number text) world e p g = host_noted_good app world number text e g
 done_good given app is (Event.Lose number) world e p g = cut_good app world number g
 done_good given app is (Event.HostSees number) world e p g = host_left_good given app world number g

@@ -9,13 +9,13 @@ use Rattle.tn3270e_msg.specs.declared.cause.Stop.TheVariants as stop
 use Rattle.host_core.specs.Acts.{Sent}
 use Rattle.host_core.specs.Application.{application_of}
 use Rattle.host_core.specs.Bytes.{Counter}
-use Rattle.host_core.specs.Does.{Does as HostDoes, acted_by, noted_by}
+use Rattle.host_core.specs.Does.{Does as HostDoes, DoesAnswer, acted_by, noted_by}
 use Rattle.host_core.specs.Feeds.{Feeds, counter_at, with_counter}
+use Rattle.host_core.specs.Questions.{answered_by}
 use Rattle.host_core.specs.KeepAlive.{kept_alive, may_keep_alive}
-use Rattle.host_core.specs.State.{Host, connection_at, service_at, with_connection, new_host, most_connections, given_up}
+use Rattle.host_core.specs.State.{Host, connection_at, service_at, with_connection, restarted, most_connections, given_up, session_at, with_opened}
 use Rattle.host_core.specs.declared.acted.Acted.{Acted}
 use Rattle.host_core.specs.declared.acted.Acted.TheVariants as acted
-use Rattle.host_core.specs.State.{opened}
 use Rattle.term_core.specs.Feeds.{StopsFor}
 use Rattle.term_core.specs.Presses.{LacksKeyRoom, answer_to_key}
 use Rattle.term_core.specs.Room.{out_room}
@@ -68,6 +68,8 @@ has_place (event.Key terminal key) world = is_terminal terminal world
 has_place (event.Up number count) world = is_link number && (host_there number world && is_queued (take count (up_of number world)))
 has_place (event.Down number count) world = is_link number && (terminal_there number world && is_queued (take count (down_of number world)))
 has_place (event.Act number) world = is_link number && is_some (acted_by (application_of world.host.panels) (service_at number world.host))
+has_place (event.Answer number ticket said) world =
+    is_link number && is_some (answered_by (application_of world.host.panels) (session_at number world.host) ticket said (service_at number world.host))
 has_place (event.Note number text) world = is_link number && is_some (noted_by text (service_at number world.host))
 has_place (event.KeepAlive number) world = is_link number && may_keep_alive (connection_at number world.host)
 has_place (event.Lose number) world = is_link number && is_up number world
@@ -197,6 +199,15 @@ pub record ActsHost (does : Option Sent) (number : ℕ) (old : ByteWorld) (answe
   pub answers : answer ≡ answer_acted act
   pub leaves : new ≡ with_host host old
 
+-- the same of what the application answers
+pub record AnswersHost (does : Option Sent) (number : ℕ) (old : ByteWorld) (answer : Stepped) (new : ByteWorld) : Type 0 where
+  pub act : Acted
+  pub host : Host
+  pub acts : DoesAnswer does (connection_at number old.host) act (connection_at number host)
+  pub others : host ≡ with_connection number (connection_at number host) old.host
+  pub answers : answer ≡ answer_acted act
+  pub leaves : new ≡ with_host host old
+
 -- the host sends NOP on a connection; nobody else changes
 abbrev pub nop_sent : ℕ → ByteWorld → ByteWorld
 nop_sent number world = with_host (with_connection number (kept_alive (connection_at number world.host)) world.host) world
@@ -207,7 +218,7 @@ nop_sent number world = with_host (with_connection number (kept_alive (connectio
 pub data Connects (terminal : ℕ) (wanted : Option (List ℕ)) (number : ℕ) (old : ByteWorld) (answer : Stepped) (new : ByteWorld) : Type 0 where
   refused : answer ≡ stepped.Memory → new ≡ old → Connects terminal wanted number old answer new
   done : answer ≡ stepped.Done
-      → new ≡ with_transits number begun_transits (with_slot terminal (attached_slot (model_at terminal old) wanted number) (with_host (with_connection number (opened old.host.panels) old.host) old))
+      → new ≡ with_transits number begun_transits (with_slot terminal (attached_slot (model_at terminal old) wanted number) (with_host (with_opened number old.host) old))
       → Connects terminal wanted number old answer new
 
 abbrev pub ConnectsIf : ℕ → Option (List ℕ) → Option ℕ → ByteWorld → Stepped → ByteWorld → Type 0
@@ -231,7 +242,7 @@ host_gone_below zero world = world
 host_gone_below (suc number) world = host_gone_if_there number (host_gone_below number world)
 
 abbrev pub host_anew : ByteWorld → ByteWorld
-host_anew world = with_host (new_host world.host.panels world.host.pool) world
+host_anew world = with_host (restarted world.host) world
 
 -- ---- events
 
@@ -244,6 +255,8 @@ Happens (event.Key terminal key) old answer new = Presses terminal key old answe
 Happens (event.Up number count) old answer new = ComesUp number (take count (up_of number old)) old answer new
 Happens (event.Down number count) old answer new = GoesDown (terminal_at number old.slots) number (take count (down_of number old)) old answer new
 Happens (event.Act number) old answer new = ActsHost (acted_by (application_of old.host.panels) (service_at number old.host)) number old answer new
+Happens (event.Answer number ticket said) old answer new =
+    AnswersHost (answered_by (application_of old.host.panels) (session_at number old.host) ticket said (service_at number old.host)) number old answer new
 Happens (event.Note number text) old answer new = ActsHost (noted_by text (service_at number old.host)) number old answer new
 Happens (event.KeepAlive number) old answer new = Is (nop_sent number old) answer new
 Happens (event.Lose number) old answer new = Is (with_transits number (lost_transits number old) old) answer new

@@ -1,6 +1,6 @@
 -- A small host for the example's runs: readers and proofs need it, and nothing rests on it (our profile). Its screens have two rows
 -- of 16 cells, or three on a model 5, the last one for messages; and its pool has two LUs.
-use Rattle.std.specs.Prelude.{codes, ℕ, suc, zero, ◌+◌, ◌==◌, Bool, true, false, List, [], ◌∷◌, ◌++◌, map, replicate, None, if◌then◌else◌}
+use Rattle.std.specs.Prelude.{codes, ℕ, suc, zero, ◌+◌, ◌==◌, Bool, true, false, List, [], ◌∷◌, ◌++◌, map, replicate, None, if◌then◌else◌, nat_lt}
 use Rattle.codes3270.specs.declared.size.Model.TheVariants.{M2, M3, M4, M5}
 use Rattle.codes3270.specs.declared.size.Model.{Model}
 use Rattle.std.specs.List.{range_with_len}
@@ -141,7 +141,7 @@ led_to (suc panel) Clear = Go 0
 led_to _ _ = Again
 
 abbrev pub example : Application
-example = record { begins = small; alternate = alternate; start = 0; shown = shown_to; fields = fields_of; next = led_to; screen = screen_of }
+example = record { begins = small; alternate = alternate; start = 0; has_panel = λ panel. nat_lt panel 3; shown = shown_to; fields = fields_of; next = led_to; screen = screen_of }
 
 abbrev pub l1 : List ℕ
 l1 = codes "L1"

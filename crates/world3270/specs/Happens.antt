@@ -12,6 +12,8 @@ use Rattle.host_core.specs.Acts.{acted}
 use Rattle.host_core.specs.Notes.{noted}
 use Rattle.lu_pool.specs.Holders.{given_back, all_free}
 use Rattle.host_core.specs.Takes.{HostStep, pool_after, took as host_took}
+use Rattle.host_core.specs.Questions.{answered_on}
+use Rattle.host_core.specs.declared.question.Answer.{Answer as Said}
 use Rattle.world3270.specs.Terminal.{Display, TermStep, new_display, after_key, key_came, took as term_took}
 use Rattle.world3270.specs.Link.{Link, begun, cut, host_left, host_stepped, host_sent, term_left, term_stepped}
 use Rattle.world3270.specs.Placed.{has_place, free_number}
@@ -50,9 +52,12 @@ came_up number [] world = world
 came_up number (message ∷ rest) world =
     host_took_it number (host_took (answer_to world.pool) (world.link number).host message) rest world
 
--- the host acts, and sends a note
+-- the host acts, is answered by the application, and sends a note
 abbrev pub host_acted : Application → ℕ → World → World
 host_acted app number world = with_link number (host_sent (acted app (world.link number).host) (world.link number)) world
+
+abbrev pub host_answered : Application → ℕ → Said → World → World
+host_answered app number said world = with_link number (host_sent (answered_on app (world.link number).host said) (world.link number)) world
 
 abbrev pub host_noted : ℕ → List ℕ → World → World
 host_noted number text world = with_link number (host_sent (noted text (world.link number).host) (world.link number)) world
@@ -135,6 +140,7 @@ done app (Event.Press terminal key) world = key_went terminal key (world.place t
 done app (Event.Up number) world = came_up number (world.link number).up world
 done app (Event.Down number) world = went_down number (world.link number).term_here world
 done app (Event.Act number) world = host_acted app number world
+done app (Event.Answer number said) world = host_answered app number said world
 done app (Event.Note number text) world = host_noted number text world
 done app (Event.Lose number) world = with_link number (cut (world.link number)) world
 done app (Event.HostSees number) world = host_parted number world

@@ -7,6 +7,7 @@ pub mod Seen
 pub mod Headline
 pub mod Unreturned
 pub mod Always
+pub mod Asked
 pub mod History
 pub mod TurnReasons
 pub mod Given

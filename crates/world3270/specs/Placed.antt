@@ -4,6 +4,8 @@ use Rattle.std.specs.List.{range_with_len}
 use Rattle.host_core.specs.Acts.{acted}
 use Rattle.host_core.specs.Application.{Application}
 use Rattle.host_core.specs.Notes.{noted}
+use Rattle.host_core.specs.Questions.{answered_on}
+use Rattle.host_core.specs.declared.question.Answer.{Answer as Said}
 use Rattle.world3270.specs.Link.{Link, is_free, is_up}
 use Rattle.world3270.specs.World.{Place, World, Event, link_count}
 
@@ -27,6 +29,9 @@ comes_down link = is_some link.term_here && is_queued link.down
 -- the host holds an end, and has something to send there
 abbrev pub host_acts : Application → Link → Bool
 host_acts app link = link.host_here && is_some (acted app link.host)
+
+abbrev pub host_is_answered : Application → Said → Link → Bool
+host_is_answered app said link = link.host_here && is_some (answered_on app link.host said)
 
 abbrev pub host_notes : List ℕ → Link → Bool
 host_notes text link = link.host_here && is_some (noted text link.host)
@@ -53,6 +58,7 @@ has_place app (Event.Press terminal key) world = is_terminal world terminal
 has_place app (Event.Up number) world = is_link number && comes_up (world.link number)
 has_place app (Event.Down number) world = is_link number && comes_down (world.link number)
 has_place app (Event.Act number) world = is_link number && host_acts app (world.link number)
+has_place app (Event.Answer number said) world = is_link number && host_is_answered app said (world.link number)
 has_place app (Event.Note number text) world = is_link number && host_notes text (world.link number)
 has_place app (Event.Lose number) world = is_link number && is_up (world.link number)
 has_place app (Event.HostSees number) world = is_link number && host_sees (world.link number)

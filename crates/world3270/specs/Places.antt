@@ -49,6 +49,7 @@ concerns (Event.Press terminal key) world number = is_at number (world.place ter
 concerns (Event.Up at) world number = number == at
 concerns (Event.Down at) world number = number == at
 concerns (Event.Act at) world number = number == at
+concerns (Event.Answer at said) world number = number == at
 concerns (Event.Note at text) world number = number == at
 concerns (Event.Lose at) world number = number == at
 concerns (Event.HostSees at) world number = number == at

@@ -1,11 +1,14 @@
 -- How the world over bytes follows the world over messages (our profile): after each event the bytes represent a world that a list of
 -- events over messages leads to.
-use Rattle.std.specs.Prelude.{◌≡◌, ◌<◌, ◌≤◌, ⊤, ℕ, List, [], ◌∷◌, ◌++◌, Option, Some, None, IfSome, drop, take, All, length}
+use Rattle.std.specs.Prelude.{◌≡◌, ◌<◌, ◌≤◌, ⊤, ℕ, List, [], ◌∷◌, ◌++◌, Option, Some, None, IfSome, drop, take, All, length, true}
 use Rattle.codes3270.specs.declared.size.Model.{Model}
 use Rattle.lu_pool.specs.Pool.{IsPool}
 use Rattle.lu_pool.specs.declared.entry.Entry.{Entry}
 use Rattle.panels.specs.Panel.{Panels, AreSound}
 use Rattle.host_core.specs.Application.{application_of}
+use Rattle.host_core.specs.Questions.{is_ticket, ticket_of}
+use Rattle.host_core.specs.State.{Service, service_at, session_at}
+use Rattle.host_core.specs.declared.question.Ticket.{Ticket}
 use Rattle.world3270.specs.ByteRuns.{Runs, refused_at}
 use Rattle.world3270.specs.ByteSteps.{Steps, has_place}
 use Rattle.world3270.specs.ByteWorld.{ByteWorld, down_of, new_byte_world, up_of}
@@ -56,6 +59,7 @@ message_event (event.Key terminal key) = Some (MessageEvent.Press terminal key)
 message_event (event.Up number count) = Some (MessageEvent.Up number)
 message_event (event.Down number count) = Some (MessageEvent.Down number)
 message_event (event.Act number) = Some (MessageEvent.Act number)
+message_event (event.Answer number ticket said) = Some (MessageEvent.Answer number said)
 message_event (event.Note number text) = Some (MessageEvent.Note number text)
 message_event (event.KeepAlive number) = None
 message_event (event.Lose number) = Some (MessageEvent.Lose number)
@@ -77,23 +81,36 @@ abbrev pub once_if_any : Option MessageEvent → Stepped → List MessageEvent
 once_if_any None answer = []
 once_if_any (Some event) answer = once event answer
 
--- What an event that was answered so is over messages. A delivery of bytes: one delivery for each message whose last byte was taken. Any
--- other event: itself once, or nothing if memory was refused, or if it is nothing over messages.
+-- an answer of the application happens, or isn't taken
+abbrev pub once_taken : MessageEvent → Stepped → List MessageEvent
+once_taken event stepped.Done = event ∷ []
+once_taken event _ = []
+
+-- What an event that was answered so is over messages. A delivery of bytes: one delivery for each message whose last byte was taken. An
+-- answer of the application: itself, if it was taken; over messages there are no tickets. Any other event: itself once, or nothing if memory was refused, or if it is nothing over messages.
 abbrev pub ComesTo : Event → ByteWorld → Stepped → List MessageEvent → Type 0
 ComesTo (event.Up number count) old answer events =
     AreDeliveries all_items (host_rest number old) (taken_by answer (take count (up_of number old))) (MessageEvent.Up number) events
 ComesTo (event.Down number count) old answer events =
     AreDeliveries without_nops (terminal_rest number old) (taken_by answer (take count (down_of number old))) (MessageEvent.Down number) events
+ComesTo (event.Answer number ticket said) old answer events = events ≡ once_taken (MessageEvent.Answer number said) answer
 ComesTo event old answer events = events ≡ once_if_any (message_event event) answer
 
 -- its key, name or text is one of those that there are
 abbrev pub IsReal : Event → Type 0
 IsReal event = IfSome (message_event event) (λ message. IsEvent message × IsTyped message)
 
--- a delivery of no bytes is skipped in any case, and one of NOPs alone is nothing over messages
+-- the ticket is that of a question which is open there, if one is
+abbrev pub IsTicketAt : Ticket → ℕ → Service → Type 0
+IsTicketAt ticket session Service.Free = ⊤
+IsTicketAt ticket session (Service.Open rest conn) = is_ticket ticket (ticket_of session conn) ≡ true
+IsTicketAt ticket session (Service.Closed cause) = ⊤
+
+-- a delivery of no bytes is skipped in any case, and one of NOPs alone is nothing over messages; so is an answer to another question
 abbrev pub IsCounted : Event → ByteWorld → Type 0
 IsCounted (event.Up number count) world = 0 < count
 IsCounted (event.Down number count) world = (0 < count) × BringAMessage number world
+IsCounted (event.Answer number ticket said) world = IsTicketAt ticket (session_at number world.host) (service_at number world.host)
 IsCounted event world = ⊤
 
 -- ---- the laws

@@ -1,5 +1,6 @@
 -- What is known of a connection at each of its moments, for proofs (our profile): the headline's invariant.
 use Rattle.std.specs.Prelude.{◌≡◌, ◌<◌, ⊤, ℕ, Bool, false, List, [], length, Option, Some, None, IsTrue, IsOkAnd, true}
+use Rattle.codes3270.specs.Aid.{is_short_aid}
 use Rattle.codes3270.specs.Size.{Shape, cells_in}
 use Rattle.codes3270.specs.declared.attention.Aid.TheVariants.{NoAid, Clear}
 use Rattle.datastream.specs.Fields.{fields}
@@ -28,16 +29,17 @@ use Rattle.host_core.specs.declared.turn_reason.TurnReason.{TurnReason}
 use Rattle.host_core.specs.declared.turn_reason.TurnReason.TheVariants as turn_reasons
 use Rattle.world3270.specs.Headline.{SentFields}
 use Rattle.world3270.specs.Moments.{Talking, Serving, Moment, IsAt}
-use Rattle.world3270.specs.TurnReasons.{IsOccasion, IsOpenBy, IsOpenFor, IsCleared}
+use Rattle.world3270.specs.TurnReasons.{IsOccasion, IsCursorFor, IsOpenBy, IsOpenFor, IsCleared}
 use Rattle.world3270.specs.Unreturned.{NotedSince, UnmodifiedIsKept}
 use Rattle.world3270.specs.View.{View}
 
--- what the facts are about: the size that the host set last, what it believes of the screen and why it acts; the lock, the screen, and
--- its history
+-- what the facts are about: the size that the host set last, what it believes of the screen, why it acts and where it believes the
+-- cursor is; the lock, the screen, and its history
 pub record Scene : Type 0 where
   pub shape : Shape
   pub shadow : Shadow
   pub turn_reason : TurnReason
+  pub cursor : ℕ
   pub lock : Lock
   pub screen : Screen
   pub last_restored : Screen
@@ -48,6 +50,7 @@ scene_of v = record {
   shape = v.host.shape;
   shadow = v.host.shadow;
   turn_reason = v.host.turn_reason;
+  cursor = v.host.cursor;
   lock = v.lock;
   screen = v.screen;
   last_restored = v.last_restored;
@@ -121,6 +124,7 @@ pub record IsPressed (s : Scene) (parts : InboundParts) : Type 0 where
   pub form : parts.form ≡ Modified
   pub size : parts.size ≡ s.shape
   pub pressed : parts.aid ≡ s.screen.aid
+  pub cursor : is_short_aid s.screen.aid ≡ false → parts.cursor ≡ Some s.screen.cursor
   pub some : s.screen.aid ≡ NoAid → ⊥
 
 -- the key's data will be heard, and then this holds of what is believed
@@ -134,6 +138,7 @@ WillSee s shadow parts = WillBeHeard s.shape shadow parts (Sees s.shape s.screen
 pub record Decides (s : Scene) (shadow : Shadow) : Type 0 where
   pub lock : s.lock ≡ Wait
   pub turn_reason : IsOccasion s.turn_reason s.screen.aid
+  pub cursor : IsCursorFor s.turn_reason s.cursor s.screen.cursor
   pub closed : IsOpenFor s.turn_reason shadow
   pub sees : Sees s.shape s.screen shadow
 

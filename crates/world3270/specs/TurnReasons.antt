@@ -1,5 +1,6 @@
 -- What the host acts on is what was pressed (our profile).
 use Rattle.std.specs.Prelude.{◌≡◌, ⊤, ℕ, Bool, true, false, List, [], ◌∷◌, replicate, All, Some}
+use Rattle.codes3270.specs.Aid.{is_short_aid}
 use Rattle.codes3270.specs.Size.{Shape, cells_in}
 use Rattle.codes3270.specs.declared.attention.Aid.{Aid}
 use Rattle.codes3270.specs.declared.attention.Aid.TheVariants.{NoAid, Enter, Clear, Pf, Pa}
@@ -38,6 +39,13 @@ abbrev pub IsOpenFor : TurnReason → Shadow → Type 0
 IsOpenFor turn_reasons.Agreement shadow = NothingIsOpen shadow
 IsOpenFor (turn_reasons.Key aid buffered) shadow = IsOpenBy aid buffered shadow
 IsOpenFor turn_reasons.Refusal shadow = ⊥
+
+-- The host knows where the cursor is, unless the key was sent short, as PA and Clear are, and the screen wasn't read since.
+abbrev pub IsCursorFor : TurnReason → (known place : ℕ) → Type 0
+IsCursorFor turn_reasons.Agreement known place = ⊤
+IsCursorFor (turn_reasons.Key aid true) known place = known ≡ place
+IsCursorFor (turn_reasons.Key aid false) known place = is_short_aid aid ≡ false → known ≡ place
+IsCursorFor turn_reasons.Refusal known place = ⊤
 
 -- After Enter or a PF key the host believes a text, or a text or nulls, of each unprotected field.
 abbrev pub LeavesNothingOpen : World → Type 0

@@ -6,10 +6,11 @@ use Rattle.keyboard.specs.declared.key.Key.{Key}
 use Rattle.lu_pool.specs.declared.entry.Entry.{Entry}
 use Rattle.tn3270e_msg.specs.Talk.{IsLuIfSome}
 use Rattle.tn3270e_msg.specs.declared.cause.Cause.{Cause}
-use Rattle.host_core.specs.Application.{Application}
+use Rattle.host_core.specs.Application.{Application, AreTexts}
 use Rattle.host_core.specs.Messages.{Verdict}
 use Rattle.host_core.specs.Notes.{IsNoteText}
 use Rattle.lu_pool.specs.Holders.{all_free}
+use Rattle.host_core.specs.declared.question.Answer.{Answer as Said}
 use Rattle.world3270.specs.Terminal.{Display, new_display}
 use Rattle.world3270.specs.Link.{Link, unused}
 
@@ -49,13 +50,14 @@ new_world app pool models = record {
 }
 
 -- What happens: a key at a terminal; the next message is delivered up to the host, or down to the
--- terminal; the host acts, or sends a note; the connection is lost; an end sees that; a terminal
+-- terminal; the host acts, is answered by the application, or sends a note; the connection is lost; an end sees that; a terminal
 -- connects, and wants an LU, if one; a terminal or the host restarts.
 pub data Event : Type 0 where
   Press : (terminal : ℕ) → Key → Event
   Up : (number : ℕ) → Event
   Down : (number : ℕ) → Event
   Act : (number : ℕ) → Event
+  Answer : (number : ℕ) → (said : Said) → Event
   Note : (number : ℕ) → (text : List ℕ) → Event
   Lose : (number : ℕ) → Event
   HostSees : (number : ℕ) → Event
@@ -64,9 +66,10 @@ pub data Event : Type 0 where
   RestartTerm : (terminal : ℕ) → Event
   RestartHost : Event
 
--- a name that a terminal wants is one of an LU, and a note has a text
+-- a name that a terminal wants is one of an LU, an answer has values of characters, and a note has a text
 abbrev pub IsEvent : Event → Type 0
 IsEvent (Event.Connect terminal wanted) = IsLuIfSome wanted
+IsEvent (Event.Answer number said) = AreTexts said.values
 IsEvent (Event.Note number text) = IsNoteText text
 IsEvent _ = ⊤
 

@@ -3,6 +3,7 @@ ghost use Rattle.tn3270e_msg.specs.Talk.{IsLuIfSome};
 ghost use Rattle.world3270.specs.Refines.{IsReal};
 
 use crate::note_text::NoteText;
+use host_core::{Answer, Ticket};
 use keyboard::laws::keys_are_real;
 use keyboard::{Key, Refusal};
 use tn3270e_msg::Lu;
@@ -18,6 +19,8 @@ pub enum Event {
     Down(usize, usize),
     /// The host acts, if it has the turn.
     Act(usize),
+    /// The application answers the question with this ticket.
+    Answer(usize, Ticket, Answer),
     /// The host sends a note.
     Note(usize, NoteText),
     /// The host sends NOP, so that TCP notices a peer that is gone.
@@ -70,6 +73,7 @@ pub(crate) fn events_are_real(event: &Event)
         Event::Up(_, _) => {}
         Event::Down(_, _) => {}
         Event::Act(_) => {}
+        Event::Answer(_, _, answer) => answer.values.values_are_characters(),
         Event::Note(_, text) => {
             // For the contract: it is a note's text.
             let _text = text.text();

@@ -1,6 +1,7 @@
 //! Laws of the worlds over messages and over bytes: each is the contract of a function that does nothing. Proofs of
 //! other crates use them; no program calls them, and the root doesn't export them.
 ghost use Rattle.world3270.specs.Always.{Always, AlwaysOf, HeadlineHolds, NobodyRefuses};
+ghost use Rattle.world3270.specs.Asked.{AskedIsSeen, AskedIsSeenOverBytes};
 ghost use Rattle.world3270.specs.Example.{TheRunsEndSo};
 ghost use Rattle.world3270.specs.Forms.{FormsAreAwaited};
 ghost use Rattle.world3270.specs.Given.{Given};
@@ -88,6 +89,19 @@ pub fn what_was_pressed_is_acted_on()
     ensures unopened { Always LeavesNothingOpen }
 {
     what_is_given();
+}
+
+/// Law: what the application is asked is what the operator sees. Over the same lists of messages, on
+/// each connection with both ends attached, an open question has the key whose AID the terminal's
+/// screen has, the LU that the terminal is bound to, the screen's cursor, and no text of a field but
+/// the one that the screen shows in that field, nulls removed. And so it is of each world over bytes
+/// that represents one over messages.
+pub fn what_is_asked_is_seen()
+    ensures messages { AlwaysOf AskedIsSeen }
+    ensures bytes { AskedIsSeenOverBytes }
+{
+    what_is_given();
+    panels_are_shown();
 }
 
 /// Law: over the same lists the data that comes up to the host next has the form that it awaits:

@@ -14,7 +14,7 @@ use crate::link::{Link, first};
 use crate::note_text::NoteText;
 use crate::terminal_slot::TerminalSlot;
 use codes3270::Model;
-use host_core::{Acted, Host, MOST_CONNECTIONS, Phase};
+use host_core::{Acted, Answer, Host, MOST_CONNECTIONS, Phase, Ticket};
 use keyboard::{Key, Pressed};
 use lu_pool::Pool;
 use panels::PanelSet;
@@ -314,6 +314,17 @@ impl Network {
         }
     }
 
+    /// The application answers the question with a ticket. Skipped unless that question is open.
+    pub(crate) fn answer(&mut self, conn: usize, ticket: Ticket, answer: &Answer) -> Stepped
+        ensures { Steps (event.Answer conn ticket answer.now) self.old result self.new }
+    {
+        if conn < MOST_CONNECTIONS {
+            acted_as(self.host.answer(conn, ticket, answer))
+        } else {
+            Stepped::Skipped
+        }
+    }
+
     /// The host sends a note.
     pub(crate) fn note(&mut self, conn: usize, text: &NoteText) -> Stepped
         ensures { Steps (event.Note conn text.now) self.old result self.new }
@@ -605,6 +616,7 @@ impl Network {
             Event::Up(conn, count) => self.bring_up(*conn, *count),
             Event::Down(conn, count) => self.bring_down(*conn, *count),
             Event::Act(conn) => self.act(*conn),
+            Event::Answer(conn, ticket, answer) => self.answer(*conn, *ticket, answer),
             Event::Note(conn, text) => self.note(*conn, text),
             Event::KeepAlive(conn) => self.keep_alive(*conn),
             Event::Lose(conn) => self.lose(*conn),

@@ -1,6 +1,6 @@
 //! A terminal, with its connection and the history of its screen.
 ghost use Rattle.std.specs.Prelude.{◌≡◌, ◌<◌, ◌≤◌, drop, length, IfOk, IfSome, OnOk, OnErr, Some, None};
-ghost use Rattle.host_core.specs.State.{most_connections, opened, phase_of, service_at, with_connection};
+ghost use Rattle.host_core.specs.State.{most_connections, phase_of, service_at, with_opened};
 ghost use Rattle.keyboard.specs.Leaves.{erases};
 ghost use Rattle.term_core.specs.Feeds.{IsAttached};
 ghost use Rattle.term_core.specs.Presses.{LacksKeyRoom, answer_to_key};
@@ -124,7 +124,7 @@ impl TerminalSlot {
         requires number { number < most_connections }
         requires free { phase_of (service_at number host.old) ≡ Phase.Free }
         ensures attached_slot { OnOk result (self.new ≡ attached_slot (model_of self.old.tracked.terminal) wanted number) }
-        ensures opened { OnOk result (host.new ≡ with_connection number (opened host.old.panels) host.old) }
+        ensures opened { OnOk result (host.new ≡ with_opened number host.old) }
         ensures unchanged { OnErr result (self.new ≡ self.old) }
         ensures unopened { OnErr result (host.new ≡ host.old) }
     {

@@ -1,6 +1,7 @@
 //! The world, of which the headline holds after every event.
 ghost use Rattle.std.specs.Prelude.{◌≡◌, ◌<◌, length, IfOk};
 ghost use Rattle.host_core.specs.State.{most_connections};
+ghost use Rattle.world3270.specs.Asked.{WhatIsAskedIsSeen};
 ghost use Rattle.world3270.specs.ByteRuns.{Runs, refused_at};
 ghost use Rattle.world3270.specs.ByteSteps.{Steps};
 ghost use Rattle.world3270.specs.ByteWorld.{IsTerminalCount, down_of, new_byte_world, slot_at, up_of};
@@ -9,7 +10,7 @@ ghost use Rattle.world3270.specs.Refines.{IsReached, RunOverMessages, StepOverMe
 ghost use Rattle.world3270.specs.SeenBytes.{seen_bytes};
 
 use crate::event::{Event, Ran, Stepped, events_are_real};
-use crate::laws::bytes_follow_messages;
+use crate::laws::{bytes_follow_messages, what_is_asked_is_seen};
 use crate::network::Network;
 use codes3270::Model as TerminalModel;
 use host_core::Host;
@@ -115,6 +116,18 @@ impl World {
         bytes_follow_messages();
     }
 
+    /// Law: what the application is asked is what the operator sees, whatever happened to this world.
+    /// A question that [`Host::question`] answers has the key that the operator pressed, the LU that
+    /// the terminal is bound to, the cursor of its screen, and no text but those that this screen
+    /// shows, nulls removed.
+    pub fn what_is_asked_is_seen(&self)
+        ensures { WhatIsAskedIsSeen self.now }
+    {
+        // For the contract: the world is reached.
+        let _network = &self.network;
+        what_is_asked_is_seen();
+    }
+
     /// Law: the bytes of this world represent a world over messages, to which some list of events
     /// leads. The laws of [`bytes_follow_messages`] apply to it.
     pub fn represents_messages(&self)
@@ -140,9 +153,11 @@ impl World {
         ensures steps { Steps event self.old result self.new }
         ensures messages { StepOverMessages event self.old result self.new }
         ensures headline { Headline (seen_bytes self.new) }
+        ensures asked { WhatIsAskedIsSeen self.new }
     {
         let stepped = self.happen(&event);
         self.headline_holds();
+        self.what_is_asked_is_seen();
         stepped
     }
 
@@ -151,6 +166,7 @@ impl World {
         ensures runs { Runs events.now self.old result self.new }
         ensures messages { RunOverMessages events.now self.old result self.new }
         ensures headline { Headline (seen_bytes self.new) }
+        ensures asked { WhatIsAskedIsSeen self.new }
     {
         self.represents_messages();
         for (whole, event) in events.iter().enumerate() {
@@ -158,11 +174,13 @@ impl World {
                 None => {}
                 Some(part) => {
                     self.headline_holds();
+                    self.what_is_asked_is_seen();
                     return Ran { whole, part };
                 }
             }
         }
         self.headline_holds();
+        self.what_is_asked_is_seen();
         Ran {
             whole: events.len(),
             part: 0,

@@ -65,7 +65,7 @@ fn asks_for(
     let screen = panel.wanted(values, message, false);
     keeps(report, screen.cells(), &[], items)
         && report.same(&cursor, &screen.cursor().get())
-        && report.same(&(message == Message::Fresh), &screen.reset())
+        && report.same(&matches!(message, Message::Fresh), &screen.reset())
 }
 
 /// Whether keys, by the bytes of their identifiers, lead from a panel as is said.

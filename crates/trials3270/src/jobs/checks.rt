@@ -1,4 +1,5 @@
 //! Checks of the jobs that the program itself can't show.
+use crate::jobs::operators::an_operator_types;
 use crate::jobs::streams::{
     a_script_tells_of_its_writer, broken_input_is_refused, input_is_limited,
     output_that_fails_is_told,
@@ -18,11 +19,12 @@ enum Check {
     Session,
     Waits,
     EarlyEnds,
+    LiveSession,
     NoText,
 }
 
 /// Each check, and what it shows, in words.
-static CHECKS: [(Check, &str); 8] = [
+static CHECKS: [(Check, &str); 9] = [
     (Check::BrokenInput, "input that breaks off is refused"),
     (
         Check::LongInput,
@@ -49,6 +51,10 @@ static CHECKS: [(Check, &str); 8] = [
         "a terminal's script ends at a line, or where nothing is printed",
     ),
     (
+        Check::LiveSession,
+        "an operator types at a tty, and each turn writes what changed",
+    ),
+    (
         Check::NoText,
         "a line without a second word has no typed text",
     ),
@@ -64,6 +70,7 @@ impl Check {
             Check::Session => an_operator_signs_on(alloc),
             Check::Waits => waits_end(alloc),
             Check::EarlyEnds => runs_end_early(alloc),
+            Check::LiveSession => an_operator_types(alloc),
             Check::NoText => expect_of(alloc, "", "", typed_text("type")),
         }
     }

@@ -1,7 +1,8 @@
 //! The commands of lines and of words, as texts: what a script would spell, with all defaults filled in.
 use codes3270::Model;
 use jobs3270::{
-    FileName, Job, Port, ScriptCommand, Service, TerminalCommand, Topic, WordFault, typed_text,
+    FileName, Job, LiveOptions, Port, ScriptCommand, Service, TerminalCommand, Topic, TtySize,
+    WordFault, typed_text,
 };
 use std::fmt;
 use std::fmt::{Display, Formatter, Write};
@@ -99,6 +100,7 @@ fn topic_name(topic: Topic) -> &'static str {
         Topic::Host => "host",
         Topic::Serve => "serve",
         Topic::Term => "term",
+        Topic::Operate => "operate",
         Topic::Help => "help",
     }
 }
@@ -149,6 +151,16 @@ fn write_term<W: Write>(
     write!(f, ", model {}", model_number(model))
 }
 
+/// The same as of `term`, and the size of the tty, if it is given.
+fn write_operate<W: Write>(f: &mut Formatter<W>, options: &LiveOptions) -> fmt::Result {
+    f.write_str("operate, ")?;
+    write_term(f, options.port, &options.lu, options.model)?;
+    match options.tty {
+        Some(TtySize { rows, columns }) => write!(f, ", {rows} rows of {columns}"),
+        None => Ok(()),
+    }
+}
+
 impl Display for CommandLine<'_> {
     fn fmt<W: Write>(&self, f: &mut Formatter<W>) -> fmt::Result {
         match &self.0 {
@@ -167,6 +179,7 @@ impl Display for CommandLine<'_> {
                 write_file(f, panels)
             }
             Ok(Job::Term { port, lu, model }) => write_term(f, *port, lu, *model),
+            Ok(Job::Operate(options)) => write_operate(f, options),
             Ok(Job::Help(topic)) => write!(f, "help of {}", topic_name(*topic)),
             Ok(Job::Version) => f.write_str("version"),
             Err(WordFault::Refused) => f.write_str("refused"),

@@ -1,4 +1,4 @@
-use Rattle.std.proofs.Common.{◌≡◌, ◌≤◌, take, None}
+use Rattle.std.proofs.Common.{◌≡◌, ◌-◌, ◌≤◌, length, take, None}
 use Rattle.std.specs.Vec.{vec_capacity}
 use Rattle.tn3270e_msg.specs.HostTable.{granted}
 use Rattle.host_core.specs.Bytes.{TakesBytes}
@@ -9,6 +9,7 @@ use Rattle.host_core.proofs.feeding.feed_open.Given as goal
 abbrev pub invariant-loop-taken : goal.invariant-loop-taken
 invariant-loop-taken l = record {
   running : IsRunning l.decoder;
+  few : l.taken ≤ length l.bytes;
   holder : HoldsJust l.number l.pool (granted l.session.talk.state);
   others : OthersHold l.number l.initial.pool l.pool;
   capacity : vec_capacity l.initial.out ≤ vec_capacity l.out;
@@ -16,3 +17,6 @@ invariant-loop-taken l = record {
   shape : l.session.shape ≡ l.initial.session.shape;
   taken : TakesBytes l.number (counter_of l.initial.pool l.initial.decoder l.initial.session None l.initial.out l.initial.rejections.items) (take l.taken l.bytes) (counter_of l.pool l.decoder l.session None l.out l.rejections.items);
 }
+
+abbrev pub decreases-loop-taken : goal.decreases-loop-taken
+decreases-loop-taken l = length l.bytes - l.taken

@@ -11,5 +11,5 @@ put_field-requires c =
 
 pub loop-index-preserved : goal.loop-index-preserved
 loop-index-preserved c =
-    put_back (field_cell c.args.values.now c.args.message c.args.keep) c.args.fields.now c.loop-index.index c.index-fields-index.result c.args.wanted.now c.loop-index.wanted c.put_field.new.wanted (omega arith) (omega arith) c.index-fields-index.is
+    put_back (field_cell c.args.values.now c.args.message.now c.args.keep) c.args.fields.now c.loop-index.index c.index-fields-index.result c.args.wanted.now c.loop-index.wanted c.put_field.new.wanted (omega arith) (omega arith) c.index-fields-index.is
     c.loop-index.invariant (search rules)

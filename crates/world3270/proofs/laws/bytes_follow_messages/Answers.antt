@@ -1,5 +1,5 @@
 use Rattle.world3270.specs.Known.{Known}
-use Rattle.world3270.proofs.ByteActs.{act_goes, keep_alive_goes, note_goes}
+use Rattle.world3270.proofs.ByteActs.{act_goes, answer_goes, keep_alive_goes, note_goes}
 use Rattle.world3270.proofs.ByteDown.{down_goes, terminals_refuse_nothing}
 use Rattle.world3270.proofs.ByteEnds.{begin_is_reached, connect_goes, host_sees_goes, lose_goes, restart_host_goes, restart_term_goes, term_sees_goes}
 use Rattle.world3270.proofs.ByteKeys.{key_goes}
@@ -21,6 +21,7 @@ all_go known = record {
   up = up_goes known;
   down = down_goes known;
   act = act_goes known (skips known) known.worlds.given known.links.paint known.links.bounded;
+  answer = answer_goes known (skips known) known.worlds.given known.links.paint known.links.bounded;
   note = note_goes known (skips known) known.worlds.given known.links.paint known.links.bounded;
   keep_alive = keep_alive_goes known;
   lose = lose_goes known (skips known);

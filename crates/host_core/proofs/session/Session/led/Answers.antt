@@ -1,6 +1,11 @@
+use Rattle.std.proofs.Common.{◌≡◌, ◌<◌, ℕ, Option, Some, List, length, ap, refl, sym, subst}
+use Rattle.std.specs.Prelude.{IfSome}
+use Rattle.host_core.specs.Choices.{CanBeShown}
+use Rattle.host_core.specs.declared.acting.Shown.{Shown}
+use Rattle.host_core.proofs.Doings.{fresh_can_be_shown}
 use Rattle.host_core.proofs.session.Session.led.Goals as goal
 
 pub returns-in-Go-clause-can_be_done : goal.returns-in-Go-clause-can_be_done
 returns-in-Go-clause-can_be_done c =
     let here = rw (← c.self.view_is) at c.requires.panel in
-    c.unless_missing.ensures.can_be_done _ here (c.requires.target c.in-Go.target c.in-Go.is)
+    c.unless_missing.ensures.can_be_done _ here (fresh_can_be_shown _ c.in-Go.target c.fresh.result c.fresh.ensures (c.requires.target c.in-Go.target c.in-Go.is))

@@ -71,6 +71,7 @@ invariant_of-result c =
     let whole : c.loop-place.place ≡ length c.args.panel.now.fields = omega arith in
     let built = built_all (λ i. IsFieldOf (draft_shape c.args.panel.now) (fields_before c.args.index c.args.self.now.panels + i)) c.args.panel.now.fields c.loop-place.place c.loop-place.fields.items whole c.loop-place.invariant in
     is_laid_out c.args.self.now c.args.index c.args.panel.now _ c.requires.faultless c.requires.there (record {
+      name = c.in_ok-of_text-3.ensures ∙ ap (λ (panel : DraftPanel). panel.name) c.panel.view_is;
       model = c.model.ensures;
       otherwise = c.otherwise.ensures;
       texts = c.in_ok-texts.ensures;
@@ -79,6 +80,7 @@ invariant_of-result c =
           subst (λ cursor. IsCursorBy cursor c.loop-place.fields.items c.cursor_of.result) (ap (λ (panel : DraftPanel). panel.cursor) c.panel.view_is)
           (subst (λ fields. IsCursorBy (option_map (λ name. name.now) c.panel.inside.cursor) fields c.cursor_of.result) c.as_slice.ensures.value c.cursor_of.ensures);
       places = c.in_ok-targets.ensures.size;
+      asked = c.in_ok-asked_keys.ensures;
       targets = targets_lead c.args.self.now.panels c.args.panel.now c.in_ok-targets.field-0.items c.in_ok-targets.ensures;
     })
 
@@ -88,6 +90,7 @@ returns c =
     let whole : c.loop-place.place ≡ length c.args.panel.now.fields = omega arith in
     let built = built_all (λ i. IsFieldOf (draft_shape c.args.panel.now) (fields_before c.args.index c.args.self.now.panels + i)) c.args.panel.now.fields c.loop-place.place c.loop-place.fields.items whole c.loop-place.invariant in
     record {
+      name = c.in_ok-of_text-3.ensures ∙ ap (λ (panel : DraftPanel). panel.name) c.panel.view_is;
       model = c.model.ensures;
       otherwise = c.otherwise.ensures;
       texts = c.in_ok-texts.ensures;
@@ -96,5 +99,6 @@ returns c =
           subst (λ cursor. IsCursorBy cursor c.loop-place.fields.items c.cursor_of.result) (ap (λ (panel : DraftPanel). panel.cursor) c.panel.view_is)
           (subst (λ fields. IsCursorBy (option_map (λ name. name.now) c.panel.inside.cursor) fields c.cursor_of.result) c.as_slice.ensures.value c.cursor_of.ensures);
       places = c.in_ok-targets.ensures.size;
+      asked = c.in_ok-asked_keys.ensures;
       targets = targets_lead c.args.self.now.panels c.args.panel.now c.in_ok-targets.field-0.items c.in_ok-targets.ensures;
     }

@@ -11,7 +11,7 @@ use Rattle.panels.specs.declared.panel.TextItem.{TextItem}
 use Rattle.panels.specs.Panel.{PanelParts, IsLaidOut, shape_of}
 use Rattle.panels.specs.Put.{FitsOn, field_spoken}
 use Rattle.panels.specs.Screen.{is_fresh, IsWantedOf, wanted_cursor}
-use Rattle.panels.proofs.Putting.{all_fit, cursor_is, cursor_within, put_all}
+use Rattle.panels.proofs.Putting.{all_fit, cursor_within, put_all}
 use Rattle.panels.proofs.Screens.{is_screen_of}
 use Rattle.panels.proofs.panel.Panel.put_wanted.Goals as goal
 
@@ -52,8 +52,7 @@ set_cursor_and_reset-requires c =
     let chosen : c.map_or-cursor.result ≡ option_map_or (λ field. field.extent.first) (option_copied c.field_of-spoken.result) c.self.inside.cursor = search rules in
     let aimed : c.map_or-cursor.result ≡ wanted_cursor panel c.args.message =
     chosen ∙ ap (λ field. option_map_or (λ field. field.extent.first) field c.self.inside.cursor) c.field_of-spoken.ensures
-    ∙ ap (option_map_or (λ field. field.extent.first) (field_spoken panel.fields c.args.message)) (ap (λ (p : PanelParts). p.cursor) c.self.view_is)
-    ∙ cursor_is panel c.args.message in
+    ∙ ap (option_map_or (λ field. field.extent.first) (field_spoken panel.fields c.args.message)) (ap (λ (p : PanelParts). p.cursor) c.self.view_is) in
     subst (λ shape. c.map_or-cursor.result < cells_in shape) (sym sized)
     (subst (λ cursor. cursor < cells_in (shape_of panel)) (sym aimed) (cursor_within panel c.args.message laid))
 
@@ -62,15 +61,14 @@ all_there shown cells shape other same size is = sym (ap length same) ∙ size �
 
 pub returns-clause-wanted : goal.returns-clause-wanted
 returns-clause-wanted c =
-    let fresh : c.eq.result ≡ is_fresh c.args.message = search rules in
+    let fresh : c.is_fresh.result ≡ is_fresh c.args.message = search rules in
     let panel = c.args.self.now in
     let sized : c.put_texts.new.wanted.size ≡ shape_of panel =
     c.put_texts.ensures.0 ∙ c.put_fields.ensures.0 ∙ c.put_message.ensures.0 ∙ c.put_stoppers.ensures.0 ∙ c.put_nulls.ensures.size ∙ c.requires.size in
     let chosen : c.map_or-cursor.result ≡ option_map_or (λ field. field.extent.first) (option_copied c.field_of-spoken.result) c.self.inside.cursor = search rules in
     let aimed : c.map_or-cursor.result ≡ wanted_cursor panel c.args.message =
     chosen ∙ ap (λ field. option_map_or (λ field. field.extent.first) field c.self.inside.cursor) c.field_of-spoken.ensures
-    ∙ ap (option_map_or (λ field. field.extent.first) (field_spoken panel.fields c.args.message)) (ap (λ (p : PanelParts). p.cursor) c.self.view_is)
-    ∙ cursor_is panel c.args.message in
+    ∙ ap (option_map_or (λ field. field.extent.first) (field_spoken panel.fields c.args.message)) (ap (λ (p : PanelParts). p.cursor) c.self.view_is) in
     let whole : length c.put_texts.new.wanted.cells ≡ cells_in (shape_of panel) =
     all_there c.cells-whole.result c.put_texts.new.wanted.cells c.put_texts.new.wanted.size (shape_of panel) c.cells-whole.ensures.cells c.cells-whole.ensures.size sized in
     let named : c.as_bytes.result.now ≡ option_map_or (λ field. field.name) (option_copied c.field_of-spoken.result) [] = search rules in

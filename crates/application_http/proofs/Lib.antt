@@ -1,0 +1,4 @@
+mod Chunks
+mod Contents
+mod Readings
+mod Texts

@@ -1,0 +1,41 @@
+-- A question has no number with a fraction.
+use Rattle.std.proofs.Common.{◌≡◌, ℕ, List, [], ◌∷◌, Bool, true, false, ◌||◌, Ordering, Less, Equal, Greater, refl, string_bytes, nat_cmp}
+use Rattle.std.specs.Cmp.Lexicographic.{slice_cmp}
+use Rattle.std.specs.Ordering.{match_ordering}
+use Rattle.serde_json.specs.Data.{Data, string, Members, no_members, member, put}
+use Rattle.serde_json.specs.Written.{has_float, members_have_float}
+use Rattle.application_http.specs.Requests.{with_texts, question_data}
+use Rattle.application_http.specs.declared.request.FieldText.{FieldText}
+use Rattle.application_http.specs.declared.request.Request.{Request}
+
+or_false : (a b : Bool) → a ≡ false → b ≡ false → (a || b) ≡ false
+or_false true b p q = p
+or_false false b p q = q
+
+first_false : (a b : Bool) → (a || b) ≡ false → a ≡ false
+first_false true b p = p
+first_false false b p = refl
+
+second_false : (a b : Bool) → (a || b) ≡ false → b ≡ false
+second_false true true p = p
+second_false true false p = refl
+second_false false b p = p
+
+put_at : (o : Ordering) (k l : List ℕ) (d e : Data) (ms : Members) → has_float d ≡ false → members_have_float (member l e ms) ≡ false
+    → members_have_float (put k d ms) ≡ false
+    → members_have_float (match_ordering o (member k d (member l e ms)) (member l d ms) (member l e (put k d ms))) ≡ false
+put_at Less k l d e ms p q r = or_false _ _ p q
+put_at Equal k l d e ms p q r = or_false _ _ p (second_false (has_float e) _ q)
+put_at Greater k l d e ms p q r = or_false _ _ (first_false (has_float e) _ q) r
+
+put_plain : (k : List ℕ) (d : Data) (ms : Members) → has_float d ≡ false → members_have_float ms ≡ false → members_have_float (put k d ms) ≡ false
+put_plain k d no_members p q = or_false _ _ p refl
+put_plain k d (member l e ms) p q =
+    put_at (slice_cmp nat_cmp k l) k l d e ms p q (put_plain k d ms p (second_false (has_float e) _ q))
+
+pub texts_plain : (fields : List FieldText) (ms : Members) → members_have_float ms ≡ false → members_have_float (with_texts ms fields) ≡ false
+texts_plain [] ms p = p
+texts_plain (field ∷ fields) ms p = texts_plain fields (put (string_bytes field.name) (string (string_bytes field.text)) ms) (put_plain _ (string (string_bytes field.text)) ms refl p)
+
+pub question_plain : (request : Request) → has_float (question_data request) ≡ false
+question_plain request = or_false _ _ (texts_plain request.fields.now no_members refl) refl

@@ -1,0 +1,91 @@
+-- Where the content of a reply is (RFC 9112, sections 4, 6 and 7), by the grammars of httparse and http1. The limits are our profile.
+use Rattle.std.specs.Prelude.{◌≡◌, ℕ, ◌<◌, ◌≤◌, ◌⊎◌, Bool, true, List, ◌++◌, length, drop, Ok, Err, Result, ⊤}
+use Rattle.httparse.specs.Grammar.{Field, ResponseHead, ReadsResponse, HasNoResponse, NeverHasResponse, status_code}
+use Rattle.httparse.specs.Spans.{ResponseExceeds}
+use Rattle.http1.specs.Body.{Body, body_of, ReadsBody}
+use Rattle.http1.specs.Framing.{response_framing}
+use Rattle.http1.specs.Message.{known_of}
+use Rattle.http1.specs.declared.conn.Limits.{Limits}
+use Rattle.http1.specs.declared.framing.Framing.{Framing}
+use Rattle.http1.specs.declared.framing.Framing.TheVariants.{NoBody, Length, Chunked, UntilClose}
+use Rattle.http1.specs.declared.framing.FramingError.{FramingError}
+use Rattle.http1.specs.declared.framing.MethodKind.TheVariants.{Other}
+use Rattle.application_http.specs.declared.content.Head.{Head}
+use Rattle.application_http.specs.declared.fault.ReplyFault.{ReplyFault}
+use Rattle.application_http.specs.declared.fault.ReplyFault.TheVariants as fault
+
+-- the most bytes of a reply, and the most fields of its head or of its trailers
+abbrev pub most_bytes : ℕ
+most_bytes = 65536
+
+abbrev pub most_fields : ℕ
+most_fields = 64
+
+-- no part of a chunked content has a limit of its own
+abbrev pub limits : Limits
+limits = record { max_head_len = most_bytes; max_extensions_len = most_bytes; max_trailers_len = most_bytes }
+
+-- the status of a reply that is read (RFC 9110, section 15.3.1)
+abbrev pub accepted_status : ℕ
+accepted_status = 200
+
+-- how a response to POST with this head is framed (RFC 9112, section 6.3)
+abbrev pub framing_of : ResponseHead → Result Framing FramingError
+framing_of head = response_framing Other (status_code head) head.minor (known_of head.fields)
+
+-- the bytes begin with a head whose length, status and framing are these
+pub record IsHead (bytes : List ℕ) (found : Head) : Type 0 where
+  pub head : ResponseHead
+  pub reads : ReadsResponse bytes head (drop found.len bytes)
+  pub within : found.len ≤ length bytes
+  pub status : found.status ≡ status_code head
+  pub framing : found.framing ≡ framing_of head
+
+-- the bytes begin with a head of status 200, so framed, and these bytes follow it
+pub record IsAccepted (bytes : List ℕ) (framing : Framing) (after : List ℕ) : Type 0 where
+  pub head : ResponseHead
+  pub reads : ReadsResponse bytes head after
+  pub status : status_code head ≡ accepted_status
+  pub framed : framing_of head ≡ Ok framing
+
+-- a body that ends with the connection hasn't ended before that
+abbrev pub ReadsEnded : (closed : Bool) → Framing → List ℕ → Body → List ℕ → Type 0
+ReadsEnded closed NoBody after body rest = ReadsBody limits NoBody after body rest
+ReadsEnded closed (Length length) after body rest = ReadsBody limits (Length length) after body rest
+ReadsEnded closed Chunked after body rest = ReadsBody limits Chunked after body rest
+ReadsEnded closed UntilClose after body rest = (closed ≡ true) × ReadsBody limits UntilClose after body rest
+
+-- behind the head stands a whole body with this content
+abbrev pub IsWhole : (closed : Bool) → Framing → (after content : List ℕ) → Type 0
+IsWhole closed framing after content = (trailers : List Field) × (rest : List ℕ) × ReadsEnded closed framing after (body_of content trailers) rest
+
+abbrev pub LacksEnd : (closed : Bool) → Framing → (after : List ℕ) → Type 0
+LacksEnd closed framing after = (content : List ℕ) → ¬ (IsWhole closed framing after content)
+
+-- whatever follows, the bytes begin no chunked body with so few trailers
+abbrev pub NeverChunked : List ℕ → Type 0
+NeverChunked after = (more : List ℕ) (body : Body) (rest : List ℕ) → ReadsBody limits Chunked (after ++ more) body rest → most_fields < length body.trailers
+
+-- the bytes begin with a reply of status 200 that has this content
+abbrev pub HasContent : (closed : Bool) → (bytes content : List ℕ) → Type 0
+HasContent closed bytes content = (framing : Framing) × (after : List ℕ) × IsAccepted bytes framing after × IsWhole closed framing after content
+
+-- the head isn't whole, or the body isn't
+abbrev pub IsUnfinished : (closed : Bool) → (bytes : List ℕ) → Type 0
+IsUnfinished closed bytes = HasNoResponse bytes ⊎ ((framing : Framing) × (after : List ℕ) × IsAccepted bytes framing after × LacksEnd closed framing after)
+
+-- why the bytes are no reply, nor the front of one
+abbrev pub IsBadMessage : List ℕ → ReplyFault → Type 0
+IsBadMessage bytes fault.Memory = ⊤
+IsBadMessage bytes fault.NotHttp = NeverHasResponse bytes
+IsBadMessage bytes fault.TooManyFields = ResponseExceeds most_fields bytes
+IsBadMessage bytes (fault.Status code) = (head : ResponseHead) × (after : List ℕ) × ReadsResponse bytes head after × (code ≡ status_code head) × ¬ (code ≡ accepted_status)
+IsBadMessage bytes fault.BadLength = (head : ResponseHead) × (after : List ℕ) × (why : FramingError) × ReadsResponse bytes head after × (status_code head ≡ accepted_status) × (framing_of head ≡ Err why)
+IsBadMessage bytes fault.BadChunks = (after : List ℕ) × IsAccepted bytes Chunked after × NeverChunked after
+IsBadMessage bytes _ = ⊥
+
+-- the same for the bytes behind a head
+abbrev pub IsBadBody : Framing → (after : List ℕ) → ReplyFault → Type 0
+IsBadBody framing after fault.Memory = ⊤
+IsBadBody framing after fault.BadChunks = (framing ≡ Chunked) × NeverChunked after
+IsBadBody framing after _ = ⊥

@@ -1,0 +1,109 @@
+-- What an application's reply says: a JSON object whose keys are all optional (RFC 8259; the keys are our profile).
+use Rattle.std.specs.Prelude.{ℕ, Bool, ◌||◌, List, [], ◌∷◌, codes, map, bytes_eq, string_bytes, Option, Some, None, option_map, option_and_then, is_some, unwrap_or, if◌then◌else◌, ◌≡◌, ◌⊎◌, ⊤, IsUtf8}
+use Rattle.serde_json.specs.Data.{Data, string, object, Members, no_members, member}
+use Rattle.serde_json.specs.Find.{get, as_str, as_object}
+use Rattle.serde_json.specs.Read.{read}
+use Rattle.application_http.specs.declared.request.FieldText.{FieldText}
+use Rattle.application_http.specs.declared.fault.KeyFault.{KeyFault}
+use Rattle.application_http.specs.declared.fault.KeyFault.TheVariants.{UnknownKey, NotText, NotObject, FieldNotText}
+use Rattle.application_http.specs.declared.fault.ReplyFault.{ReplyFault}
+use Rattle.application_http.specs.declared.fault.ReplyFault.TheVariants as fault
+use Rattle.application_http.specs.declared.reply.Reply.{Reply}
+
+-- ---- what it says
+
+-- the panel to show, the texts of its fields, the message, and the field in which the cursor goes
+pub record Answer : Type 0 where
+  pub panel : Option (List ℕ)
+  pub fields : List (List ℕ × List ℕ)
+  pub message : Option (List ℕ)
+  pub cursor : Option (List ℕ)
+
+-- the text at a key
+abbrev pub text_at : List ℕ → Data → Option (List ℕ)
+text_at key d = option_and_then as_str (get key d)
+
+-- the names and texts of an object
+abbrev pub texts_in : Members → List (List ℕ × List ℕ)
+texts_in no_members = []
+texts_in (member name (string text) more) = (name, text) ∷ texts_in more
+texts_in (member name _ more) = texts_in more
+
+-- the object at a key, one without members if there is none
+abbrev pub object_at : List ℕ → Data → Members
+object_at key d = unwrap_or (option_and_then as_object (get key d)) no_members
+
+abbrev pub answer_of : Data → Answer
+answer_of d = record {
+  panel = text_at (codes "panel") d;
+  fields = texts_in (object_at (codes "fields") d);
+  message = text_at (codes "message") d;
+  cursor = text_at (codes "cursor") d;
+}
+
+-- ---- what is wrong with it
+
+abbrev pub KeyFlaw : Type 0
+KeyFlaw = KeyFault × List ℕ
+
+-- the first of an object's members that isn't a text
+abbrev pub first_non_text : Members → Option KeyFlaw
+first_non_text no_members = None
+first_non_text (member name value more) = if is_some (as_str value) then first_non_text more else Some (FieldNotText, name)
+
+abbrev pub fields_flaw : (key : List ℕ) → Data → Option KeyFlaw
+fields_flaw key (object members) = first_non_text members
+fields_flaw key _ = Some (NotObject, key)
+
+abbrev pub names_text : List ℕ → Bool
+names_text key = bytes_eq key (codes "panel") || bytes_eq key (codes "message") || bytes_eq key (codes "cursor")
+
+-- what is wrong with one key and its value
+abbrev pub key_flaw : (key : List ℕ) → Data → Option KeyFlaw
+key_flaw key value =
+    if names_text key then (if is_some (as_str value) then None else Some (NotText, key))
+    else (if bytes_eq key (codes "fields") then fields_flaw key value else Some (UnknownKey, key))
+
+-- the first of two flaws
+abbrev pub earlier : Option KeyFlaw → Option KeyFlaw → Option KeyFlaw
+earlier (Some flaw) later = Some flaw
+earlier None later = later
+
+-- the first flaw, in the order of the keys' bytes
+abbrev pub first_flaw : Members → Option KeyFlaw
+first_flaw no_members = None
+first_flaw (member key value more) = earlier (key_flaw key value) (first_flaw more)
+
+-- ---- of a value, and of bytes
+
+-- the value is an object without a flaw, and says this
+abbrev pub SaysIn : Data → Answer → Type 0
+SaysIn d answer = (members : Members) × (d ≡ object members) × (first_flaw members ≡ None) × (answer ≡ answer_of d)
+
+-- the value is no object, or one with this flaw first
+abbrev pub IsBadValue : Data → ReplyFault → Type 0
+IsBadValue d fault.Memory = ⊤
+IsBadValue d fault.NotJson = (members : Members) → ¬ (d ≡ object members)
+IsBadValue d (fault.Key what key) = (members : Members) × (d ≡ object members) × (first_flaw members ≡ Some (what, string_bytes key))
+IsBadValue d _ = ⊥
+
+-- the content is JSON in UTF-8, and its value says this
+abbrev pub Says : (content : List ℕ) → Answer → Type 0
+Says content answer = (d : Data) × IsUtf8 content × (read content ≡ Some d) × SaysIn d answer
+
+-- the content is no JSON in UTF-8, or its value is bad
+abbrev pub IsBadContent : List ℕ → ReplyFault → Type 0
+IsBadContent content why = (why ≡ fault.Memory) ⊎ (((why ≡ fault.NotJson) × (IsUtf8 content → read content ≡ None)) ⊎ ((d : Data) × (read content ≡ Some d) × IsBadValue d why))
+
+-- ---- the value that holds it
+
+abbrev pub field_text : FieldText → List ℕ × List ℕ
+field_text field = (string_bytes field.name, string_bytes field.text)
+
+abbrev pub answer_in : Reply → Answer
+answer_in reply = record {
+  panel = option_map string_bytes reply.panel;
+  fields = map field_text reply.fields.items;
+  message = option_map string_bytes reply.message;
+  cursor = option_map string_bytes reply.cursor;
+}

@@ -1,0 +1,194 @@
+//! Where the content of a reply is (RFC 9112, sections 4, 6 and 7).
+ghost use Rattle.std.specs.Prelude.{◌≡◌, ◌≤◌, ⊤, [], drop, length, true, List, MatchOption, IfErr, IfOk, IsTrue, OnErr, IsFalse};
+ghost use Rattle.httparse.specs.Grammar.{HasNoResponse};
+ghost use Rattle.httparse.specs.declared.spans.HeaderSpan.{HeaderSpan};
+ghost use Rattle.http1.specs.Decoder.{Decodes, HasNoBody};
+ghost use Rattle.http1.specs.declared.framing.Framing.TheVariants as framed;
+ghost use Rattle.application_http.specs.Contents.{HasContent, IsBadBody, IsBadMessage, IsHead, IsUnfinished, IsWhole, LacksEnd, limits, most_fields};
+
+use crate::fault::ReplyFault;
+use http1::decode::{Decoded, Decoder};
+use http1::fields::KnownFields;
+use http1::framing::{Framing, FramingError, MethodKind, response_framing};
+use http1::{Limits, ReadError};
+use httparse::spans::{EMPTY_HEADER_SPAN, parse_response};
+use httparse::{Error, Status};
+use std::alloc::{AllocError, Global};
+
+/// The most bytes of a reply, head and content.
+pub(crate) const MOST_BYTES: usize = 65_536;
+
+/// The most fields of a reply's head, and of its trailers.
+const MOST_FIELDS: usize = 64;
+
+/// The status of a reply that is read (RFC 9110, section 15.3.1).
+const ACCEPTED: u16 = 200;
+
+/// What matters of the head of a reply.
+#[derive(Clone, Copy)]
+pub struct Head {
+    /// Its length in bytes.
+    len: usize,
+    status: u16,
+    /// How the body that follows is delimited.
+    framing: Result<Framing, FramingError>,
+}
+
+/// The limits of a chunked body: no part has one of its own.
+fn limits() -> Limits
+    ensures { result ≡ limits }
+{
+    Limits {
+        max_head_len: MOST_BYTES,
+        max_extensions_len: MOST_BYTES,
+        max_trailers_len: MOST_BYTES,
+    }
+}
+
+/// The head with which the bytes begin; None if it isn't whole yet.
+fn head_of(bytes: &[u8]) -> Result<Option<Head>, ReplyFault>
+    ensures found { IfOk result (λ found. MatchOption found (HasNoResponse bytes.now) (IsHead bytes.now)) }
+    ensures wrong { IfErr result (IsBadMessage bytes.now) }
+{
+    let mut headers = [EMPTY_HEADER_SPAN; MOST_FIELDS];
+    match parse_response(bytes, &mut headers) {
+        Ok(Status::Complete(head)) => {
+            let fields = KnownFields::from_spans(bytes, &headers[..head.headers]);
+            let framing = response_framing(MethodKind::Other, head.code, head.version, &fields);
+            Ok(Some(Head {
+                len: head.len,
+                status: head.code,
+                framing,
+            }))
+        }
+        Ok(Status::Partial) => Ok(None),
+        Err(Error::TooManyHeaders) => Err(ReplyFault::TooManyFields),
+        Err(_) => Err(ReplyFault::NotHttp),
+    }
+}
+
+fn copy_of(alloc: Global, bytes: &[u8]) -> Result<Vec<u8>, AllocError>
+    ensures { IfOk result (λ copy. copy.items ≡ bytes.now) }
+{
+    let mut copy = Vec::new(alloc);
+    copy.extend_from_slice(bytes)?;
+    Ok(copy)
+}
+
+/// The content of a body of this length, in bytes; None if fewer of them are there.
+#[tactic(auto, using(crate::proofs::Chunks::sized_whole))]
+fn sized_content(alloc: Global, len: u64, after: &[u8]) -> Result<Option<Vec<u8>>, AllocError>
+    ensures { IfOk result (λ found. MatchOption found (LacksEnd true (framed.Length len) after.now) (λ content. IsWhole true (framed.Length len) after.now content.items)) }
+{
+    if (after.len() as u64) < len {
+        return Ok(None);
+    }
+    Ok(Some(copy_of(alloc, &after[..len as usize])?))
+}
+
+/// The bytes from an index on.
+fn behind(bytes: &[u8], at: usize) -> &[u8]
+    requires { at ≤ length bytes.now }
+    ensures { result.now ≡ drop at bytes.now }
+{
+    &bytes[at..]
+}
+
+/// The next piece of a chunked body, or its end.
+fn next_piece(decoder: &mut Decoder, left: &[u8]) -> Result<Decoded, ReadError>
+    ensures found { IfOk result (λ found. (trailers : List HeaderSpan) × Decodes decoder.old left.now decoder.new trailers found) }
+    ensures none { OnErr result (HasNoBody decoder.old left.now most_fields) }
+{
+    let mut trailers = [EMPTY_HEADER_SPAN; MOST_FIELDS];
+    decoder.decode(left, &mut trailers)
+}
+
+/// Adds the content of a chunked body, and answers whether all of it is there.
+fn put_chunks(content: &mut Vec<u8>, after: &[u8]) -> Result<bool, ReplyFault>
+    requires { content.old.items ≡ [] }
+    ensures whole { IfOk result (λ is_whole. IsTrue is_whole → IsWhole true framed.Chunked after.now content.new.items) }
+    ensures lacking { IfOk result (λ is_whole. IsFalse is_whole → LacksEnd true framed.Chunked after.now) }
+    ensures wrong { IfErr result (IsBadBody framed.Chunked after.now) }
+{
+    let mut decoder = Decoder::new(Framing::Chunked, &limits());
+    let mut left = after;
+    loop {
+        match next_piece(&mut decoder, left) {
+            Ok(Decoded::Data(piece)) => {
+                if content.extend_from_slice(piece.of(left)).is_err() {
+                    return Err(ReplyFault::Memory);
+                }
+                left = behind(left, piece.end);
+            }
+            Ok(Decoded::NeedMore(_)) => return Ok(false),
+            Ok(Decoded::End { .. }) => return Ok(true),
+            Err(_) => return Err(ReplyFault::BadChunks),
+        }
+    }
+}
+
+/// The content of a chunked body; None if its end isn't there yet.
+fn chunked_content(alloc: Global, after: &[u8]) -> Result<Option<Vec<u8>>, ReplyFault>
+    ensures whole { IfOk result (λ found. MatchOption found ⊤ (λ content. IsWhole true framed.Chunked after.now content.items)) }
+    ensures lacking { IfOk result (λ found. MatchOption found (LacksEnd true framed.Chunked after.now) (λ _. ⊤)) }
+    ensures wrong { IfErr result (IsBadBody framed.Chunked after.now) }
+{
+    let mut content = Vec::new(alloc);
+    let is_whole = put_chunks(&mut content, after)?;
+    if is_whole {
+        Ok(Some(content))
+    } else {
+        Ok(None)
+    }
+}
+
+/// The content of a body that ends with the connection; None if that isn't closed yet.
+#[tactic(auto, using(crate::proofs::Chunks::closed_whole))]
+fn last_content(alloc: Global, after: &[u8], is_closed: bool) -> Result<Option<Vec<u8>>, AllocError>
+    ensures { IfOk result (λ found. MatchOption found (LacksEnd is_closed framed.UntilClose after.now) (λ content. IsWhole is_closed framed.UntilClose after.now content.items)) }
+{
+    if is_closed {
+        Ok(Some(copy_of(alloc, after)?))
+    } else {
+        Ok(None)
+    }
+}
+
+/// The content of a body; None if its end isn't there yet.
+fn body_content(
+    alloc: Global,
+    framing: Framing,
+    after: &[u8],
+    is_closed: bool,
+) -> Result<Option<Vec<u8>>, ReplyFault>
+    ensures found { IfOk result (λ found. MatchOption found (LacksEnd is_closed framing after.now) (λ content. IsWhole is_closed framing after.now content.items)) }
+    ensures wrong { IfErr result (IsBadBody framing after.now) }
+{
+    match framing {
+        Framing::NoBody => Ok(sized_content(alloc, 0, after)?),
+        Framing::Length(len) => Ok(sized_content(alloc, len, after)?),
+        Framing::Chunked => chunked_content(alloc, after),
+        Framing::UntilClose => Ok(last_content(alloc, after, is_closed)?),
+    }
+}
+
+/// The content of the reply with which the bytes begin; None if its end isn't there yet. It may end with the connection.
+pub(crate) fn content_of(
+    alloc: Global,
+    bytes: &[u8],
+    is_closed: bool,
+) -> Result<Option<Vec<u8>>, ReplyFault>
+    ensures found { IfOk result (λ found. MatchOption found (IsUnfinished is_closed bytes.now) (λ content. HasContent is_closed bytes.now content.items)) }
+    ensures wrong { IfErr result (IsBadMessage bytes.now) }
+{
+    let Some(head) = head_of(bytes)? else {
+        return Ok(None);
+    };
+    if head.status != ACCEPTED {
+        return Err(ReplyFault::Status(head.status));
+    }
+    match head.framing {
+        Ok(framing) => body_content(alloc, framing, behind(bytes, head.len), is_closed),
+        Err(_) => Err(ReplyFault::BadLength),
+    }
+}

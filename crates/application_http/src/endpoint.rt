@@ -1,0 +1,164 @@
+//! Where an application listens.
+ghost use Rattle.std.specs.Prelude.{◌≡◌, ◌++◌, None, Ok, IfErr, IfOk, OnOk, option_map, string_bytes};
+ghost use Rattle.std.specs.Net.Socket.{socket_ip, socket_port};
+ghost use Rattle.url.specs.Host.{borrowed_host};
+ghost use Rattle.url.specs.Parser.{parse_url};
+ghost use Rattle.url.specs.Parts.{nonempty_host};
+ghost use Rattle.application_http.specs.Endpoints.{IsLoopback, IsRefused, IsAddressOf, is_local, port_of, refusal};
+ghost use Rattle.application_http.specs.Requests.{field_lines, first_line};
+
+use std::alloc::{AllocError, Global};
+use std::marker::Model;
+use std::net::{IpAddr, Ipv4Addr, Ipv6Addr, SocketAddr};
+use thiserror::Error;
+use url::{Host, ParseError, Url, quirks};
+
+/// The port of a URL that names none (RFC 9110, section 4.2.1).
+const HTTP_PORT: u16 = 80;
+
+/// Why a text is no URL of an application.
+#[derive(Debug, Clone, Copy, PartialEq, Eq, Drop, Error)]
+pub enum EndpointFault {
+    /// A growth was refused, or the URL would take 4 GiB; this says nothing else of the text.
+    #[error("out of memory")]
+    Memory,
+    /// The text is no URL (URL Standard, section 4.4).
+    #[error("not a URL: {0}")]
+    NotUrl(ParseError),
+    /// The scheme is another than http.
+    #[error("the URL doesn't begin with http://")]
+    NotHttp,
+    /// There is a user name or a password, which wouldn't be sent.
+    #[error("the URL has a user name or a password")]
+    HasUser,
+    /// There is a fragment, which wouldn't be sent.
+    #[error("the URL has a fragment, behind #")]
+    HasFragment,
+    /// The host is none of localhost, 127.0.0.0/8 and ::1.
+    #[error("the URL's host is not this machine: localhost, 127.x.x.x or [::1]")]
+    NotThisMachine,
+}
+
+/// The URL of an application on this machine: scheme http, host localhost, 127.0.0.0/8 or `[::1]`, a port, a path and a query.
+/// Contracts see the parts of the URL.
+#[derive(Drop)]
+pub struct Endpoint {
+    url: Url,
+}
+
+impl Model for Endpoint {
+    ghost use Rattle.url.specs.Parts.{Parts, parts_code};
+    ghost use Rattle.application_http.specs.Endpoints.{IsEndpoint};
+
+    ghost Value = { Parts };
+
+    ghost coded = { parts_code };
+
+    ghost view = { λ endpoint. endpoint.url };
+
+    ghost invariant = { λ endpoint. IsEndpoint endpoint.url };
+}
+
+/// Whether a host names this machine.
+fn is_local(host: Option<Host<&str>>) -> bool
+    ensures { result ≡ is_local (option_map borrowed_host host.entry) }
+{
+    match host {
+        None => false,
+        Some(Host::Domain(name)) => name == "localhost",
+        Some(Host::Ipv4(address)) => address.octets()[0] == 127,
+        Some(Host::Ipv6(address)) => address.segments() == [0, 0, 0, 0, 0, 0, 0, 1],
+    }
+}
+
+/// Why a URL is no application's, the first reason.
+fn refusal(url: &Url) -> Option<EndpointFault>
+    ensures { result ≡ refusal url.now }
+{
+    if url.scheme() != "http" {
+        Some(EndpointFault::NotHttp)
+    } else if !url.username().is_empty() || url.password().is_some() {
+        Some(EndpointFault::HasUser)
+    } else if url.fragment().is_some() {
+        Some(EndpointFault::HasFragment)
+    } else if is_local(url.host()) {
+        None
+    } else {
+        Some(EndpointFault::NotThisMachine)
+    }
+}
+
+/// A host's address: that of localhost is 127.0.0.1.
+fn address_of(host: Option<Host<&str>>) -> IpAddr
+    ensures { IsAddressOf (option_map borrowed_host host.entry) result }
+{
+    match host {
+        Some(Host::Ipv4(address)) => IpAddr::V4(address),
+        Some(Host::Ipv6(address)) => IpAddr::V6(address),
+        _ => IpAddr::V4(Ipv4Addr::LOCALHOST),
+    }
+}
+
+impl Endpoint {
+    /// The endpoint that a text names, as `http://127.0.0.1:8080/bank`.
+    pub fn parse(alloc: Global, text: &str) -> Result<Endpoint, EndpointFault>
+        ensures read { IfOk result (λ endpoint. parse_url None text.now ≡ Ok endpoint) }
+        ensures accepted { IfOk result (λ endpoint. refusal endpoint ≡ None) }
+        ensures refused { IfErr result (IsRefused text.now) }
+    {
+        let url = match Url::parse(alloc, text) {
+            Ok(url) => url,
+            Err(ParseError::OutOfMemory) => return Err(EndpointFault::Memory),
+            Err(ParseError::Overflow) => return Err(EndpointFault::Memory),
+            Err(fault) => return Err(EndpointFault::NotUrl(fault)),
+        };
+        match refusal(&url) {
+            Some(fault) => Err(fault),
+            None => Ok(Endpoint { url }),
+        }
+    }
+
+    /// The socket address to connect to: always one of this machine.
+    pub fn address(&self) -> SocketAddr
+        ensures ip { IsAddressOf (nonempty_host self.now) (socket_ip result) }
+        ensures port { socket_port result ≡ port_of self.now }
+        ensures this_machine { IsLoopback (socket_ip result) }
+    {
+        SocketAddr::new(
+            address_of(self.url.host()),
+            self.url.port().unwrap_or(HTTP_PORT),
+        )
+    }
+
+    /// Adds the request line.
+    #[tactic(auto, unfolding(crate::specs::Requests::first_line))]
+    fn put_first_line(&self, text: &mut String) -> Result<(), AllocError>
+        ensures { OnOk result (string_bytes text.new ≡ string_bytes text.old ++ first_line self.now) }
+    {
+        let path = self.url.path();
+        let query = self.url.query();
+        let mark = if query.is_some() { "?" } else { "" };
+        let query = query.unwrap_or("");
+        write!(text, "POST {path}{mark}{query} HTTP/1.1\r\n")
+    }
+
+    /// Adds the fields of a request whose body has this length, in bytes, and the empty line.
+    #[tactic(auto, unfolding(crate::specs::Requests::field_lines))]
+    fn put_fields(&self, text: &mut String, length: usize) -> Result<(), AllocError>
+        ensures { OnOk result (string_bytes text.new ≡ string_bytes text.old ++ field_lines self.now length) }
+    {
+        let host = quirks::host(&self.url);
+        write!(
+            text,
+            "Host: {host}\r\nContent-Type: application/json\r\nContent-Length: {length}\r\nConnection: close\r\n\r\n"
+        )
+    }
+
+    /// Adds the head of a request whose body has this length, in bytes.
+    pub(crate) fn put_head(&self, text: &mut String, length: usize) -> Result<(), AllocError>
+        ensures { OnOk result (string_bytes text.new ≡ string_bytes text.old ++ (first_line self.now ++ field_lines self.now length)) }
+    {
+        self.put_first_line(text)?;
+        self.put_fields(text, length)
+    }
+}

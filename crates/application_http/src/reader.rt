@@ -1,0 +1,140 @@
+//! Reading an application's reply from bytes that come in any pieces.
+ghost use Rattle.std.specs.Prelude.{◌≡◌, ◌≤◌, ◌++◌, ◌↔◌, ℕ, ⊤, false, true, [], List, length, take, Some, None, IfErr, IfOk, IsSome, IsTrue, MatchOption};
+ghost use Rattle.application_http.specs.Contents.{IsUnfinished, most_bytes};
+ghost use Rattle.application_http.specs.Readings.{GivesNothing, HasReply, IsBadReply, IsFound, IsRefused, is_last, left_by};
+ghost use Rattle.application_http.specs.Replies.{answer_in};
+
+use crate::content::{MOST_BYTES, content_of};
+use crate::fault::ReplyFault;
+use crate::reply::{Reply, read_reply};
+use std::alloc::Global;
+use std::marker::Model;
+
+/// The reply with which the bytes begin; None if its end isn't there yet.
+fn reply_at(alloc: Global, bytes: &[u8], is_closed: bool) -> Result<Option<Reply>, ReplyFault>
+    ensures found { IfOk result (λ found. MatchOption found (IsUnfinished is_closed bytes.now) (λ reply. HasReply is_closed bytes.now (answer_in reply))) }
+    ensures bad { IfErr result (IsBadReply is_closed bytes.now) }
+{
+    let Some(content) = content_of(alloc, bytes, is_closed)? else {
+        return Ok(None);
+    };
+    Ok(Some(read_reply(alloc, content.as_slice())?))
+}
+
+/// The front of the bytes, as far as there is room.
+fn front_of(bytes: &[u8], room: usize) -> &[u8]
+    ensures { result.now ≡ take room bytes.now }
+{
+    if bytes.len() < room {
+        bytes
+    } else {
+        &bytes[..room]
+    }
+}
+
+/// Adds bytes that came, 65,536 in all at most, and answers what is found in all of them.
+fn advance(alloc: Global, so_far: &mut Vec<u8>, bytes: &[u8]) -> Result<Option<Reply>, ReplyFault>
+    requires { length so_far.old.items ≤ most_bytes }
+    ensures held { length so_far.new.items ≤ most_bytes }
+    ensures going { IfOk result (λ found. MatchOption found (so_far.new.items ≡ so_far.old.items ++ bytes.now) (λ _. ⊤)) }
+    ensures found { IfOk result (IsFound false (so_far.old.items ++ bytes.now)) }
+    ensures refused { IfErr result (IsRefused false (so_far.old.items ++ bytes.now)) }
+{
+    let room = MOST_BYTES - so_far.as_slice().len();
+    so_far.extend_from_slice(front_of(bytes, room))?;
+    match reply_at(alloc, so_far.as_slice(), false) {
+        Ok(Some(reply)) => Ok(Some(reply)),
+        Ok(None) if bytes.len() > room => Err(ReplyFault::TooLong),
+        Ok(None) => Ok(None),
+        Err(why) => Err(why),
+    }
+}
+
+/// What is found in all bytes that came, if the connection is closed behind them.
+fn conclude(alloc: Global, bytes: &[u8]) -> Result<Option<Reply>, ReplyFault>
+    requires { length bytes.now ≤ most_bytes }
+    ensures whole { IfOk result (λ found. IsSome found) }
+    ensures found { IfOk result (IsFound true bytes.now) }
+    ensures refused { IfErr result (IsRefused true bytes.now) }
+{
+    match reply_at(alloc, bytes, true) {
+        Ok(Some(reply)) => Ok(Some(reply)),
+        Ok(None) => Err(ReplyFault::CutShort),
+        Err(why) => Err(why),
+    }
+}
+
+/// Whether the reply is over with this answer.
+fn is_last(answer: &Result<Option<Reply>, ReplyFault>) -> bool
+    ensures { result ≡ is_last answer.now }
+{
+    !matches!(answer, Ok(None))
+}
+
+/// A reply that comes in pieces. It holds 65,536 bytes at most. Contracts see the bytes that came, or None once the reply is over.
+#[derive(Drop)]
+pub struct ReplyReader {
+    bytes: Vec<u8>,
+    is_over: bool,
+}
+
+impl Model for ReplyReader {
+    ghost use Rattle.std.specs.Prelude.{ℕ, List, Option, Some, None, ◌≤◌, length, if◌then◌else◌};
+    ghost use Rattle.application_http.specs.Contents.{most_bytes};
+
+    ghost Value = { Option (List ℕ) };
+
+    ghost view = { λ reader. if reader.is_over then None else Some reader.bytes.items };
+
+    ghost invariant = { λ reader. length reader.bytes.items ≤ most_bytes };
+}
+
+impl ReplyReader {
+    /// Nothing came yet.
+    pub fn new(alloc: Global) -> ReplyReader
+        ensures { result ≡ Some [] }
+    {
+        ReplyReader {
+            bytes: Vec::new(alloc),
+            is_over: false,
+        }
+    }
+
+    /// Whether the reply is over: a call gave it, or a fault.
+    pub fn is_over(&self) -> bool
+        ensures { IsTrue result ↔ (self.now ≡ None) }
+    {
+        self.is_over
+    }
+
+    /// Takes bytes that came, and answers the reply once they have its end; Ok(None) if they don't yet. After the reply or a fault it is
+    /// over: then no bytes are taken, and the answer is Ok(None). Refused memory is a fault.
+    pub fn feed(&mut self, alloc: Global, bytes: &[u8]) -> Result<Option<Reply>, ReplyFault>
+        ensures ignored { self.old ≡ None → (self.new ≡ None) × GivesNothing result }
+        ensures taken { (so_far : List ℕ) → self.old ≡ Some so_far → self.new ≡ left_by result (so_far ++ bytes.now) }
+        ensures found { (so_far : List ℕ) → self.old ≡ Some so_far → IfOk result (IsFound false (so_far ++ bytes.now)) }
+        ensures refused { (so_far : List ℕ) → self.old ≡ Some so_far → IfErr result (IsRefused false (so_far ++ bytes.now)) }
+    {
+        if self.is_over {
+            return Ok(None);
+        }
+        let answer = advance(alloc, &mut self.bytes, bytes);
+        self.is_over = is_last(&answer);
+        answer
+    }
+
+    /// Takes note that the connection is closed, and answers the reply if it ends there. Ok(None) if it was over before.
+    pub fn end(&mut self, alloc: Global) -> Result<Option<Reply>, ReplyFault>
+        ensures over { self.new ≡ None }
+        ensures ignored { self.old ≡ None → GivesNothing result }
+        ensures whole { (so_far : List ℕ) → self.old ≡ Some so_far → IfOk result (λ found. IsSome found) }
+        ensures found { (so_far : List ℕ) → self.old ≡ Some so_far → IfOk result (IsFound true so_far) }
+        ensures refused { (so_far : List ℕ) → self.old ≡ Some so_far → IfErr result (IsRefused true so_far) }
+    {
+        if self.is_over {
+            return Ok(None);
+        }
+        self.is_over = true;
+        conclude(alloc, self.bytes.as_slice())
+    }
+}

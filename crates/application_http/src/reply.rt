@@ -1,0 +1,165 @@
+//! What an application's reply says.
+ghost use Rattle.std.specs.Prelude.{◌≡◌, codes, is_some, map, option_map, option_copied, string_bytes, IfErr, IfOk};
+ghost use Rattle.serde_json.specs.Find.{get};
+ghost use Rattle.serde_json.specs.View.{members_view, view};
+ghost use Rattle.application_http.specs.Replies.{IsBadContent, IsBadValue, Says, SaysIn, answer_in, answer_of, field_text, fields_flaw, first_flaw, first_non_text, key_flaw, names_text, object_at, text_at, texts_in};
+
+use crate::fault::{KeyFault, ReplyFault};
+use crate::request::FieldText;
+use serde_json::{Map, Value};
+use std::alloc::{AllocError, Global};
+
+/// What an application answers to a question. Each part may be absent.
+#[derive(Debug, Drop)]
+pub struct Reply {
+    /// The name of the panel to show; the same panel again if it is absent.
+    pub panel: Option<String>,
+    /// Texts of the panel's fields, in the order of their names' bytes.
+    pub fields: Vec<FieldText>,
+    /// A text for the message row.
+    pub message: Option<String>,
+    /// The name of the field in which the cursor goes.
+    pub cursor: Option<String>,
+}
+
+/// The first member of an object that isn't a text.
+fn first_non_text(members: &Map<String, Value>) -> Option<(KeyFault, &str)>
+    ensures { option_map (λ flaw. (flaw.0, flaw.1.now)) result ≡ first_non_text (members_view members.now.entries) }
+{
+    for (name, value) in members {
+        if !value.is_string() {
+            return Some((KeyFault::FieldNotText, name.as_str()));
+        }
+    }
+    None
+}
+
+/// What is wrong with the value of the key of fields.
+fn fields_flaw<'a>(key: &'a str, value: &'a Value) -> Option<(KeyFault, &'a str)>
+    ensures { option_map (λ flaw. (flaw.0, flaw.1.now)) result ≡ fields_flaw key.now (view value.now) }
+{
+    match value.as_object() {
+        Some(members) => first_non_text(members),
+        None => Some((KeyFault::NotObject, key)),
+    }
+}
+
+/// Whether a key's value is a text.
+fn names_text(key: &str) -> bool
+    ensures { result ≡ names_text key.now }
+{
+    key == "panel" || key == "message" || key == "cursor"
+}
+
+/// What is wrong with one key and its value.
+fn key_flaw<'a>(key: &'a str, value: &'a Value) -> Option<(KeyFault, &'a str)>
+    ensures { option_map (λ flaw. (flaw.0, flaw.1.now)) result ≡ key_flaw key.now (view value.now) }
+{
+    if names_text(key) {
+        if value.is_string() {
+            None
+        } else {
+            Some((KeyFault::NotText, key))
+        }
+    } else if key == "fields" {
+        fields_flaw(key, value)
+    } else {
+        Some((KeyFault::UnknownKey, key))
+    }
+}
+
+/// The first flaw of an object, in the order of the keys' bytes.
+fn first_flaw(members: &Map<String, Value>) -> Option<(KeyFault, &str)>
+    ensures { option_map (λ flaw. (flaw.0, flaw.1.now)) result ≡ first_flaw (members_view members.now.entries) }
+{
+    for (key, value) in members {
+        if let Some(flaw) = key_flaw(key.as_str(), value) {
+            return Some(flaw);
+        }
+    }
+    None
+}
+
+/// A copy of the text at a key.
+fn text_at(alloc: Global, value: &Value, key: &str) -> Result<Option<String>, AllocError>
+    ensures { IfOk result (λ text. option_map string_bytes text ≡ text_at key.now (view value.now)) }
+{
+    match value.get(key).and_then(Value::as_str) {
+        Some(text) => Ok(Some(String::from_str(alloc, text)?)),
+        None => Ok(None),
+    }
+}
+
+/// A copy of a field's name and text.
+fn field_of(alloc: Global, name: &str, text: &str) -> Result<FieldText, AllocError>
+    ensures { IfOk result (λ field. field_text field ≡ (name.now, text.now)) }
+{
+    Ok(FieldText {
+        name: String::from_str(alloc, name)?,
+        text: String::from_str(alloc, text)?,
+    })
+}
+
+/// Copies of the names and texts of an object.
+fn texts_in(alloc: Global, members: &Map<String, Value>) -> Result<Vec<FieldText>, AllocError>
+    ensures { IfOk result (λ texts. map field_text texts.items ≡ texts_in (members_view members.now.entries)) }
+{
+    let mut texts = Vec::new(alloc);
+    for (name, value) in members {
+        if let Some(text) = value.as_str() {
+            texts.push(field_of(alloc, name.as_str(), text)?)?;
+        }
+    }
+    Ok(texts)
+}
+
+/// Copies of the names and texts of the object at a key.
+fn texts_at(alloc: Global, value: &Value, key: &str) -> Result<Vec<FieldText>, AllocError>
+    ensures { IfOk result (λ texts. map field_text texts.items ≡ texts_in (object_at key.now (view value.now))) }
+{
+    match value.get(key).and_then(Value::as_object) {
+        Some(members) => texts_in(alloc, members),
+        None => Ok(Vec::new(alloc)),
+    }
+}
+
+/// The reply that an object says.
+fn reply_of(alloc: Global, value: &Value) -> Result<Reply, AllocError>
+    ensures { IfOk result (λ reply. answer_in reply ≡ answer_of (view value.now)) }
+{
+    Ok(Reply {
+        panel: text_at(alloc, value, "panel")?,
+        fields: texts_at(alloc, value, "fields")?,
+        message: text_at(alloc, value, "message")?,
+        cursor: text_at(alloc, value, "cursor")?,
+    })
+}
+
+/// The reply that a JSON value says.
+fn reply_in(alloc: Global, value: &Value) -> Result<Reply, ReplyFault>
+    ensures said { IfOk result (λ reply. SaysIn (view value.now) (answer_in reply)) }
+    ensures bad { IfErr result (IsBadValue (view value.now)) }
+{
+    let Some(members) = value.as_object() else {
+        return Err(ReplyFault::NotJson);
+    };
+    match first_flaw(members) {
+        Some((what, key)) => Err(ReplyFault::Key {
+            what,
+            key: String::from_str(alloc, key)?,
+        }),
+        None => Ok(reply_of(alloc, value)?),
+    }
+}
+
+/// The reply that a content says.
+pub(crate) fn read_reply(alloc: Global, content: &[u8]) -> Result<Reply, ReplyFault>
+    ensures said { IfOk result (λ reply. Says content.now (answer_in reply)) }
+    ensures bad { IfErr result (IsBadContent content.now) }
+{
+    match Value::from_slice(alloc, content) {
+        Ok(value) => reply_in(alloc, &value),
+        Err(fault) if fault.is_memory() => Err(ReplyFault::Memory),
+        Err(_) => Err(ReplyFault::NotJson),
+    }
+}

@@ -1,0 +1,159 @@
+//! What an application is sent for a question.
+ghost use Rattle.std.specs.Prelude.{◌≡◌, IfOk, OnOk, codes, string_bytes, decimal};
+ghost use Rattle.serde_json.specs.Data.{no_members, number, object, put, string, unsigned};
+ghost use Rattle.serde_json.specs.View.{members_view, view};
+ghost use Rattle.application_http.specs.Requests.{body_text, cursor_data, question_data, request_bytes, with_texts};
+
+use crate::endpoint::Endpoint;
+use serde_json::{Map, Value, json};
+use std::alloc::{AllocError, Global};
+
+/// A field's name and its text, in Unicode.
+#[derive(Debug, Drop)]
+pub struct FieldText {
+    /// The name that the panel gives the field.
+    pub name: String,
+    /// What is in the field.
+    pub text: String,
+}
+
+/// A question: what the operator sees, and the key that was pressed.
+#[derive(Clone, Copy)]
+pub struct Request<'a> {
+    /// The connection's number, another for each connection as long as the process lives.
+    pub session: u64,
+    /// The turn's number on this connection.
+    pub turn: u16,
+    /// The LU that the terminal is bound to.
+    pub lu: &'a str,
+    /// The panel's name.
+    pub panel: &'a str,
+    /// The key: `enter`, `pf1` to `pf24`, `pa1` to `pa3`.
+    pub key: &'a str,
+    /// The cursor's row, from 1.
+    pub row: u16,
+    /// The cursor's column, from 1.
+    pub col: u16,
+    /// The panel's fields; of two with one name the later counts.
+    pub fields: &'a [FieldText],
+}
+
+/// The object of the fields.
+fn fields_value(alloc: Global, fields: &[FieldText]) -> Result<Value, AllocError>
+    ensures { IfOk result (λ value. view value ≡ object (with_texts no_members fields.now)) }
+{
+    let mut texts = Map::new(alloc);
+    for field in fields {
+        let text = Value::try_from_str(alloc, field.text.as_str())?;
+        serde_json::put(&mut texts, alloc, field.name.as_str(), text)?;
+    }
+    Ok(Value::Object(texts))
+}
+
+/// The text of a session's number.
+fn session_text(alloc: Global, session: u64) -> Result<String, AllocError>
+    ensures { IfOk result (λ text. string_bytes text ≡ decimal session) }
+{
+    format!(in alloc; "{session}")
+}
+
+/// Puts a text into an object.
+fn put_text(
+    members: &mut Map<String, Value>,
+    alloc: Global,
+    key: &str,
+    text: &str,
+) -> Result<(), AllocError>
+    ensures { OnOk result (members_view members.new.entries ≡ put key.now (string text.now) (members_view members.old.entries)) }
+{
+    let value = Value::try_from_str(alloc, text)?;
+    serde_json::put(members, alloc, key, value)
+}
+
+/// Puts what is asked: the LU, the panel and the key.
+fn put_question(
+    members: &mut Map<String, Value>,
+    alloc: Global,
+    request: &Request<'_>,
+) -> Result<(), AllocError>
+    ensures { OnOk result (members_view members.new.entries ≡ put (codes "key") (string request.now.key.now)
+        (put (codes "panel") (string request.now.panel.now) (put (codes "lu") (string request.now.lu.now) (members_view members.old.entries)))) }
+{
+    put_text(members, alloc, "lu", request.lu)?;
+    put_text(members, alloc, "panel", request.panel)?;
+    put_text(members, alloc, "key", request.key)?;
+    Ok(())
+}
+
+/// Puts the number of the connection and of the turn.
+fn put_ticket(
+    members: &mut Map<String, Value>,
+    alloc: Global,
+    session: u64,
+    turn: u16,
+) -> Result<(), AllocError>
+    ensures { OnOk result (members_view members.new.entries ≡ put (codes "turn") (number (unsigned turn))
+        (put (codes "session") (string (decimal session)) (members_view members.old.entries))) }
+{
+    let text = session_text(alloc, session)?;
+    put_text(members, alloc, "session", text.as_str())?;
+    serde_json::put(members, alloc, "turn", Value::from(u64::from(turn)))?;
+    Ok(())
+}
+
+/// The object of the cursor.
+fn cursor_value(alloc: Global, row: u16, col: u16) -> Result<Value, AllocError>
+    ensures { IfOk result (λ value. view value ≡ cursor_data row col) }
+{
+    json!(in alloc; {"row": u64::from(row), "col": u64::from(col)})
+}
+
+/// Puts what is on the screen: the cursor and the fields.
+fn put_screen(
+    members: &mut Map<String, Value>,
+    alloc: Global,
+    request: &Request<'_>,
+) -> Result<(), AllocError>
+    ensures { OnOk result (members_view members.new.entries ≡ put (codes "fields") (object (with_texts no_members request.now.fields.now))
+        (put (codes "cursor") (cursor_data request.now.row request.now.col) (members_view members.old.entries))) }
+{
+    let cursor = cursor_value(alloc, request.row, request.col)?;
+    serde_json::put(members, alloc, "cursor", cursor)?;
+    let fields = fields_value(alloc, request.fields)?;
+    serde_json::put(members, alloc, "fields", fields)?;
+    Ok(())
+}
+
+/// The object of a question.
+fn question_value(alloc: Global, request: &Request<'_>) -> Result<Value, AllocError>
+    ensures { IfOk result (λ value. view value ≡ question_data request.now) }
+{
+    let mut members = Map::new(alloc);
+    put_ticket(&mut members, alloc, request.session, request.turn)?;
+    put_question(&mut members, alloc, request)?;
+    put_screen(&mut members, alloc, request)?;
+    Ok(Value::Object(members))
+}
+
+/// The body of a request.
+fn body_text(alloc: Global, request: &Request<'_>) -> Result<String, AllocError>
+    ensures { IfOk result (λ text. string_bytes text ≡ body_text request.now) }
+{
+    let value = question_value(alloc, request)?;
+    value.to_string(alloc)
+}
+
+/// The request of a question, head and body, for the application at an endpoint.
+pub fn request_text(
+    alloc: Global,
+    endpoint: &Endpoint,
+    request: &Request<'_>,
+) -> Result<String, AllocError>
+    ensures { IfOk result (λ text. string_bytes text ≡ request_bytes endpoint.now request.now) }
+{
+    let body = body_text(alloc, request)?;
+    let mut text = String::new(alloc);
+    endpoint.put_head(&mut text, body.as_str().len())?;
+    write!(text, "{body}")?;
+    Ok(text)
+}

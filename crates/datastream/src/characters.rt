@@ -1,0 +1,103 @@
+//! Characters one behind the other, looked at eight at a time.
+ghost use Rattle.std.specs.Prelude.{◌≡◌, ◌≤◌, ◌<◌, ℕ, true, List, length, drop, slice_index_or};
+ghost use Rattle.std.specs.List.{prefix_len};
+ghost use Rattle.codes3270.specs.Storable.{is_storable};
+ghost use Rattle.datastream.specs.ByteWords.{word, IsWordOf};
+
+use crate::order_codes::START_FIELD;
+use codes3270::storable;
+
+/// Bit 40 of each byte of a word.
+const BITS_40: u64 = 0x4040_4040_4040_4040;
+
+/// Eight bytes as a word, of which the first is the lowest.
+fn word_of(bytes: [u8; 8]) -> u64
+    ensures { result ≡ word bytes }
+{
+    let [a, b, c, d, e, f, g, h] = bytes;
+    u64::from(a)
+        + u64::from(b) * 0x100
+        + u64::from(c) * 0x1_0000
+        + u64::from(d) * 0x100_0000
+        + u64::from(e) * 0x1_0000_0000
+        + u64::from(f) * 0x100_0000_0000
+        + u64::from(g) * 0x1_0000_0000_0000
+        + u64::from(h) * 0x100_0000_0000_0000
+}
+
+/// How many bytes of a word are 40 or above before the first that isn't.
+#[inline(always)]
+fn count_high(word: u64) -> usize
+    ensures few { result ≤ 8 }
+    ensures high { (bytes : List ℕ) → IsWordOf bytes word → (place : ℕ) → place < result → 0x40 ≤ slice_index_or bytes place 0 }
+{
+    let low = !(word | word >> 1) & BITS_40;
+    low.trailing_zeros() as usize / 8
+}
+
+/// How many of the first eight bytes are 40 or above before the first that isn't; none if there are fewer bytes.
+#[inline(always)]
+fn count_in_word(text: &[u8]) -> usize
+    ensures bound { result ≤ length text.now }
+    ensures storable { (place : ℕ) → place < result → is_storable (slice_index_or text.now place 0) ≡ true }
+{
+    match text {
+        [a, b, c, d, e, f, g, h, ..] => count_high(word_of([*a, *b, *c, *d, *e, *f, *g, *h])),
+        _ => 0,
+    }
+}
+
+/// The bytes from a place on.
+#[inline(always)]
+fn bytes_from(text: &[u8], place: usize) -> &[u8]
+    requires { place ≤ length text.now }
+    ensures { result.now ≡ drop place text.now }
+{
+    &text[place..]
+}
+
+/// What is left of a text behind some of its first characters.
+#[inline(always)]
+fn behind_words(text: &[u8]) -> &[u8]
+    ensures { drop (prefix_len is_storable result.now) result.now ≡ drop (prefix_len is_storable text.now) text.now }
+{
+    let mut rest = text;
+    let mut count = count_in_word(rest);
+    while count == 8 {
+        rest = bytes_from(rest, 8);
+        count = count_in_word(rest);
+    }
+    bytes_from(rest, count)
+}
+
+/// Whether a cell can hold a byte as a character. Start Field mostly comes behind a run of characters, so it is tested first.
+#[inline(always)]
+fn is_character(byte: u8) -> bool
+    ensures { result ≡ is_storable byte }
+{
+    byte != START_FIELD && storable(byte)
+}
+
+/// What is left of a text behind its first characters.
+#[inline(always)]
+pub(crate) fn behind_characters(text: &[u8]) -> &[u8]
+    ensures { result.now ≡ drop (prefix_len is_storable text.now) text.now }
+{
+    let mut rest = behind_words(text);
+    while let [byte, after @ ..] = rest {
+        if !is_character(*byte) {
+            return rest;
+        }
+        rest = after;
+    }
+    rest
+}
+
+/// How many characters come before the first byte that is none.
+#[inline(always)]
+pub(crate) fn count_characters(text: &[u8]) -> usize
+    ensures value { result ≡ prefix_len is_storable text.now }
+    ensures bound { result ≤ length text.now }
+{
+    text.len() - behind_characters(text).len()
+}

@@ -1,0 +1,98 @@
+-- Questions and answers (our profile): an application decides on keys that a panel asks it about, and it learns what the operator sees.
+use Rattle.std.specs.Prelude.{◌==◌, ◌&&◌, not, ℕ, Bool, true, false, List, [], Option, Some, None, is_some, option_map, option_and_then, if◌then◌else◌}
+use Rattle.std.specs.List.{list_any}
+use Rattle.std.specs.Option.{option_map_or}
+use Rattle.codes3270.specs.declared.attention.Aid.{Aid}
+use Rattle.codes3270.specs.declared.attention.Aid.TheVariants.{NoAid}
+use Rattle.panels.specs.declared.message.Message.{Message}
+use Rattle.panels.specs.declared.message.Message.TheVariants.{Told}
+use Rattle.panels.specs.declared.panel.Field.{Field}
+use Rattle.panels.specs.Screen.{Values}
+use Rattle.panels.specs.Values.{value_of, with_values, without_fields}
+use Rattle.host_core.specs.Acts.{Act, Decision, Sent, decision_on, done, learned, may_act}
+use Rattle.host_core.specs.Application.{Application}
+use Rattle.host_core.specs.State.{Service, Host, service_at, session_at}
+use Rattle.host_core.specs.Session.{Conn, agreed_lu, is_agreed, model_in}
+use Rattle.host_core.specs.declared.question.Answer.{Answer}
+use Rattle.host_core.specs.declared.question.Question.{Question}
+use Rattle.host_core.specs.declared.question.Ticket.{Ticket}
+use Rattle.host_core.specs.declared.turn_reason.TurnReason.{TurnReason}
+use Rattle.host_core.specs.declared.turn_reason.TurnReason.TheVariants as turn_reasons
+
+-- ---- questions
+
+abbrev pub is_ask : Decision → Bool
+is_ask (Decision.Do act) = false
+is_ask Decision.Asks = true
+
+-- a question is open: it is the host's turn, and the application decides
+abbrev pub is_asking : Application → Conn → Bool
+is_asking app conn = may_act conn.turn conn.pending (is_agreed conn.talk.state) && is_ask (decision_on app conn conn.turn_reason)
+
+-- the key that gave the host the turn
+abbrev pub key_of : TurnReason → Aid
+key_of turn_reasons.Agreement = NoAid
+key_of (turn_reasons.Key aid buffered) = aid
+key_of turn_reasons.Refusal = NoAid
+
+-- Which question an answer is to: the session, and the number of the record that will answer the operator.
+abbrev pub ticket_of : ℕ → Conn → Ticket
+ticket_of session conn = record { session = session; turn = conn.next_seq }
+
+-- what the application learns: on which LU, on which panel and by which key; where the cursor is; and the text of each of the panel's
+-- fields, without nulls, as far as it is known now
+abbrev pub question_on : Application → ℕ → Conn → List ℕ → Question
+question_on app session conn lu = record {
+  ticket = ticket_of session conn;
+  lu = lu;
+  panel = conn.panel;
+  aid = key_of conn.turn_reason;
+  cursor = conn.cursor;
+  values = learned conn.shadow (app.fields conn.panel) [];
+}
+
+abbrev pub question_in : Application → ℕ → Conn → Option Question
+question_in app session conn = if is_asking app conn then option_map (question_on app session conn) (agreed_lu conn.talk.state) else None
+
+abbrev pub question_of : Application → ℕ → Service → Option Question
+question_of app session Service.Free = None
+question_of app session (Service.Open rest conn) = question_in app session conn
+question_of app session (Service.Closed cause) = None
+
+-- ---- answers
+
+-- some field of these has a value
+abbrev pub has_value_of : List Field → Values → Bool
+has_value_of fields values = list_any (λ field. is_some (value_of values field.number)) fields
+
+-- what is known of the fields is kept for other panels; the fields of the panel that is shown have the answer's values alone
+abbrev pub values_for : Application → Conn → Answer → Option ℕ → Values
+values_for app conn answer None = with_values (learned conn.shadow (app.fields conn.panel) conn.values) answer.values
+values_for app conn answer (Some panel) =
+    with_values (without_fields (app.fields (app.shown (model_in conn) panel)) (learned conn.shadow (app.fields conn.panel) conn.values)) answer.values
+
+-- The same panel keeps what the operator left in its fields, unless the answer has a value of one: then it is shown whole.
+abbrev pub act_by : Application → Conn → Answer → Option ℕ → Act
+act_by app conn answer None =
+    Act.Show conn.panel (Told answer.message answer.cursor) (not (has_value_of (app.fields conn.panel) answer.values)) (values_for app conn answer None)
+act_by app conn answer (Some panel) = Act.Show panel (Told answer.message answer.cursor) false (values_for app conn answer (Some panel))
+
+-- the panel that an answer names is there
+abbrev pub has_its_panel : Application → Answer → Bool
+has_its_panel app answer = option_map_or app.has_panel answer.panel true
+
+-- an answer is taken while a question is open, if there is the panel that it names
+abbrev pub answered_on : Application → Conn → Answer → Option Sent
+answered_on app conn answer = if is_asking app conn && has_its_panel app answer then Some (done app conn (act_by app conn answer answer.panel)) else None
+
+abbrev pub is_ticket : Ticket → Ticket → Bool
+is_ticket one other = (one.session == other.session) && (one.turn == other.turn)
+
+-- and if it is to that question
+abbrev pub answered_in : Application → ℕ → Ticket → Answer → Conn → Option Sent
+answered_in app session ticket answer conn = if is_ticket ticket (ticket_of session conn) then answered_on app conn answer else None
+
+abbrev pub answered_by : Application → ℕ → Ticket → Answer → Service → Option Sent
+answered_by app session ticket answer Service.Free = None
+answered_by app session ticket answer (Service.Open rest conn) = answered_in app session ticket answer conn
+answered_by app session ticket answer (Service.Closed cause) = None

@@ -1,0 +1,286 @@
+//! Questions to the application, and its answers.
+ghost use Rattle.std.specs.Prelude.{◌≡◌, ◌≤◌, ◌<◌, Some, IfOk, is_some, length, not, ◌&&◌, true};
+ghost use Rattle.std.specs.List.{list_any};
+ghost use Rattle.std.specs.Vec.{vec_capacity};
+ghost use Rattle.panels.specs.Panel.{HaveNumbersApart};
+ghost use Rattle.panels.specs.Values.{value_of, without_fields};
+ghost use Rattle.shadow.specs.Storable.{CanBeStored};
+ghost use Rattle.host_core.specs.Acts.{first_missing, led, learned, may_act};
+ghost use Rattle.host_core.specs.Application.{application_of, panel_at};
+ghost use Rattle.host_core.specs.Choices.{CanBeShown};
+ghost use Rattle.host_core.specs.Keeps.{AnswersOn, act_of, show_once};
+ghost use Rattle.host_core.specs.Learning.{HasField, HaveFields, is_missing_now};
+ghost use Rattle.host_core.specs.Questions.{act_by, answered_in, answered_on, has_its_panel, has_value_of, is_ask, is_asking, key_of, question_in, ticket_of, values_for};
+ghost use Rattle.host_core.specs.Session.{is_agreed};
+ghost use Rattle.host_core.specs.Sound.{IsShownOn};
+
+use crate::acted::Acted;
+use crate::acting::{Shown, next_of};
+use crate::learning::{is_blank, learn_each, text_known};
+use crate::question::{Answer, Question, Ticket, is_ticket};
+use crate::room::COMMAND_ROOM;
+use crate::sending::panel_in;
+use crate::session::Session;
+use crate::turn_reason::TurnReason;
+use codes3270::Aid;
+use panels::{Field, Message, Next, PanelSet, Values};
+use shadow::Shadow;
+use telnet_wire::Memory;
+
+/// Whether a required field isn't filled in, by what is known of it now.
+fn is_missing_now(values: &Values, shadow: &Shadow, field: &Field) -> bool
+    requires stored { CanBeStored shadow.now }
+    requires there { HasField shadow.now field.now }
+    ensures { result ≡ is_missing_now shadow.now values.now field.now }
+{
+    if !field.required {
+        return false;
+    }
+    match text_known(shadow, field) {
+        Some(text) => is_blank(text.as_slice()),
+        None => match values.get(field.number) {
+            Some(value) => is_blank(value),
+            None => true,
+        },
+    }
+}
+
+/// Whether there is such a field.
+fn is_some_missing(values: &Values, shadow: &Shadow, fields: &[Field]) -> bool
+    requires stored { CanBeStored shadow.now }
+    requires there { HaveFields shadow.now fields.now }
+    ensures { result ≡ list_any (is_missing_now shadow.now values.now) fields.now }
+{
+    for field in fields {
+        if is_missing_now(values, shadow, field) {
+            return true;
+        }
+    }
+    false
+}
+
+/// Whether a required field isn't filled in once the known texts are set.
+fn is_missing_once_learned(values: &Values, shadow: &Shadow, fields: &[Field]) -> bool
+    requires stored { CanBeStored shadow.now }
+    requires there { HaveFields shadow.now fields.now }
+    requires numbers { HaveNumbersApart fields.now }
+    ensures { result ≡ is_some (first_missing (learned shadow.now fields.now values.now) fields.now) }
+{
+    is_some_missing(values, shadow, fields)
+}
+
+/// The key that gave the host the turn.
+fn key_of(turn_reason: TurnReason) -> Aid
+    ensures { result ≡ key_of turn_reason }
+{
+    match turn_reason {
+        TurnReason::Agreement | TurnReason::Refusal => Aid::NoAid,
+        TurnReason::Key(aid, _) => aid,
+    }
+}
+
+/// Whether some field of these has a value.
+fn has_value_of(fields: &[Field], values: &Values) -> bool
+    ensures { result ≡ has_value_of fields.now values.now }
+{
+    fields
+        .iter()
+        .any(|field| values.get(field.number).is_some())
+}
+
+/// Takes away the values of fields.
+fn remove_fields(values: &mut Values, fields: &[Field])
+    ensures { values.new ≡ without_fields fields.now values.old }
+{
+    for field in fields {
+        values.remove(field.number);
+    }
+}
+
+/// Whether the panel that an answer names is there.
+fn has_its_panel(panels: &PanelSet, answer: &Answer) -> bool
+    ensures has { result ≡ has_its_panel (application_of panels.now) answer.now }
+{
+    match answer.panel {
+        Some(panel) => panel < panels.len(),
+        None => true,
+    }
+}
+
+impl Session {
+    /// Whether the application is asked about a key.
+    fn asks_about(&self, panels: &PanelSet, aid: &Aid) -> bool
+        requires panel { self.now.panel < length panels.now.panels }
+        requires fields { HaveFields self.now.shadow (panel_at panels.now self.now.panel).fields }
+        ensures { result ≡ is_ask (led (application_of panels.now) self.now (learned self.now.shadow (panel_at panels.now self.now.panel).fields self.now.values) aid.now ((application_of panels.now).next self.now.panel aid.now)) }
+    {
+        panels.panels_are_sound();
+        match next_of(panels, self.panel, aid) {
+            Next::Again | Next::Go(_) => false,
+            Next::Ask => match aid {
+                Aid::Enter => {
+                    let fields = panel_in(panels, self.panel).fields();
+                    !is_missing_once_learned(&self.values, &self.shadow, fields)
+                }
+                Aid::NoAid | Aid::Clear | Aid::Pf(_) | Aid::Pa(_) => true,
+            },
+        }
+    }
+
+    /// Whether the application is asked, if nothing is read first.
+    pub(crate) fn asks(&self, panels: &PanelSet) -> bool
+        requires panel { self.now.panel < length panels.now.panels }
+        requires fields { HaveFields self.now.shadow (panel_at panels.now self.now.panel).fields }
+        ensures { result ≡ is_ask (show_once (application_of panels.now) self.now) }
+    {
+        match self.turn_reason {
+            TurnReason::Agreement | TurnReason::Refusal => false,
+            TurnReason::Key(aid, _) => match aid {
+                Aid::Clear => false,
+                Aid::NoAid | Aid::Enter | Aid::Pf(_) | Aid::Pa(_) => self.asks_about(panels, &aid),
+            },
+        }
+    }
+
+    /// Whether a question is open.
+    fn is_asking(&self, panels: &PanelSet) -> bool
+        requires { IsShownOn panels.now self.now }
+        ensures asking { result ≡ is_asking (application_of panels.now) self.now }
+        ensures fields { result ≡ true → HaveFields self.now.shadow (panel_at panels.now self.now.panel).fields }
+    {
+        if !self.may_act() {
+            return false;
+        }
+        self.fields_are_believed(panels);
+        !self.reads_first(panels) && self.asks(panels)
+    }
+
+    /// The texts of the panel's fields that are known, over other values.
+    fn learned(&self, panels: &PanelSet, values: Values) -> Result<Values, Memory>
+        requires panel { self.now.panel < length panels.now.panels }
+        requires fields { HaveFields self.now.shadow (panel_at panels.now self.now.panel).fields }
+        ensures { IfOk result (λ known. known ≡ learned self.now.shadow (panel_at panels.now self.now.panel).fields values) }
+    {
+        panels.panels_are_sound();
+        let mut known = values;
+        let fields = panel_in(panels, self.panel).fields();
+        learn_each(&mut known, &self.shadow, fields)?;
+        Ok(known)
+    }
+
+    /// The question that is open, if one is. Memory is needed for its texts.
+    pub(crate) fn question(
+        &self,
+        panels: &PanelSet,
+        session: u64,
+    ) -> Result<Option<Question>, Memory>
+        requires { IsShownOn panels.now self.now }
+        ensures { IfOk result (λ question. question ≡ question_in (application_of panels.now) session self.now) }
+    {
+        if !self.is_asking(panels) {
+            return Ok(None);
+        }
+        let Some(lu) = self.lu() else {
+            return Ok(None);
+        };
+        let values = self.learned(panels, Values::new(*self.sent.allocator()))?;
+        Ok(Some(Question {
+            ticket: self.ticket(session),
+            lu,
+            panel: self.panel,
+            aid: key_of(self.turn_reason),
+            cursor: self.cursor,
+            values,
+        }))
+    }
+
+    /// The ticket of a question that is open now.
+    fn ticket(&self, session: u64) -> Ticket
+        ensures { result ≡ ticket_of session self.now }
+    {
+        Ticket {
+            session,
+            turn: self.next_seq,
+        }
+    }
+
+    /// The values of fields, once an answer's are set.
+    fn values_for(&self, panels: &PanelSet, answer: &Answer) -> Result<Values, Memory>
+        requires panel { self.now.panel < length panels.now.panels }
+        requires fields { HaveFields self.now.shadow (panel_at panels.now self.now.panel).fields }
+        requires there { has_its_panel (application_of panels.now) answer.now ≡ true }
+        ensures { IfOk result (λ values. values ≡ values_for (application_of panels.now) self.now answer.now answer.now.panel) }
+    {
+        let mut values = self.learned(panels, self.values.clone()?)?;
+        if let Some(panel) = answer.panel {
+            let shown = panels.shown(panel, self.shown_model());
+            remove_fields(&mut values, panel_in(panels, shown).fields());
+        }
+        values.set_all(&answer.values)?;
+        Ok(values)
+    }
+
+    /// What an answer shows, once the values of fields are set.
+    fn shown_by(&self, panels: &PanelSet, answer: &Answer) -> Shown
+        requires panel { self.now.panel < length panels.now.panels }
+        requires there { has_its_panel (application_of panels.now) answer.now ≡ true }
+        ensures act { act_of (values_for (application_of panels.now) self.now answer.now answer.now.panel) result ≡ act_by (application_of panels.now) self.now answer.now answer.now.panel }
+        ensures can_be_done { CanBeShown (length panels.now.panels) result }
+    {
+        let message = Message::Told(answer.message, answer.cursor);
+        match answer.panel {
+            None => Shown {
+                panel: self.panel,
+                message,
+                keep: !has_value_of(panel_in(panels, self.panel).fields(), &answer.values),
+            },
+            Some(panel) => Shown {
+                panel,
+                message,
+                keep: false,
+            },
+        }
+    }
+
+    /// Takes the answer to the question that is open: shows what it says. Nothing has changed if memory is refused.
+    fn answer(&mut self, panels: &PanelSet, answer: &Answer, out: &mut Vec<u8>) -> Acted
+        requires panel { IsShownOn panels.now self.old }
+        ensures answered { AnswersOn (answered_on (application_of panels.now) self.old answer.now) self.old out.old result self.new out.new }
+        ensures panel { IsShownOn panels.now self.new }
+        ensures capacity { vec_capacity out.old ≤ vec_capacity out.new }
+    {
+        if !self.is_asking(panels) || !has_its_panel(panels, answer) {
+            return Acted::Nothing;
+        }
+        if out.reserve(COMMAND_ROOM).is_err() {
+            return Acted::Memory;
+        }
+        let Ok(values) = self.values_for(panels, answer) else {
+            return Acted::Memory;
+        };
+        let shown = self.shown_by(panels, answer);
+        self.values = values;
+        self.show(panels, shown, out);
+        Acted::Sent
+    }
+
+    /// The same, if the answer is to the question that is open.
+    pub(crate) fn answer_to(
+        &mut self,
+        panels: &PanelSet,
+        session: u64,
+        ticket: Ticket,
+        answer: &Answer,
+        out: &mut Vec<u8>,
+    ) -> Acted
+        requires panel { IsShownOn panels.now self.old }
+        ensures answered { AnswersOn (answered_in (application_of panels.now) session ticket answer.now self.old) self.old out.old result self.new out.new }
+        ensures panel { IsShownOn panels.now self.new }
+        ensures capacity { vec_capacity out.old ≤ vec_capacity out.new }
+    {
+        if !is_ticket(ticket, self.ticket(session)) {
+            return Acted::Nothing;
+        }
+        self.answer(panels, answer, out)
+    }
+}

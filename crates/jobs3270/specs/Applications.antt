@@ -1,0 +1,146 @@
+-- What an application is sent for a question, and what becomes of its reply (our profile).
+use Rattle.std.specs.Prelude.{ℕ, ◌-◌, Bool, true, false, not, nat_le, List, [], ◌∷◌, ◌++◌, take, codes, chars, string_bytes, Option, Some, None, is_some, option_map, unwrap_or, ◌≡◌, ⊤}
+use Rattle.std.specs.BTreeMap.{insert_entry}
+use Rattle.std.specs.Ordering.{nat_cmp}
+use Rattle.std.specs.Fmt.{decimal}
+use Rattle.std.specs.Option.{option_and_then, option_map_or}
+use Rattle.std.specs.List.{list_any}
+use Rattle.codes3270.specs.CodePage.{character_of, code_of}
+use Rattle.codes3270.specs.declared.attention.Aid.{Aid}
+use Rattle.codes3270.specs.declared.attention.Aid.TheVariants as aid
+use Rattle.jobs3270.specs.declared.application_fault.Absence.{Absence}
+use Rattle.jobs3270.specs.declared.application_fault.ApplicationFault.{ApplicationFault}
+use Rattle.jobs3270.specs.declared.application_fault.ApplicationFault.TheVariants as why
+use Rattle.jobs3270.specs.declared.application_fault.Told.{Told}
+use Rattle.jobs3270.specs.declared.application_fault.Told.TheVariants as told
+use Rattle.jobs3270.specs.declared.application_reply.AnswerFault.{AnswerFault}
+use Rattle.jobs3270.specs.declared.application_reply.AnswerFault.TheVariants as flaw
+use Rattle.application_http.specs.Replies.{field_text}
+use Rattle.application_http.specs.declared.reply.Reply.{Reply}
+use Rattle.application_http.specs.declared.request.FieldText.{FieldText}
+use Rattle.host_core.specs.declared.question.Answer.{Answer}
+use Rattle.application_http.specs.declared.fault.ReplyFault.{ReplyFault}
+use Rattle.application_http.specs.declared.fault.ReplyFault.TheVariants as reply
+use Rattle.panels.specs.Characters.{codes_of}
+use Rattle.panels.specs.Names.{field_named, panel_named}
+use Rattle.panels.specs.Panel.{Panels}
+use Rattle.panels.specs.Screen.{Values}
+
+-- ---- what it is sent
+
+-- what stands for a byte without a character (Unicode, REPLACEMENT CHARACTER)
+abbrev pub no_character : ℕ
+no_character = 65533
+
+-- a byte of the host's code as a character
+abbrev pub shown_character : ℕ → ℕ
+shown_character byte = unwrap_or (character_of byte) no_character
+
+-- the name of a key, as panel texts have it
+abbrev pub key_name : Aid → List ℕ
+key_name aid.NoAid = []
+key_name aid.Enter = codes "enter"
+key_name aid.Clear = codes "clear"
+key_name (aid.Pf number) = codes "pf" ++ decimal number
+key_name (aid.Pa number) = codes "pa" ++ decimal number
+
+-- ---- the texts of a reply
+
+-- as many characters as the largest screen has cells
+abbrev pub most_characters : ℕ
+most_characters = 3564
+
+-- some character of a text has no code in the host's code
+abbrev pub lacks_code : List ℕ → Bool
+lacks_code text = list_any (λ character. not (is_some (code_of character))) (chars text)
+
+-- the value that a field is given by a text: what is beyond the largest screen is cut
+abbrev pub value_by : List ℕ → List ℕ
+value_by text = take most_characters (codes_of (chars text))
+
+-- ---- what becomes of a reply
+
+-- a field's name and its text
+abbrev pub Text : Type 0
+Text = List ℕ × List ℕ
+
+-- the values once a field has been given its text
+abbrev pub with_text : Panels → Text → Values → Values
+with_text panels text values = option_map_or (λ field. insert_entry nat_cmp values field.number (value_by text.1)) (field_named text.0 panels) values
+
+-- the values once each field has been given its text, one after the other
+abbrev pub with_texts : Panels → List FieldText → Values → Values
+with_texts panels [] values = values
+with_texts panels (text ∷ texts) values = with_texts panels texts (with_text panels (field_text text) values)
+
+-- there is the field, and each character of its text has a code
+pub record IsGoodText (panels : Panels) (text : Text) : Type 0 where
+  pub known : is_some (field_named text.0 panels) ≡ true
+  pub coded : lacks_code text.1 ≡ false
+
+-- why a field isn't given its text; want of memory says nothing of it
+abbrev pub IsTextFault : Panels → Text → AnswerFault → Type 0
+IsTextFault panels text flaw.Memory = ⊤
+IsTextFault panels text (flaw.UnknownField name) = (string_bytes name ≡ text.0) × (field_named text.0 panels ≡ None)
+IsTextFault panels text (flaw.FieldWithoutCode name) = (string_bytes name ≡ text.0) × (lacks_code text.1 ≡ true)
+IsTextFault panels text _ = ⊥
+
+-- a name is given, and it stands for nothing
+abbrev pub IsUnknown : (of : List ℕ → Option ℕ) → Option (List ℕ) → Type 0
+IsUnknown of None = ⊥
+IsUnknown of (Some name) = of name ≡ None
+
+-- what a name stands for, where one is given
+abbrev pub IsNumberOf : (of : List ℕ → Option ℕ) → (name : Option (List ℕ)) → (number : Option ℕ) → Type 0
+IsNumberOf of None number = number ≡ None
+IsNumberOf of (Some name) number = (of name ≡ number) × (is_some number ≡ true)
+
+-- the panel with a name
+abbrev pub panel_number : Panels → List ℕ → Option ℕ
+panel_number panels name = panel_named name panels
+
+-- the field with a name
+abbrev pub field_number : Panels → List ℕ → Option ℕ
+field_number panels name = option_map (λ field. field.number) (field_named name panels)
+
+-- why a message isn't told; want of memory says nothing of it
+abbrev pub IsMessageFault : List ℕ → AnswerFault → Type 0
+IsMessageFault text flaw.Memory = ⊤
+IsMessageFault text flaw.MessageWithoutCode = lacks_code text ≡ true
+IsMessageFault text _ = ⊥
+
+-- what the host does for a reply
+pub record IsAnswerFor (panels : Panels) (reply : Reply) (answer : Answer) : Type 0 where
+  pub panel : IsNumberOf (panel_number panels) (option_map string_bytes reply.panel) answer.panel
+  pub cursor : IsNumberOf (field_number panels) (option_map string_bytes reply.cursor) answer.cursor
+  pub coded : lacks_code (unwrap_or (option_map string_bytes reply.message) []) ≡ false
+  pub values : answer.values ≡ with_texts panels reply.fields.items []
+
+-- ---- when
+
+-- a reply is late: it takes as long as it may take, in milliseconds
+abbrev pub is_reply_late : (began now most : ℕ) → Bool
+is_reply_late began now most = nat_le most (now - began)
+
+-- ---- what the operator is told
+
+abbrev pub message_for : Told → List ℕ
+message_for told.NotAvailable = codes "APPLICATION NOT AVAILABLE"
+message_for told.Wrong = codes "APPLICATION ERROR"
+
+-- a reply that breaks off is no application, every other fault of it is its own
+abbrev pub told_of_reply : ReplyFault → Told
+told_of_reply reply.Memory = told.NotAvailable
+told_of_reply reply.CutShort = told.NotAvailable
+told_of_reply _ = told.Wrong
+
+abbrev pub told_of_answer : AnswerFault → Told
+told_of_answer flaw.Memory = told.NotAvailable
+told_of_answer _ = told.Wrong
+
+-- who left is told nothing
+abbrev pub told_of : ApplicationFault → Option Told
+told_of (why.Absent absence) = Some told.NotAvailable
+told_of (why.Reply fault) = Some (told_of_reply fault)
+told_of (why.Answer fault) = Some (told_of_answer fault)
+told_of why.Left = None

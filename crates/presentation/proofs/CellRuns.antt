@@ -1,0 +1,203 @@
+-- Characters in cells that follow one another.
+use Rattle.std.proofs.Common.{◌≡◌, ℕ, ◌+◌, ◌%◌, ◌<◌, ◌≤◌, suc, true, List, [], ◌∷◌, ◌++◌, length, length-append, append_assoc, map, take, drop, set, get_or, refl, ap, sym, ◌∙◌, arith}
+use Rattle.std.specs.List.{All}
+use Rattle.std.proofs.lemmas.List.Elements.{All-append, All-take, All-drop, All-map, All-nil, All-cons, All-head, All-tail}
+use Rattle.std.proofs.Math.Nat.{mod-eq_of_lt}
+use Rattle.std.proofs.Math.Seq.{drop-append-add, drop-cons}
+use Rattle.std.proofs.lemmas.List.{drop-drop, length-map, length-drop, length-take-le, map-append, set_split, take-append-drop, take_at}
+use Rattle.codes3270.specs.declared.attribute.Cell.{Cell}
+use Rattle.codes3270.specs.declared.attribute.Cell.TheVariants.{Char}
+use Rattle.codes3270.specs.Storable.{is_storable}
+use Rattle.datastream.specs.declared.order.Order.{Order}
+use Rattle.datastream.specs.declared.order.Order.TheVariants.{Sf, Sba, Ic, Pt, Ra, Eua, Char as Data}
+use Rattle.datastream.specs.Grammar.{IsProper}
+use Rattle.datastream.specs.Reading.{characters_ahead}
+use Rattle.datastream.specs.Screen.{Screen}
+use Rattle.datastream.specs.Meaning.{WriteProgress, all_executed, executed}
+use Rattle.datastream.specs.InboundFields.{IsStorableCell, IsSendable}
+use Rattle.presentation.specs.Runs.{placed}
+use Rattle.presentation.proofs.Storable.{with_cells}
+
+-- ---- eight cells
+
+pub eight_set : (cells : List Cell) (a b c d e f g h : Cell) → length cells ≡ 8
+    → set (set (set (set (set (set (set (set cells 0 a) 1 b) 2 c) 3 d) 4 e) 5 f) 6 g) 7 h ≡ a ∷ b ∷ c ∷ d ∷ e ∷ f ∷ g ∷ h ∷ []
+eight_set [] a b c d e f g h eight = absurd (omega (arith, eight))
+eight_set (p ∷ []) a b c d e f g h eight = absurd (omega (arith, eight))
+eight_set (p ∷ q ∷ []) a b c d e f g h eight = absurd (omega (arith, eight))
+eight_set (p ∷ q ∷ r ∷ []) a b c d e f g h eight = absurd (omega (arith, eight))
+eight_set (p ∷ q ∷ r ∷ s ∷ []) a b c d e f g h eight = absurd (omega (arith, eight))
+eight_set (p ∷ q ∷ r ∷ s ∷ t ∷ []) a b c d e f g h eight = absurd (omega (arith, eight))
+eight_set (p ∷ q ∷ r ∷ s ∷ t ∷ u ∷ []) a b c d e f g h eight = absurd (omega (arith, eight))
+eight_set (p ∷ q ∷ r ∷ s ∷ t ∷ u ∷ v ∷ []) a b c d e f g h eight = absurd (omega (arith, eight))
+eight_set (p ∷ q ∷ r ∷ s ∷ t ∷ u ∷ v ∷ w ∷ []) a b c d e f g h eight = refl
+eight_set (p ∷ q ∷ r ∷ s ∷ t ∷ u ∷ v ∷ w ∷ x ∷ more) a b c d e f g h eight = absurd (omega (arith, eight))
+
+eight_mapped : (text : List ℕ) → length text ≡ 8
+    → Char (get_or text 0 0) ∷ Char (get_or text 1 0) ∷ Char (get_or text 2 0) ∷ Char (get_or text 3 0) ∷ Char (get_or text 4 0) ∷ Char (get_or text 5 0) ∷ Char (get_or text 6 0) ∷ Char (get_or text 7 0) ∷ [] ≡ map Char text
+eight_mapped [] eight = absurd (omega (arith, eight))
+eight_mapped (p ∷ []) eight = absurd (omega (arith, eight))
+eight_mapped (p ∷ q ∷ []) eight = absurd (omega (arith, eight))
+eight_mapped (p ∷ q ∷ r ∷ []) eight = absurd (omega (arith, eight))
+eight_mapped (p ∷ q ∷ r ∷ s ∷ []) eight = absurd (omega (arith, eight))
+eight_mapped (p ∷ q ∷ r ∷ s ∷ t ∷ []) eight = absurd (omega (arith, eight))
+eight_mapped (p ∷ q ∷ r ∷ s ∷ t ∷ u ∷ []) eight = absurd (omega (arith, eight))
+eight_mapped (p ∷ q ∷ r ∷ s ∷ t ∷ u ∷ v ∷ []) eight = absurd (omega (arith, eight))
+eight_mapped (p ∷ q ∷ r ∷ s ∷ t ∷ u ∷ v ∷ w ∷ []) eight = refl
+eight_mapped (p ∷ q ∷ r ∷ s ∷ t ∷ u ∷ v ∷ w ∷ x ∷ more) eight = absurd (omega (arith, eight))
+
+pub eight_put : (cells : List Cell) (text : List ℕ) → length cells ≡ 8 → length text ≡ 8
+    → set (set (set (set (set (set (set (set cells 0 (Char (get_or text 0 0))) 1 (Char (get_or text 1 0))) 2 (Char (get_or text 2 0))) 3 (Char (get_or text 3 0))) 4 (Char (get_or text 4 0))) 5 (Char (get_or text 5 0))) 6 (Char (get_or text 6 0))) 7 (Char (get_or text 7 0))
+    ≡ map Char text
+eight_put cells text eight long = eight_set cells _ _ _ _ _ _ _ _ eight ∙ eight_mapped text long
+
+-- ---- a text from a place on
+
+pub length-placed : (from : ℕ) (text : List ℕ) (cells : List Cell) → from + length text ≤ length cells → length (placed from text cells) ≡ length cells
+length-placed from text cells room =
+    let front : length (take from cells) ≡ from = length-take-le from cells (omega (arith, room)) in
+    omega (
+      arith,
+      room,
+      front,
+      length-append (take from cells) (map Char text ++ drop (from + length text) cells),
+      length-append (map Char text) (drop (from + length text) cells),
+      length-map text Char,
+      length-drop (from + length text) cells,
+    )
+
+pub placed_none : (from : ℕ) (cells : List Cell) → placed from [] cells ≡ cells
+placed_none from cells =
+    let same : from + 0 ≡ from = omega arith in
+    ap (λ (n : ℕ). take from cells ++ drop n cells) same ∙ take-append-drop from cells
+
+pub placed_one : (from code : ℕ) (cells : List Cell) → from < length cells → set cells from (Char code) ≡ placed from (code ∷ []) cells
+placed_one from code cells inside =
+    let more : suc from ≡ from + 1 = omega arith in
+    set_split cells from (Char code) inside ∙ ap (λ (n : ℕ). take from cells ++ (Char code ∷ drop n cells)) more
+
+-- a text, and then another behind it
+pub placed_more : (from to : ℕ) (front behind : List ℕ) (cells : List Cell) → from + length front ≡ to → to + length behind ≤ length cells
+    → placed to behind (placed from front cells) ≡ placed from (front ++ behind) cells
+placed_more from to front behind cells there room =
+    let before : List Cell = take from cells in
+    let middle : List Cell = map Char front in
+    let after : List Cell = drop (from + length front) cells in
+    let first : List Cell = before ++ middle in
+    let regrouped : placed from front cells ≡ first ++ after = sym (append_assoc before middle after) in
+    let long : length first ≡ to = omega (arith, there, room, length-append before middle, length-map front Char, length-take-le from cells (omega (arith, there, room))) in
+    let taken : take to (placed from front cells) ≡ first = ap (take to) regrouped ∙ take_at first after to long in
+    let k : ℕ = length behind in
+    let left : drop (to + k) (placed from front cells) ≡ drop k after =
+    ap (drop (to + k)) regrouped ∙ ap (λ (n : ℕ). drop (n + k) (first ++ after)) (sym long) ∙ drop-append-add first after k in
+    let ends : drop k after ≡ drop (from + length (front ++ behind)) cells =
+    let both : from + length front + k ≡ from + length (front ++ behind) = omega (arith, length-append front behind) in
+    drop-drop k (from + length front) cells ∙ ap (λ (n : ℕ). drop n cells) both in
+    ap (λ (cs : List Cell). cs ++ (map Char behind ++ drop (to + k) (placed from front cells))) taken
+    ∙ ap (λ (cs : List Cell). first ++ (map Char behind ++ cs)) (left ∙ ends)
+    ∙ append_assoc before middle (map Char behind ++ drop (from + length (front ++ behind)) cells)
+    ∙ ap (λ (cs : List Cell). before ++ cs) (sym (append_assoc middle (map Char behind) (drop (from + length (front ++ behind)) cells)))
+    ∙ ap (λ (cs : List Cell). before ++ (cs ++ drop (from + length (front ++ behind)) cells)) (sym (map-append Char front behind))
+
+pub placed_step : (from k : ℕ) (text : List ℕ) (cells : List Cell) → k < length text → from + length text ≤ length cells
+    → placed (from + (k + 1)) (drop (k + 1) text) (set cells (from + k) (Char (get_or text k 0))) ≡ placed (from + k) (drop k text) cells
+placed_step from k text cells inside room =
+    let code : ℕ = get_or text k 0 in
+    let behind : List ℕ = drop (k + 1) text in
+    let left = length-drop (k + 1) text in
+    let there : from + k + 1 ≡ from + (k + 1) = omega arith in
+    let more : suc k ≡ k + 1 = omega arith in
+    let split : drop k text ≡ code ∷ behind = drop-cons text k 0 inside ∙ ap (λ (n : ℕ). code ∷ drop n text) more in
+    ap (placed (from + (k + 1)) behind) (placed_one (from + k) code cells (omega (arith, inside, room)))
+    ∙ placed_more (from + k) (from + (k + 1)) (code ∷ []) behind cells there (omega (arith, left, inside, room))
+    ∙ ap (λ (bytes : List ℕ). placed (from + k) bytes cells) (sym split)
+
+-- ---- the characters of a write, for which there are cells up to the last
+
+abbrev pub after_run : Screen → List Cell → ℕ → WriteProgress
+after_run screen cells address = record { screen = record screen { cells = cells }; address = address; after_data = true }
+
+pub run_executed : (text : List ℕ) (write : WriteProgress) → 0 < length text → write.address + length text ≤ length write.screen.cells
+    → all_executed (map Data text) write
+    ≡ after_run write.screen (placed write.address text write.screen.cells) ((write.address + length text) % length write.screen.cells)
+run_executed [] write some room = absurd (omega (arith, some))
+run_executed (code ∷ []) write some room =
+    ap (λ (cs : List Cell). after_run write.screen cs ((write.address + 1) % length write.screen.cells))
+    (placed_one write.address code write.screen.cells (omega (arith, room)))
+run_executed (code ∷ next ∷ more) write some room =
+    let cells : List Cell = write.screen.cells in
+    let at : ℕ = write.address in
+    let n : ℕ = length cells in
+    let behind : List ℕ = next ∷ more in
+    let one : List Cell = placed at (code ∷ []) cells in
+    let inside : at + 1 < n = omega (arith, room) in
+    let same : length one ≡ n = length-placed at (code ∷ []) cells (omega (arith, inside)) in
+    let step : executed (Data code) write ≡ after_run write.screen one (at + 1) =
+    ap (λ (cs : List Cell). after_run write.screen cs ((at + 1) % n)) (placed_one at code cells (omega (arith, inside)))
+    ∙ ap (λ (k : ℕ). after_run write.screen one k) (mod-eq_of_lt inside) in
+    let there : at + 1 + length behind ≡ at + length (code ∷ behind) = omega arith in
+    ap (all_executed (map Data behind)) step
+    ∙ run_executed (next ∷ more) (after_run write.screen one (at + 1)) (omega arith) (omega (arith, same, room))
+    ∙ ap (λ (cs : List Cell). after_run write.screen cs ((at + 1 + length behind) % length one)) (placed_more at (at + 1) (code ∷ []) behind cells refl (omega (arith, room)))
+    ∙ ap (λ (m : ℕ). after_run write.screen (placed at (code ∷ behind) cells) ((at + 1 + length behind) % m)) same
+    ∙ ap (λ (k : ℕ). after_run write.screen (placed at (code ∷ behind) cells) (k % n)) there
+
+pub storable_placed : (from : ℕ) (text : List ℕ) (cells : List Cell) → All (λ byte. is_storable byte ≡ true) text → All IsStorableCell cells → All IsStorableCell (placed from text cells)
+storable_placed from text cells chars each =
+    All-append IsStorableCell (take from cells) (map Char text ++ drop (from + length text) cells) (All-take IsStorableCell from cells each)
+    (All-append IsStorableCell (map Char text) (drop (from + length text) cells) (All-map IsStorableCell Char text chars)
+    (All-drop IsStorableCell (from + length text) cells each))
+
+pub with_placed : (screen : Screen) (from : ℕ) (text : List ℕ) → All (λ byte. is_storable byte ≡ true) text → from + length text ≤ length screen.cells → IsSendable screen
+    → IsSendable (record screen { cells = placed from text screen.cells })
+with_placed screen from text chars room proper =
+    with_cells screen (placed from text screen.cells) (length-placed from text screen.cells room) (storable_placed from text screen.cells chars proper.storable) proper
+
+-- ---- orders one after another
+
+pub executed_behind : (front behind : List Order) (write : WriteProgress) → all_executed (front ++ behind) write ≡ all_executed behind (all_executed front write)
+executed_behind [] behind write = refl
+executed_behind (order ∷ front) behind write = executed_behind front behind (executed order write)
+
+-- ---- the characters ahead of other orders
+
+pub characters_proper : (size : ℕ) (orders : List Order) → All (IsProper size) orders → All (λ byte. is_storable byte ≡ true) (characters_ahead orders)
+characters_proper size [] each = All-nil (λ byte. is_storable byte ≡ true)
+characters_proper size (Data code ∷ orders) each =
+    All-cons (λ byte. is_storable byte ≡ true) code (characters_ahead orders) (All-head (IsProper size) (Data code) orders each)
+    (characters_proper size orders (All-tail (IsProper size) (Data code) orders each))
+characters_proper size (Sf attr ∷ orders) each = All-nil (λ byte. is_storable byte ≡ true)
+characters_proper size (Sba address ∷ orders) each = All-nil (λ byte. is_storable byte ≡ true)
+characters_proper size (Ic ∷ orders) each = All-nil (λ byte. is_storable byte ≡ true)
+characters_proper size (Pt ∷ orders) each = All-nil (λ byte. is_storable byte ≡ true)
+characters_proper size (Ra stop char ∷ orders) each = All-nil (λ byte. is_storable byte ≡ true)
+characters_proper size (Eua stop ∷ orders) each = All-nil (λ byte. is_storable byte ≡ true)
+
+characters_split : (orders : List Order) → map Data (characters_ahead orders) ++ drop (length (characters_ahead orders)) orders ≡ orders
+characters_split [] = refl
+characters_split (Data code ∷ orders) =
+    let more : length (code ∷ characters_ahead orders) ≡ suc (length (characters_ahead orders)) = omega arith in
+    ap (λ (n : ℕ). map Data (code ∷ characters_ahead orders) ++ drop n (Data code ∷ orders)) more
+    ∙ ap (λ (os : List Order). Data code ∷ os) (characters_split orders)
+characters_split (Sf attr ∷ orders) = refl
+characters_split (Sba address ∷ orders) = refl
+characters_split (Ic ∷ orders) = refl
+characters_split (Pt ∷ orders) = refl
+characters_split (Ra stop char ∷ orders) = refl
+characters_split (Eua stop ∷ orders) = refl
+
+pub run_first : (text : List ℕ) (orders left : List Order) (start now : WriteProgress) → text ≡ characters_ahead orders → left ≡ drop (length text) orders
+    → now ≡ all_executed (map Data text) start → all_executed left now ≡ all_executed orders start
+run_first text orders left start now ahead behind is =
+    let whole : map Data text ++ left ≡ orders =
+    ap (λ (os : List Order). map Data text ++ os) behind
+    ∙ ap (λ (cs : List ℕ). map Data cs ++ drop (length cs) orders) ahead
+    ∙ characters_split orders in
+    ap (all_executed left) is ∙ sym (executed_behind (map Data text) left start) ∙ ap (λ (os : List Order). all_executed os start) whole
+
+pub run_then : (text front behind : List ℕ) (start now : WriteProgress) → front ++ behind ≡ text → now ≡ all_executed (map Data front) start
+    → all_executed (map Data behind) now ≡ all_executed (map Data text) start
+run_then text front behind start now whole is =
+    ap (all_executed (map Data behind)) is
+    ∙ sym (executed_behind (map Data front) (map Data behind) start)
+    ∙ ap (λ (os : List Order). all_executed os start) (sym (map-append Data front behind) ∙ ap (map Data) whole)

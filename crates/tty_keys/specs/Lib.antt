@@ -1,0 +1,4 @@
+pub mod Table
+pub mod Forms
+pub mod Reading
+pub mod Laws

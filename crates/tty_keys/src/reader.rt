@@ -1,0 +1,99 @@
+//! The reader: bytes in, keystrokes out.
+ghost use Rattle.std.specs.Prelude.{◌≡◌, ◌==◌, ◌≤◌, [], length};
+ghost use Rattle.tty_keys.specs.Table.{meaning};
+ghost use Rattle.tty_keys.specs.Reading.{grown, read_byte, after_pause, keystrokes_of};
+
+use crate::forms::{completes, goes_on};
+use crate::keystroke::{Keystroke, Pushed};
+use crate::table::meaning;
+use arrayvec::ArrayVec;
+use std::marker::Model;
+
+/// The bytes that are kept of a sequence that isn't complete. Each sequence of the table is shorter.
+const MOST_KEPT: usize = 8;
+
+/// Reads keystrokes from bytes, cut anywhere. Contracts see it as the bytes since the last complete
+/// keystroke, the first 8 of them.
+#[derive(Debug, Drop)]
+pub struct KeyReader {
+    kept: ArrayVec<u8, MOST_KEPT>,
+}
+
+impl Model for KeyReader {
+    ghost use Rattle.std.specs.Prelude.{ℕ, List};
+
+    ghost Value = { List ℕ };
+
+    ghost view = { λ reader. reader.kept.items };
+}
+
+impl KeyReader {
+    /// A reader before the first byte.
+    pub fn new() -> KeyReader
+        ensures { result ≡ [] }
+    {
+        KeyReader {
+            kept: ArrayVec::new(),
+        }
+    }
+
+    /// Whether no keystroke has begun: a pause means nothing then.
+    pub fn is_empty(&self) -> bool
+        ensures { result ≡ (length self.now == 0) }
+    {
+        self.kept.is_empty()
+    }
+
+    /// Takes the next byte, and says which keystroke ends at it, if one does.
+    pub fn push(&mut self, byte: u8) -> Pushed
+        ensures keystrokes { keystrokes_of result ≡ (read_byte self.old byte).keystrokes }
+        ensures kept { self.new ≡ (read_byte self.old byte).kept }
+    {
+        let interrupted = !goes_on(&self.kept, byte);
+        if interrupted {
+            self.kept.clear();
+        }
+        let is_last = completes(&self.kept, byte);
+        self.keep(byte);
+        let keystroke = if is_last { Some(self.take()) } else { None };
+        Pushed {
+            interrupted,
+            keystroke,
+        }
+    }
+
+    /// Keeps a byte, if there is room.
+    fn keep(&mut self, byte: u8)
+        ensures { self.new ≡ grown self.old byte }
+    {
+        if !self.kept.is_full() {
+            self.kept.push(byte);
+        }
+    }
+
+    /// The keystroke of the bytes, which then are gone.
+    fn take(&mut self) -> Keystroke
+        ensures keystroke { result ≡ meaning self.old }
+        ensures kept { self.new ≡ [] }
+    {
+        let keystroke = meaning(&self.kept);
+        self.kept.clear();
+        keystroke
+    }
+
+    /// No byte arrived for a while: this ends a lone ESC, and any sequence or character that isn't
+    /// complete, by a [`Keystroke::Unknown`]. `None` if no keystroke has begun.
+    ///
+    /// The caller decides how long a pause is. A slow line may deliver a sequence in pieces, so a
+    /// long one is safer; since a lone ESC means nothing, nobody waits for its end.
+    pub fn pause(&mut self) -> Option<Keystroke>
+        ensures keystroke { result ≡ after_pause self.old }
+        ensures kept { self.new ≡ [] }
+    {
+        if self.kept.is_empty() {
+            return None;
+        }
+        self.kept.clear();
+        Some(Keystroke::Unknown)
+    }
+}

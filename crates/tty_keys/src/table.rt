@@ -1,0 +1,177 @@
+//! What the bytes of a whole keystroke mean.
+ghost use Rattle.std.specs.Prelude.{◌≡◌, ◌<◌, IfSome, bytes_eq, length, position};
+ghost use Rattle.std.specs.List.{list_any};
+ghost use Rattle.std.specs.Str.{chars};
+ghost use Rattle.tty_keys.specs.Table.{control, character, escaped, first_of, meaning, other_key, pa_key, pf_key};
+
+use crate::forms::ESC;
+use crate::keystroke::Keystroke;
+use codes3270::{PaNo, PfNo};
+use keyboard::Key;
+use std::str;
+
+// The sequences of each key, without their ESC.
+
+static PF_SEQUENCES: [&[&str]; 24] = [
+    &["OP", "[11~", "[[A"],
+    &["OQ", "[12~", "[[B"],
+    &["OR", "[13~", "[[C"],
+    &["OS", "[14~", "[[D"],
+    &["[15~", "[[E"],
+    &["[17~"],
+    &["[18~"],
+    &["[19~"],
+    &["[20~"],
+    &["[21~"],
+    &["[23~"],
+    &["[24~"],
+    &["[1;2P", "[11;2~", "[25~", "!"],
+    &["[1;2Q", "[12;2~", "[26~", "@"],
+    &["[1;2R", "[13;2~", "[28~", "#"],
+    &["[1;2S", "[14;2~", "[29~", "$"],
+    &["[15;2~", "[31~", "%"],
+    &["[17;2~", "[32~", "^"],
+    &["[18;2~", "[33~", "&"],
+    &["[19;2~", "[34~", "*"],
+    &["[20;2~", "("],
+    &["[21;2~", ")"],
+    &["[23;2~", "_"],
+    &["[24;2~", "+"],
+];
+
+static PA_SEQUENCES: [&[&str]; 3] = [&["1"], &["2"], &["3"]];
+
+static OTHER_SEQUENCES: [&[&str]; 8] = [
+    &["[A", "OA"],
+    &["[B", "OB"],
+    &["[C", "OC"],
+    &["[D", "OD"],
+    &["[H", "OH", "[1~", "[7~"],
+    &["[2~"],
+    &["[3~"],
+    &["[Z", "\t"],
+];
+
+/// The keys of `OTHER_SEQUENCES`.
+const OTHER_KEYS: [Key; 8] = [
+    Key::CursorUp,
+    Key::CursorDown,
+    Key::CursorRight,
+    Key::CursorLeft,
+    Key::Home,
+    Key::Insert,
+    Key::Delete,
+    Key::BackTab,
+];
+
+/// Whether a sequence is one of these.
+fn is_among(texts: &[&str], sequence: &[u8]) -> bool
+    ensures { result ≡ list_any (λ text. bytes_eq text.now sequence.now) texts.now }
+{
+    texts.iter().any(|text| text.as_bytes() == sequence)
+}
+
+/// The index of the key with a sequence.
+fn place_of(keys: &[&[&str]], sequence: &[u8]) -> Option<usize>
+    ensures place { result ≡ position (λ texts. list_any (λ text. bytes_eq text.now sequence.now) texts.now) keys.now }
+    ensures in_range { IfSome result (λ place. place < length keys.now) }
+{
+    keys.iter().position(|texts| is_among(texts, sequence))
+}
+
+/// The program function key with a sequence.
+fn pf_key(sequence: &[u8]) -> Option<Key>
+    ensures { result ≡ pf_key sequence.now }
+{
+    let place = place_of(&PF_SEQUENCES, sequence)?;
+    let number = PfNo::new(place as u8 + 1)?;
+    Some(Key::Pf(number))
+}
+
+/// The program attention key with a sequence.
+fn pa_key(sequence: &[u8]) -> Option<Key>
+    ensures { result ≡ pa_key sequence.now }
+{
+    let place = place_of(&PA_SEQUENCES, sequence)?;
+    let number = PaNo::new(place as u8 + 1)?;
+    Some(Key::Pa(number))
+}
+
+/// The key of `OTHER_KEYS` with a sequence.
+fn other_key(sequence: &[u8]) -> Option<Key>
+    ensures { result ≡ other_key sequence.now }
+{
+    let place = place_of(&OTHER_SEQUENCES, sequence)?;
+    Some(OTHER_KEYS[place])
+}
+
+/// The keystroke of the bytes after ESC.
+#[tactic(auto, unfolding(crate::specs::Table::escaped))]
+fn escaped(sequence: &[u8]) -> Keystroke
+    ensures { result ≡ escaped sequence.now }
+{
+    let found = pf_key(sequence)
+        .or_else(|| pa_key(sequence))
+        .or_else(|| other_key(sequence));
+    let Some(key) = found else {
+        return Keystroke::Unknown;
+    };
+    Keystroke::Key(key)
+}
+
+/// The keystroke of a control character.
+fn control(byte: u8) -> Keystroke
+    ensures { result ≡ control byte }
+{
+    match byte {
+        0x03 => Keystroke::Key(Key::Clear),
+        0x05 => Keystroke::Key(Key::EraseEof),
+        0x08 | 0x7F => Keystroke::Key(Key::Backspace),
+        0x09 => Keystroke::Key(Key::Tab),
+        0x0A => Keystroke::Key(Key::NewLine),
+        0x0C => Keystroke::Redraw,
+        0x0D => Keystroke::Key(Key::Enter),
+        0x12 => Keystroke::Key(Key::Reset),
+        0x15 => Keystroke::Key(Key::EraseInput),
+        0x1D => Keystroke::Quit,
+        _ => Keystroke::Unknown,
+    }
+}
+
+/// The first character of a text.
+fn first_of(text: &str) -> Keystroke
+    ensures { result ≡ first_of (chars text.now) }
+{
+    match text.chars().next() {
+        Some(letter) => Keystroke::Key(Key::Char(letter)),
+        None => Keystroke::Unknown,
+    }
+}
+
+/// The character that bytes spell in UTF-8.
+#[tactic(auto, using(crate::proofs::Characters::well_formed, crate::proofs::Characters::ill_formed))]
+fn character(bytes: &[u8]) -> Keystroke
+    ensures { result ≡ character bytes.now }
+{
+    match str::from_utf8(bytes) {
+        Ok(text) => first_of(text),
+        Err(_) => Keystroke::Unknown,
+    }
+}
+
+/// The keystroke of the bytes of a whole one.
+pub(crate) fn meaning(bytes: &[u8]) -> Keystroke
+    ensures { result ≡ meaning bytes.now }
+{
+    match bytes {
+        [] => Keystroke::Unknown,
+        [ESC, sequence @ ..] => escaped(sequence),
+        [first, ..] => {
+            if first.is_ascii_control() {
+                control(*first)
+            } else {
+                character(bytes)
+            }
+        }
+    }
+}

@@ -1,0 +1,11 @@
+pub mod Looks
+pub mod Pictures
+pub mod StatusRow
+pub mod Painting
+pub mod Tty
+pub mod Spelling
+pub mod Reading
+pub mod Changes
+pub mod Drawn
+pub mod TtyRoom
+pub mod Laws

@@ -1,0 +1,34 @@
+//! Draws a 3270 screen and a status row on an ANSI tty (xterm, tmux, the Linux console), as bytes.
+//!
+//! ```text
+//! let mut drawing = Drawing::new();
+//! check_room(screen.model().alternate(), rows, columns)?;
+//! let picture = Picture::new(alloc, &screen, keyboard, &status)?;
+//! drawing.draw(picture, &mut out)?;
+//! ```
+//!
+//! A [`Picture`] is what an operator is shown of a screen, a keyboard and a [`Status`]: a list of cells, each a character and a
+//! [`Look`]. A [`Drawing`] remembers the picture that the tty shows, and [`Drawing::draw`] appends the bytes that turn it into
+//! the next picture: of each row only the cells that changed are written. [`Drawing::forget`] has the next call draw all.
+//!
+//! `specs/` has the definitions: `Tty` says what a tty does with the control functions that are used here (ECMA-48), `Spelling`
+//! how they are spelt, `Painting` what a picture shows, `StatusRow` its last row, and `Drawn` when a tty shows a
+//! picture. `Changes` is the list of what is written.
+#![tactic(auto)]
+
+mod drawing;
+pub mod laws;
+mod look;
+mod output;
+mod picture;
+mod place;
+mod room;
+mod status;
+
+pub use drawing::Drawing;
+pub use look::Look;
+pub use output::put_bell;
+pub use picture::{Picture, PictureCell};
+pub use place::Place;
+pub use room::{TooSmall, check_room};
+pub use status::Status;

@@ -1,0 +1,44 @@
+-- What is asked over bytes is what is asked over the messages that they represent.
+use Rattle.std.proofs.Common.{◌≡◌, ℕ, Bool, true, false, None, Some, refl, ap, sym, subst, ◌∙◌, if◌then◌else◌}
+use Rattle.panels.specs.Panel.{Panels}
+use Rattle.host_core.specs.Application.{Application, IsApplication, application_of}
+use Rattle.host_core.specs.Laws.{PanelsAreShown}
+use Rattle.host_core.specs.Questions.{question_in, question_of}
+use Rattle.host_core.specs.Session.{Conn}
+use Rattle.host_core.specs.State.{Service, service_at, session_at}
+use Rattle.host_core.specs.declared.question.Question.{Question}
+use Rattle.world3270.specs.Always.{AlwaysOf}
+use Rattle.world3270.specs.Asked.{AskedIsSeen, AskedIsSeenOverBytes, IsSeen, asked_by}
+use Rattle.world3270.specs.ByteWorld.{is_there}
+use Rattle.world3270.specs.Link.{Link}
+use Rattle.world3270.specs.Refines.{Begin, after}
+use Rattle.world3270.specs.Seen.{SeenLink}
+use Rattle.world3270.specs.Standing.{conn_of, link_of}
+use Rattle.world3270.specs.Stands.{LinkStands}
+use Rattle.world3270.specs.World.{World}
+use Rattle.world3270.proofs.SeenStands.{same_seen}
+
+-- an open number has a question where its connection has one; no other number has any
+same_question : (app : Application) (session : ℕ) (service : Service) (here : Bool) (conn : Conn) (question : Question) → is_there service ≡ here → (here ≡ true → conn_of service ≡ conn)
+    → question_of app session service ≡ Some question → (if here then question_in app session conn else None) ≡ Some question
+same_question app session Service.Free here conn question there same asked = absurd (cc)
+same_question app session (Service.Closed cause) here conn question there same asked = absurd (cc)
+same_question app session (Service.Open rest held) true conn question there same asked = ap (λ (c : Conn). question_in app session c) (sym (same refl)) ∙ asked
+same_question app session (Service.Open rest held) false conn question there same asked = absurd (cc)
+
+pub asked_over_bytes : PanelsAreShown → AlwaysOf AskedIsSeen → AskedIsSeenOverBytes
+asked_over_bytes shown asked bytes is number question terminal asked_now terminal_is =
+    let begin : Begin = is.begin in
+    let app : Application = application_of begin.panels in
+    let is_app : IsApplication app = shown begin.panels is.is_begin.panels.otherwise is.is_begin.panels.laid_out is.is_begin.panels.apart in
+    let world : World = after begin is.events in
+    let link : Link = world.link number in
+    let stands : LinkStands (link_of number bytes) link = is.reached.stands.links number in
+    let session = session_at number bytes.host in
+    let question_is : question_of app session (service_at number bytes.host) ≡ Some question =
+    ap (λ (p : Panels). question_of (application_of p) session (service_at number bytes.host)) (sym is.reached.panels) ∙ asked_now in
+    let over_messages : asked_by app session link ≡ Some question =
+    same_question app session (service_at number bytes.host) link.host_here link.host question stands.host_here (λ here. (stands.host here).host) question_is in
+    let seen_there = sym (ap (λ (l : SeenLink). l.terminal) (same_seen bytes world is.reached.stands number)) ∙ terminal_is in
+    subst (λ (p : Panels). IsSeen ((application_of p).fields question.panel) question terminal) (sym is.reached.panels)
+    (asked app begin.pool begin.models is.events is_app is.is_begin.pool is.is_begin.few is.reached.are_events number session question terminal over_messages seen_there)

@@ -1,0 +1,73 @@
+-- What the application is asked is what the operator sees (our profile).
+use Rattle.std.specs.Prelude.{◌≡◌, ◌+◌, ℕ, List, Option, Some, None, slice_get, if◌then◌else◌}
+use Rattle.datastream.specs.Fields.{Field, fields}
+use Rattle.datastream.specs.Inbound.{without_nulls}
+use Rattle.datastream.specs.Screen.{Screen}
+use Rattle.panels.specs.Values.{value_of}
+use Rattle.panels.specs.declared.panel.Field.{Field as PanelField}
+use Rattle.host_core.specs.Application.{Application, application_of}
+use Rattle.host_core.specs.Questions.{question_in, question_of}
+use Rattle.host_core.specs.State.{service_at, session_at}
+use Rattle.host_core.specs.declared.question.Question.{Question}
+use Rattle.world3270.specs.ByteWorld.{ByteWorld}
+use Rattle.world3270.specs.Link.{Link}
+use Rattle.world3270.specs.Refines.{IsReached}
+use Rattle.world3270.specs.Seen.{TerminalSeen, seen_link}
+use Rattle.world3270.specs.SeenBytes.{seen_connection}
+use Rattle.world3270.specs.World.{World}
+
+-- ---- a text of a question is on the screen
+
+-- The screen has a field whose attribute is right before the first cell of the panel's field; and without nulls its text is this one.
+pub record StandsAt (field : PanelField) (text : List ℕ) (screen : Screen) : Type 0 where
+  pub index : ℕ
+  pub on_screen : Field
+  pub listed : slice_get (fields screen.cells) index ≡ Some on_screen
+  pub place : on_screen.place + 1 ≡ field.extent.first
+  pub text_is : without_nulls on_screen.text ≡ text
+
+-- The panel has a field with this number, and this is its text on the screen.
+pub record StandsIn (panel : List PanelField) (number : ℕ) (text : List ℕ) (screen : Screen) : Type 0 where
+  pub index : ℕ
+  pub field : PanelField
+  pub listed : slice_get panel index ≡ Some field
+  pub number_is : field.number ≡ number
+  pub stands : StandsAt field text screen
+
+-- ---- a question
+
+-- A question has the key that the operator pressed, the LU that the terminal is bound to, the place of the cursor, and no text of a
+-- field but the one that the screen shows. `panel`: the fields of the panel that it names.
+pub record IsSeen (panel : List PanelField) (question : Question) (terminal : TerminalSeen) : Type 0 where
+  pub key : question.aid ≡ terminal.screen.aid
+  pub lu : terminal.bound ≡ Some question.lu
+  pub cursor : question.cursor ≡ terminal.screen.cursor
+  pub texts : (number : ℕ) (text : List ℕ) → value_of question.values number ≡ Some text → StandsIn panel number text terminal.screen
+
+-- ---- of a world over messages
+
+-- the question that is open at a connection, if the host is there; sessions are counted over bytes alone
+abbrev pub asked_by : Application → ℕ → Link → Option Question
+asked_by app session link = if link.host_here then question_in app session link.host else None
+
+-- On each connection with both ends attached, lost or not, what is asked is what that terminal shows.
+abbrev pub AskedIsSeen : Application → World → Type 0
+AskedIsSeen app world = (number session : ℕ) (question : Question) (terminal : TerminalSeen)
+    → asked_by app session (world.link number) ≡ Some question → (seen_link (world.link number)).terminal ≡ Some terminal
+    → IsSeen (app.fields question.panel) question terminal
+
+-- ---- of a world over bytes
+
+-- the question that the host answers if it is asked for one
+abbrev pub asked_at : ℕ → ByteWorld → Option Question
+asked_at number world = question_of (application_of world.host.panels) (session_at number world.host) (service_at number world.host)
+
+-- what is asked is what is seen, on each connection
+abbrev pub WhatIsAskedIsSeen : ByteWorld → Type 0
+WhatIsAskedIsSeen world = (number : ℕ) (question : Question) (terminal : TerminalSeen)
+    → asked_at number world ≡ Some question → (seen_connection number world).terminal ≡ Some terminal
+    → IsSeen ((application_of world.host.panels).fields question.panel) question terminal
+
+-- It is so of each world whose bytes represent a world over messages.
+abbrev pub AskedIsSeenOverBytes : Type 0
+AskedIsSeenOverBytes = (bytes : ByteWorld) → IsReached bytes → WhatIsAskedIsSeen bytes
