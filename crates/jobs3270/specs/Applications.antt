@@ -1,18 +1,18 @@
 -- What an application is sent for a question, and what becomes of its reply (our profile).
-use Rattle.std.specs.Prelude.{ℕ, ◌-◌, Bool, true, false, not, nat_le, List, [], ◌∷◌, ◌++◌, take, codes, chars, string_bytes, Option, Some, None, is_some, option_map, unwrap_or, ◌≡◌, ⊤}
+use Rattle.std.specs.Prelude.{ℕ, ◌-◌, Bool, true, false, not, nat_le, nat_lt, List, [], ◌∷◌, ◌++◌, take, codes, chars, string_bytes, Option, Some, None, is_some, option_map, unwrap_or, if◌then◌else◌, ◌≡◌, ⊤}
 use Rattle.std.specs.BTreeMap.{insert_entry}
 use Rattle.std.specs.Ordering.{nat_cmp}
 use Rattle.std.specs.Fmt.{decimal}
 use Rattle.std.specs.Option.{option_and_then, option_map_or}
-use Rattle.std.specs.List.{list_any}
+use Rattle.std.specs.List.{filter_map, list_any}
 use Rattle.codes3270.specs.CodePage.{character_of, code_of}
 use Rattle.codes3270.specs.declared.attention.Aid.{Aid}
 use Rattle.codes3270.specs.declared.attention.Aid.TheVariants as aid
 use Rattle.jobs3270.specs.declared.application_fault.Absence.{Absence}
 use Rattle.jobs3270.specs.declared.application_fault.ApplicationFault.{ApplicationFault}
 use Rattle.jobs3270.specs.declared.application_fault.ApplicationFault.TheVariants as why
-use Rattle.jobs3270.specs.declared.application_fault.Told.{Told}
-use Rattle.jobs3270.specs.declared.application_fault.Told.TheVariants as told
+use Rattle.jobs3270.specs.declared.application_fault.FailureMessage.{FailureMessage}
+use Rattle.jobs3270.specs.declared.application_fault.FailureMessage.TheVariants as failure
 use Rattle.jobs3270.specs.declared.application_reply.AnswerFault.{AnswerFault}
 use Rattle.jobs3270.specs.declared.application_reply.AnswerFault.TheVariants as flaw
 use Rattle.application_http.specs.Replies.{field_text}
@@ -22,13 +22,14 @@ use Rattle.host_core.specs.declared.question.Answer.{Answer}
 use Rattle.application_http.specs.declared.fault.ReplyFault.{ReplyFault}
 use Rattle.application_http.specs.declared.fault.ReplyFault.TheVariants as reply
 use Rattle.panels.specs.Characters.{codes_of}
+use Rattle.panels.specs.MessageText.{message_of}
 use Rattle.panels.specs.Names.{field_named, panel_named}
 use Rattle.panels.specs.Panel.{Panels}
 use Rattle.panels.specs.Screen.{Values}
 
 -- ---- what it is sent
 
--- what stands for a byte without a character (Unicode, REPLACEMENT CHARACTER)
+-- the character for a byte that has none (Unicode, REPLACEMENT CHARACTER)
 abbrev pub no_character : ℕ
 no_character = 65533
 
@@ -85,12 +86,12 @@ IsTextFault panels text (flaw.UnknownField name) = (string_bytes name ≡ text.0
 IsTextFault panels text (flaw.FieldWithoutCode name) = (string_bytes name ≡ text.0) × (lacks_code text.1 ≡ true)
 IsTextFault panels text _ = ⊥
 
--- a name is given, and it stands for nothing
+-- a name is given, and nothing has it
 abbrev pub IsUnknown : (of : List ℕ → Option ℕ) → Option (List ℕ) → Type 0
 IsUnknown of None = ⊥
 IsUnknown of (Some name) = of name ≡ None
 
--- what a name stands for, where one is given
+-- the number of what has this name, if a name is given
 abbrev pub IsNumberOf : (of : List ℕ → Option ℕ) → (name : Option (List ℕ)) → (number : Option ℕ) → Type 0
 IsNumberOf of None number = number ≡ None
 IsNumberOf of (Some name) number = (of name ≡ number) × (is_some number ≡ true)
@@ -103,7 +104,19 @@ panel_number panels name = panel_named name panels
 abbrev pub field_number : Panels → List ℕ → Option ℕ
 field_number panels name = option_map (λ field. field.number) (field_named name panels)
 
--- why a message isn't told; want of memory says nothing of it
+-- the text of a reply's message; a reply without one has no text
+abbrev pub message_in : Reply → List ℕ
+message_in reply = unwrap_or (option_map string_bytes reply.message) []
+
+-- a character as one byte, if it is one of U+0000 to U+00FF
+abbrev pub as_byte : ℕ → Option ℕ
+as_byte character = if nat_lt character 256 then Some character else None
+
+-- the message's characters as bytes; code page 037 has no characters beyond U+00FF
+abbrev pub message_bytes : List ℕ → List ℕ
+message_bytes text = filter_map as_byte (chars text)
+
+-- why a message isn't shown; want of memory says nothing of it
 abbrev pub IsMessageFault : List ℕ → AnswerFault → Type 0
 IsMessageFault text flaw.Memory = ⊤
 IsMessageFault text flaw.MessageWithoutCode = lacks_code text ≡ true
@@ -113,7 +126,8 @@ IsMessageFault text _ = ⊥
 pub record IsAnswerFor (panels : Panels) (reply : Reply) (answer : Answer) : Type 0 where
   pub panel : IsNumberOf (panel_number panels) (option_map string_bytes reply.panel) answer.panel
   pub cursor : IsNumberOf (field_number panels) (option_map string_bytes reply.cursor) answer.cursor
-  pub coded : lacks_code (unwrap_or (option_map string_bytes reply.message) []) ≡ false
+  pub coded : lacks_code (message_in reply) ≡ false
+  pub message : answer.message.characters ≡ message_of (message_bytes (message_in reply))
   pub values : answer.values ≡ with_texts panels reply.fields.items []
 
 -- ---- when
@@ -122,25 +136,25 @@ pub record IsAnswerFor (panels : Panels) (reply : Reply) (answer : Answer) : Typ
 abbrev pub is_reply_late : (began now most : ℕ) → Bool
 is_reply_late began now most = nat_le most (now - began)
 
--- ---- what the operator is told
+-- ---- what the operator sees of a failure
 
-abbrev pub message_for : Told → List ℕ
-message_for told.NotAvailable = codes "APPLICATION NOT AVAILABLE"
-message_for told.Wrong = codes "APPLICATION ERROR"
+abbrev pub message_text : FailureMessage → List ℕ
+message_text failure.NotAvailable = codes "APPLICATION NOT AVAILABLE"
+message_text failure.Error = codes "APPLICATION ERROR"
 
--- a reply that breaks off is no application, every other fault of it is its own
-abbrev pub told_of_reply : ReplyFault → Told
-told_of_reply reply.Memory = told.NotAvailable
-told_of_reply reply.CutShort = told.NotAvailable
-told_of_reply _ = told.Wrong
+-- A reply that breaks off means that the application isn't there; every other fault is in the reply.
+abbrev pub message_for_reply : ReplyFault → FailureMessage
+message_for_reply reply.Memory = failure.NotAvailable
+message_for_reply reply.CutShort = failure.NotAvailable
+message_for_reply _ = failure.Error
 
-abbrev pub told_of_answer : AnswerFault → Told
-told_of_answer flaw.Memory = told.NotAvailable
-told_of_answer _ = told.Wrong
+abbrev pub message_for_answer : AnswerFault → FailureMessage
+message_for_answer flaw.Memory = failure.NotAvailable
+message_for_answer _ = failure.Error
 
--- who left is told nothing
-abbrev pub told_of : ApplicationFault → Option Told
-told_of (why.Absent absence) = Some told.NotAvailable
-told_of (why.Reply fault) = Some (told_of_reply fault)
-told_of (why.Answer fault) = Some (told_of_answer fault)
-told_of why.Left = None
+-- An operator who left sees nothing.
+abbrev pub message_for : ApplicationFault → Option FailureMessage
+message_for (why.Absent absence) = Some failure.NotAvailable
+message_for (why.Reply fault) = Some (message_for_reply fault)
+message_for (why.Answer fault) = Some (message_for_answer fault)
+message_for why.Left = None

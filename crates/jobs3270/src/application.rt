@@ -220,7 +220,7 @@ impl Application {
         }
     }
 
-    /// Reports a fault, and tells the operator of it.
+    /// Reports a fault, and shows the operator its message.
     fn fail<W: Watcher>(
         &self,
         server: &mut Server,
@@ -232,9 +232,9 @@ impl Application {
         requires { conn < most_connections }
     {
         server.report_unanswered(conn, fault, watcher)?;
-        match fault.told() {
-            Some(told) => {
-                let answer = telling(self.alloc, told.message());
+        match fault.message() {
+            Some(message) => {
+                let answer = telling(self.alloc, message.text());
                 self.answer(server, conn, ticket, &answer, watcher)
             }
             None => Ok(false),

@@ -1,6 +1,6 @@
-//! Why a question to an application has no answer: what the operator is told, and what the log says.
+//! Why a question to an application has no answer: what the operator sees, and what the log says.
 ghost use Rattle.std.specs.Prelude.{◌≡◌};
-ghost use Rattle.jobs3270.specs.Applications.{message_for, told_of, told_of_answer, told_of_reply};
+ghost use Rattle.jobs3270.specs.Applications.{message_for, message_for_answer, message_for_reply, message_text};
 
 use crate::application_reply::AnswerFault;
 use crate::notice::{Client, put_client};
@@ -36,56 +36,56 @@ pub enum ApplicationFault {
     Left,
 }
 
-/// What an operator is told.
+/// The message on an operator's screen after a failure.
 #[derive(Clone, Copy, PartialEq, Eq)]
-pub enum Told {
+pub enum FailureMessage {
     /// The application isn't there.
     NotAvailable,
     /// The application's reply is wrong.
-    Wrong,
+    Error,
 }
 
-impl Told {
-    /// The message on the operator's screen.
-    pub fn message(self) -> &'static str
-        ensures { result.now ≡ message_for self }
+impl FailureMessage {
+    /// Its text.
+    pub fn text(self) -> &'static str
+        ensures { result.now ≡ message_text self }
     {
         match self {
-            Told::NotAvailable => "APPLICATION NOT AVAILABLE",
-            Told::Wrong => "APPLICATION ERROR",
+            FailureMessage::NotAvailable => "APPLICATION NOT AVAILABLE",
+            FailureMessage::Error => "APPLICATION ERROR",
         }
     }
 }
 
-/// What an operator is told of a reply that is none.
-fn told_of_reply(fault: &ReplyFault) -> Told
-    ensures { result ≡ told_of_reply fault.now }
+/// The message after a reply that is none.
+fn message_for_reply(fault: &ReplyFault) -> FailureMessage
+    ensures { result ≡ message_for_reply fault.now }
 {
     match fault {
-        ReplyFault::Memory | ReplyFault::CutShort => Told::NotAvailable,
-        _ => Told::Wrong,
+        ReplyFault::Memory | ReplyFault::CutShort => FailureMessage::NotAvailable,
+        _ => FailureMessage::Error,
     }
 }
 
-/// What an operator is told of a reply that the host can't do.
-fn told_of_answer(fault: &AnswerFault) -> Told
-    ensures { result ≡ told_of_answer fault.now }
+/// The message after a reply that the host can't do.
+fn message_for_answer(fault: &AnswerFault) -> FailureMessage
+    ensures { result ≡ message_for_answer fault.now }
 {
     match fault {
-        AnswerFault::Memory => Told::NotAvailable,
-        _ => Told::Wrong,
+        AnswerFault::Memory => FailureMessage::NotAvailable,
+        _ => FailureMessage::Error,
     }
 }
 
 impl ApplicationFault {
-    /// What the operator is told; None if nobody is left to be told.
-    pub fn told(&self) -> Option<Told>
-        ensures { result ≡ told_of self.now }
+    /// The message that the operator sees; None if the operator has left.
+    pub fn message(&self) -> Option<FailureMessage>
+        ensures { result ≡ message_for self.now }
     {
         match self {
-            ApplicationFault::Absent(_) => Some(Told::NotAvailable),
-            ApplicationFault::Reply(fault) => Some(told_of_reply(fault)),
-            ApplicationFault::Answer(fault) => Some(told_of_answer(fault)),
+            ApplicationFault::Absent(_) => Some(FailureMessage::NotAvailable),
+            ApplicationFault::Reply(fault) => Some(message_for_reply(fault)),
+            ApplicationFault::Answer(fault) => Some(message_for_answer(fault)),
             ApplicationFault::Left => None,
         }
     }
@@ -112,7 +112,7 @@ fn put_key(text: &mut String, key: &str) -> Result<(), AllocError> {
     text.push('"')
 }
 
-/// Adds a reason and the key that it is about.
+/// Adds a reason and the key that has the fault.
 fn put_reason_at(text: &mut String, reason: &str, key: &str) -> Result<(), AllocError> {
     put_reason(text, reason)?;
     put_key(text, key)
@@ -174,9 +174,9 @@ fn put_answer_fault(text: &mut String, fault: &AnswerFault) -> Result<(), AllocE
 
 /// What happened, as a word.
 fn event_word(fault: &ApplicationFault) -> &'static str {
-    match fault.told() {
-        Some(Told::NotAvailable) => "application-not-available",
-        Some(Told::Wrong) => "application-error",
+    match fault.message() {
+        Some(FailureMessage::NotAvailable) => "application-not-available",
+        Some(FailureMessage::Error) => "application-error",
         None => "application-reply-dropped",
     }
 }

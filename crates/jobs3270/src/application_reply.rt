@@ -5,7 +5,8 @@ ghost use Rattle.std.specs.Ordering.{nat_cmp};
 ghost use Rattle.std.specs.Prelude.{◌≡◌, [], IfErr, IfOk, OnOk, chars, false, option_map, string_bytes, take, unwrap_or};
 ghost use Rattle.application_http.specs.Replies.{field_text};
 ghost use Rattle.panels.specs.Characters.{codes_of};
-ghost use Rattle.jobs3270.specs.Applications.{IsAnswerFor, IsGoodText, IsMessageFault, IsNumberOf, IsTextFault, IsUnknown, field_number, key_name, lacks_code, most_characters, panel_number, shown_character, value_by, with_text, with_texts};
+ghost use Rattle.panels.specs.MessageText.{message_of};
+ghost use Rattle.jobs3270.specs.Applications.{IsAnswerFor, IsGoodText, IsMessageFault, IsNumberOf, IsTextFault, IsUnknown, as_byte, field_number, key_name, lacks_code, message_bytes, most_characters, panel_number, shown_character, value_by, with_text, with_texts};
 ghost use Rattle.jobs3270.specs.declared.application_reply.AnswerFault.TheVariants as flaw;
 
 use application_http::{FieldText, Reply};
@@ -17,7 +18,7 @@ use std::alloc::{AllocError, Global};
 /// The most characters of a field's text: as many as the largest screen has cells, that of model 5.
 const MOST_CHARACTERS: usize = 3_564;
 
-/// What stands for a byte that is no character of code page 037 (Unicode, REPLACEMENT CHARACTER).
+/// The character for a byte that code page 037 has none for (Unicode, REPLACEMENT CHARACTER).
 const NO_CHARACTER: char = '\u{FFFD}';
 
 /// Why the host can't do what a reply says.
@@ -170,11 +171,10 @@ fn set_value(
     let Some(found) = panels.field_named(name) else {
         return Err(AnswerFault::UnknownField(String::from_str(alloc, name)?));
     };
-    let text = field.text.as_str();
-    if lacks_code(text) {
+    if lacks_code(field.text.as_str()) {
         return Err(AnswerFault::FieldWithoutCode(String::from_str(alloc, name)?));
     }
-    set_text(alloc, found.number, text, values)?;
+    set_text(alloc, found.number, field.text.as_str(), values)?;
     Ok(())
 }
 
@@ -221,23 +221,33 @@ fn cursor_of(panels: &PanelSet, name: Option<&str>) -> Result<Option<usize>, Ans
     }
 }
 
-/// The characters of a text from U+0000 to U+00FF.
-fn latin1_of(alloc: Global, text: &str) -> Result<Vec<u8>, AllocError> {
+/// A character as one byte, if it is one of U+0000 to U+00FF.
+fn as_byte(character: char) -> Option<u8>
+    ensures { result ≡ as_byte character }
+{
+    u8::try_from(character).ok()
+}
+
+/// The characters of a message as bytes; those beyond U+00FF, which have no code, are left out.
+fn message_bytes(alloc: Global, text: &str) -> Result<Vec<u8>, AllocError>
+    ensures { IfOk result (λ bytes. bytes.items ≡ message_bytes text.now) }
+{
     text.chars()
-        .filter_map(|character| u8::try_from(character).ok())
+        .filter_map(|character| as_byte(character))
         .collect(alloc)
 }
 
 /// The message of a reply; no text if it has none.
 fn message_of(alloc: Global, text: Option<&str>) -> Result<MessageText, AnswerFault>
     ensures coded { OnOk result (lacks_code (unwrap_or (option_map (λ it. it.now) text.entry) []) ≡ false) }
+    ensures shown { IfOk result (λ message. message.characters ≡ message_of (message_bytes (unwrap_or (option_map (λ it. it.now) text.entry) []))) }
     ensures wrong { IfErr result (λ why. IsMessageFault (unwrap_or (option_map (λ it. it.now) text.entry) []) why) }
 {
     let text = text.unwrap_or("");
     if lacks_code(text) {
         return Err(AnswerFault::MessageWithoutCode);
     }
-    let characters = latin1_of(alloc, text)?;
+    let characters = message_bytes(alloc, text)?;
     Ok(MessageText::new(characters.as_slice()))
 }
 

@@ -68,7 +68,7 @@ mod term_line;
 mod tty_size;
 mod uptime;
 
-pub use application_fault::{Absence, ApplicationFault, Told};
+pub use application_fault::{Absence, ApplicationFault, FailureMessage};
 pub use application_reply::AnswerFault;
 pub use check::run_check;
 pub use command_line::words;

@@ -258,7 +258,7 @@ impl Server {
         }
     }
 
-    /// Hands the host the answer to a question. A fault of the watcher, to whom a screen that it shows is told.
+    /// Hands the host the answer to a question. The watcher hears of a screen that it shows; its fault is returned.
     pub(crate) fn answer<W: Watcher>(
         &mut self,
         conn: usize,
