@@ -55,34 +55,43 @@ pub(crate) struct JobOption<'a> {
     pub(crate) required: bool,
 }
 
-static SHOW: [JobOption<'static>; 1] = [JobOption {
-    name: "model",
-    word: "--model",
-    kind: ValueKind::Model,
-    required: false,
-}];
+/// The port that a job serves at or connects to.
+const PORT: JobOption<'static> = JobOption {
+    name: "port",
+    word: "--port",
+    kind: ValueKind::Port,
+    required: true,
+};
 
-static SELFRUN: [JobOption<'static>; 1] = [JobOption {
+/// After how many turns a job ends.
+const TURNS: JobOption<'static> = JobOption {
     name: "turns",
     word: "--turns",
     kind: ValueKind::Turns,
     required: false,
-}];
+};
 
-static HOST: [JobOption<'static>; 2] = [
-    JobOption {
-        name: "port",
-        word: "--port",
-        kind: ValueKind::Port,
-        required: true,
-    },
-    JobOption {
-        name: "turns",
-        word: "--turns",
-        kind: ValueKind::Turns,
-        required: false,
-    },
-];
+/// The LU that a terminal asks for.
+const LU: JobOption<'static> = JobOption {
+    name: "lu",
+    word: "--lu",
+    kind: ValueKind::LuName,
+    required: false,
+};
+
+/// The model of a terminal or of a screen.
+const MODEL: JobOption<'static> = JobOption {
+    name: "model",
+    word: "--model",
+    kind: ValueKind::Model,
+    required: false,
+};
+
+static SHOW: [JobOption<'static>; 1] = [MODEL];
+
+static SELFRUN: [JobOption<'static>; 1] = [TURNS];
+
+static HOST: [JobOption<'static>; 2] = [PORT, TURNS];
 
 static SERVE: [JobOption<'static>; 10] = [
     JobOption {
@@ -147,46 +156,12 @@ static SERVE: [JobOption<'static>; 10] = [
     },
 ];
 
-static TERM: [JobOption<'static>; 3] = [
-    JobOption {
-        name: "port",
-        word: "--port",
-        kind: ValueKind::Port,
-        required: true,
-    },
-    JobOption {
-        name: "lu",
-        word: "--lu",
-        kind: ValueKind::LuName,
-        required: false,
-    },
-    JobOption {
-        name: "model",
-        word: "--model",
-        kind: ValueKind::Model,
-        required: false,
-    },
-];
+static TERM: [JobOption<'static>; 3] = [PORT, LU, MODEL];
 
 static OPERATE: [JobOption<'static>; 4] = [
-    JobOption {
-        name: "port",
-        word: "--port",
-        kind: ValueKind::Port,
-        required: true,
-    },
-    JobOption {
-        name: "lu",
-        word: "--lu",
-        kind: ValueKind::LuName,
-        required: false,
-    },
-    JobOption {
-        name: "model",
-        word: "--model",
-        kind: ValueKind::Model,
-        required: false,
-    },
+    PORT,
+    LU,
+    MODEL,
     JobOption {
         name: "raw",
         word: "--raw",
