@@ -4,7 +4,7 @@
 Tellers sign on, look up balances, transfer money, and list their bookings. All data is in an SQLite file. It is created with the tellers
 and accounts below if it doesn't exist. Amounts are integers of cents.
 """
-import argparse, contextlib, dataclasses, hashlib, hmac, http.server, json, os, re, sqlite3, sys, uuid
+import argparse, contextlib, dataclasses, hashlib, hmac, http.server, itertools, json, os, re, sqlite3, sys, uuid
 
 TELLERS = [("4711", "ANN MILLER", "SECRET"), ("4712", "JOHN SMITH", "HIDDEN")]
 ACCOUNTS = [("1000200030", "J. BAKER", 125000), ("1000200044", "M. CARTER", 9900), ("1000200058", "TOWN LIBRARY", 0)]
@@ -16,7 +16,7 @@ TABLES = [
 ]
 LAST_BOOKINGS = "SELECT number, day, debit, credit, cents, reference FROM booking WHERE teller = ? ORDER BY number DESC LIMIT ?"
 LINES = [f"line{number}" for number in range(1, 11)]
-# Empties each field that a panel shows and nobody types.
+# Empties each field that panels show and nobody types, so that no teller sees what the one before saw.
 NOTHING_SHOWN = dict.fromkeys(["name", "holder", "balance", *LINES], "")
 
 
@@ -117,7 +117,7 @@ class Bank:
             self.sessions.pop(lu, None)
         session = self.sessions.get(lu)
         if panel != "SIGNON" and (session is None or session.number != question["session"]):
-            return {"panel": "SIGNON", "fields": NOTHING_SHOWN, "message": "SIGN ON FIRST"}
+            return {"panel": "SIGNON", "message": "SIGN ON FIRST"}
         try:
             if (panel, key) not in self.keys:
                 raise Refused(f"KEY NOT KNOWN: {key.upper()}")
@@ -141,7 +141,7 @@ class Bank:
 
     def sign_off(self, question, _):
         self.sessions.pop(question["lu"], None)
-        return {"panel": "SIGNON", "fields": NOTHING_SHOWN, "message": "SIGNED OFF"}
+        return {"panel": "SIGNON", "message": "SIGNED OFF"}
 
     def choose(self, question, session):
         choice = question["fields"]["choice"]
@@ -184,8 +184,8 @@ class Bank:
         with transaction(self.path) as database:
             rows = database.execute(LAST_BOOKINGS, (session.teller, len(LINES))).fetchall()
         lines = [f"{no:5}  {day}  {debit}  {credit}  {amount_text(cents):>12}  {text}" for no, day, debit, credit, cents, text in rows]
-        shown = {**dict.fromkeys(LINES, ""), **dict(zip(LINES, lines))}
-        return {"panel": "BOOKINGS", "fields": shown, "message": "" if rows else "NO BOOKINGS"}
+        shown = itertools.zip_longest(LINES, lines, fillvalue="")
+        return {"panel": "BOOKINGS", "fields": dict(shown), "message": "" if rows else "NO BOOKINGS"}
 
 
 # ---- the server
