@@ -16,8 +16,6 @@ TABLES = [
 ]
 LAST_BOOKINGS = "SELECT number, day, debit, credit, cents, reference FROM booking WHERE teller = ? ORDER BY number DESC LIMIT ?"
 LINES = [f"line{number}" for number in range(1, 11)]
-# Empties each field that panels show and nobody types, so that no teller sees what the one before saw.
-NOTHING_SHOWN = dict.fromkeys(["name", "holder", "balance", *LINES], "")
 
 
 class Refused(Exception):
@@ -36,7 +34,8 @@ class Refused(Exception):
 @contextlib.contextmanager
 def transaction(path):
     """A connection with a transaction that is committed at the end, and undone if an exception is raised. Each thread opens its own."""
-    with contextlib.closing(sqlite3.connect(path, isolation_level=None)) as database:
+    # It waits at most 10 seconds for the transactions of others: the host gives a reply 30.
+    with contextlib.closing(sqlite3.connect(path, timeout=10, isolation_level=None)) as database:
         database.execute("BEGIN IMMEDIATE")
         with database:
             yield database
@@ -96,7 +95,10 @@ class Session:
 
 
 class Bank:
-    """Replies to the host's questions. An LU has one session at a time, so the last one of each LU is enough."""
+    """Replies to the host's questions. An LU has one session at a time, so the last one of each LU is enough.
+
+    What panels show and nobody types stays until a reply changes it, so a reply that leads to a panel has a text for all that it shows.
+    """
 
     def __init__(self, path):
         self.path, self.sessions = path, {}
@@ -137,7 +139,7 @@ class Bank:
         if not hmac.compare_digest(hash_of(password, salt), wanted):
             raise Refused("TELLER NUMBER OR PASSWORD IS WRONG", "password", password="")
         self.sessions[question["lu"]] = Session(question["session"], number)
-        return {"panel": "MENU", "fields": {**NOTHING_SHOWN, "name": name}, "message": f"WELCOME, {name}"}
+        return {"panel": "MENU", "fields": {"name": name}, "message": f"WELCOME, {name}"}
 
     def sign_off(self, question, _):
         self.sessions.pop(question["lu"], None)
@@ -203,7 +205,7 @@ class Handler(http.server.BaseHTTPRequestHandler):
         self.wfile.write(content)
 
     def log_message(self, *_):
-        """No line for each question: the host's log has them."""
+        """Prints no line for each question."""
 
 
 class Server(http.server.ThreadingHTTPServer):
