@@ -29,6 +29,43 @@
 //! host.closed(0);
 //! ```
 //!
+//! A panel's `asks` names keys that the caller decides on: the application. Here it lets the tellers 4711 and 4712 sign on, and tells
+//! others that it doesn't know them. The texts of fields have the codes of code page 037.
+//!
+//! ```rust
+//! fn decide(alloc: Global, panels: &PanelSet, question: &Question) -> Answer {
+//!     let teller = match panels.field_named("teller") {
+//!         Some(field) => question.values.get(field.number).unwrap_or(&[]),
+//!         None => &[],
+//!     };
+//!     let (panel, message): (Option<usize>, &[u8]) = match teller {
+//!         b"\xf4\xf7\xf1\xf1" | b"\xf4\xf7\xf1\xf2" => (panels.panel_named("MENU"), b"WELCOME"),
+//!         _ => (None, b"NO SUCH TELLER"),
+//!     };
+//!     Answer {
+//!         panel,
+//!         values: Values::new(alloc),
+//!         message: MessageText::new(message),
+//!         cursor: None,
+//!     }
+//! }
+//!
+//! /// Does what there is to do in the host's turn.
+//! fn turn(alloc: Global, host: &mut Host, conn: usize) -> Result<Acted, Memory>
+//!     requires { conn < 64 }
+//! {
+//!     match host.question(conn)? {
+//!         Some(question) => {
+//!             let answer = decide(alloc, host.panels(), &question);
+//!             Ok(host.answer(conn, question.ticket, &answer))
+//!         }
+//!         None => Ok(host.act(conn)),
+//!     }
+//! }
+//! ```
+//!
+//! The answer may also come later: meanwhile other connections are served, and the ticket says which question it is to.
+//!
 //! [`serve_turn`] does a turn of this on connections of any kind, by the trait [`Links`]: a read, an
 //! act, and a write. `specs/State` says what a host is, and `Rejections` which requests for an LU it
 //! rejected; `Feeds`, `Bytes`, `Items` and `Takes` say what bytes make of it, `Does` and `Acts` what
