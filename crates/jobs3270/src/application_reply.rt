@@ -144,12 +144,7 @@ fn cut(codes: &[u8]) -> &[u8]
 }
 
 /// Sets the value of a field to a text, whose characters have codes.
-fn set_text(
-    alloc: Global,
-    field: usize,
-    text: &str,
-    values: &mut Values,
-) -> Result<(), AllocError>
+fn set_text(alloc: Global, field: usize, text: &str, values: &mut Values) -> Result<(), AllocError>
     ensures { OnOk result (values.new ≡ insert_entry nat_cmp values.old field (value_by text.now)) }
 {
     let codes = codes_of(alloc, text)?;
@@ -179,11 +174,7 @@ fn set_value(
 }
 
 /// The values of fields.
-fn values_of(
-    alloc: Global,
-    panels: &PanelSet,
-    fields: &[FieldText],
-) -> Result<Values, AnswerFault>
+fn values_of(alloc: Global, panels: &PanelSet, fields: &[FieldText]) -> Result<Values, AnswerFault>
     ensures set { IfOk result (λ values. values ≡ with_texts panels.now fields.now []) }
 {
     let mut values = Values::new(alloc);

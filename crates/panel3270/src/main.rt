@@ -3,9 +3,10 @@
 #![tactic(auto)]
 
 use jobs3270::{
-    ApplicationChoice, CountedReader, CountedWriter, Fault, FileName, Job, LiveOptions, Refusal, Service, Sink,
-    WordFault, end_by, refusal_of, refuse_file, refuse_words, run_check, run_help, run_host,
-    run_operate, run_script, run_selfrun, run_serve, run_show, run_term, run_version, words,
+    ApplicationChoice, CountedReader, CountedWriter, Fault, FileName, Job, LiveOptions, Refusal,
+    Service, Sink, WordFault, end_by, refusal_of, refuse_file, refuse_words, run_check, run_help,
+    run_host, run_operate, run_script, run_selfrun, run_serve, run_show, run_term, run_version,
+    words,
 };
 use std::env;
 use std::fs::File;
