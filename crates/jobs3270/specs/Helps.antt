@@ -22,7 +22,7 @@ help_text topic.Help = codes "usage: panel3270 help [JOB]\n\nPrint the help of t
 
 -- the line of `--version`
 abbrev pub version_text : List ℕ
-version_text = codes "panel3270 1.0"
+version_text = codes "panel3270 1.1"
 
 -- a line was written and the status is 0, or the write failed and the fault was printed
 abbrev pub PrintsLine : List ℕ → (out_old out_new faults_old faults_new : Output) → (status : ℕ) → Type 0

@@ -117,7 +117,7 @@ const HELP: &str = "usage: panel3270 help [JOB]
 
 Print the help of the program, or of a job.";
 
-const VERSION: &str = "panel3270 1.0";
+const VERSION: &str = "panel3270 1.1";
 
 /// The text about a topic, without the newline at its end.
 fn help_text(topic: Topic) -> &'static str
