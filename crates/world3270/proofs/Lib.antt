@@ -39,6 +39,7 @@ pub mod Models
 pub mod HostSteps
 pub mod Everywhere
 pub mod Numbers
+pub mod OnScreen
 pub mod Sendable
 pub mod Slots
 pub mod Steps
