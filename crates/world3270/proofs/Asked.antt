@@ -162,25 +162,20 @@ found_told (Some belief) sure = settled_told belief.fact (is_true (is_settled_fa
     is_true true e = refl
     is_true false e = absurd (cc)
 
+neither : (one other : Bool) → (one || other) ≡ false → (one ≡ false) × (other ≡ false)
+neither true other none = absurd (cc)
+neither false other none = (refl, none)
+
 -- nothing is in doubt
 sure_told : (shadow : Shadow) (panel : List PanelField) (index : ℕ) (field : PanelField) → list_any (is_in_doubt shadow) panel ≡ false → slice_get panel index ≡ Some field
     → IsTextOf (belief_of shadow field)
 sure_told shadow [] index field sure at = absurd (cc)
-sure_told shadow (first ∷ panel) index field sure at = by_index index at
-  where
-    here : (b others : Bool) → (b || others) ≡ false → b ≡ false
-    here true others e = absurd (cc)
-    here false others e = refl
-
-    behind : (b others : Bool) → (b || others) ≡ false → others ≡ false
-    behind true others e = absurd (cc)
-    behind false others e = e
-
-    by_index : (index : ℕ) → slice_get (first ∷ panel) index ≡ Some field → IsTextOf (belief_of shadow field)
-    by_index zero at =
-        subst (λ (f : PanelField). IsTextOf (belief_of shadow f)) (let same : Some first ≡ Some field = at in cc)
-        (found_told (belief_of shadow first) (here (is_in_doubt shadow first) (list_any (is_in_doubt shadow) panel) sure))
-    by_index (suc index) at = sure_told shadow panel index field (behind (is_in_doubt shadow first) (list_any (is_in_doubt shadow) panel) sure) at
+sure_told shadow (first ∷ panel) zero field sure at =
+    let same : first ≡ field = let both : Some first ≡ Some field = at in cc in
+    subst (λ (f : PanelField). IsTextOf (belief_of shadow f)) same
+    (found_told (belief_of shadow first) (neither (is_in_doubt shadow first) (list_any (is_in_doubt shadow) panel) sure).0)
+sure_told shadow (first ∷ panel) (suc index) field sure at =
+    sure_told shadow panel index field (neither (is_in_doubt shadow first) (list_any (is_in_doubt shadow) panel) sure).1 at
 
 -- a listed field is believed, with a settled fact
 belief_there : (place : ℕ) (beliefs : List Belief) (seen : List Field) (index : ℕ) (field : Field) → Pairwise FieldMeets beliefs seen → All IsSettled beliefs
@@ -188,17 +183,16 @@ belief_there : (place : ℕ) (beliefs : List Belief) (seen : List Field) (index 
 belief_there place [] [] index field meets settled below at is = absurd (omega arith)
 belief_there place [] (seen ∷ more) index field meets settled below at is = absurd meets
 belief_there place (belief ∷ beliefs) [] index field meets settled below at is = absurd meets
-belief_there place (belief ∷ beliefs) (seen ∷ more) index field meets settled below at is = by_test (belief.place == place) refl
+belief_there place (belief ∷ beliefs) (seen ∷ more) zero field meets settled below at is =
+    let same : belief.place ≡ place = sym meets.0.same_place ∙ ap (λ (f : Field). f.place) at ∙ is in
+    subst (λ (b : Bool). IsTextOf (if b then Some belief else belief_with place beliefs)) (sym (eq-eqb belief.place place same))
+    (settled_told belief.fact (All-head IsSettled belief beliefs settled))
+belief_there place (belief ∷ beliefs) (seen ∷ more) (suc index) field meets settled below at is =
+    by_test (belief.place == place) (belief_there place beliefs more index field meets.1 (All-tail IsSettled belief beliefs settled) (omega (arith, below)) at is)
   where
-    behind : (index : ℕ) → (belief.place == place) ≡ false → index < length (seen ∷ more) → slice_index_or (seen ∷ more) index field ≡ field → IsTextOf (belief_with place beliefs)
-    behind zero apart below at =
-        absurd (let same : belief.place ≡ place = sym meets.0.same_place ∙ ap (λ (f : Field). f.place) at ∙ is in
-        let yes = sym (eq-eqb belief.place place same) ∙ apart in cc)
-    behind (suc index) apart below at = belief_there place beliefs more index field meets.1 (All-tail IsSettled belief beliefs settled) (omega (arith, below)) at is
-
-    by_test : (b : Bool) → (belief.place == place) ≡ b → IsTextOf (if b then Some belief else belief_with place beliefs)
-    by_test true here = settled_told belief.fact (All-head IsSettled belief beliefs settled)
-    by_test false apart = behind index apart below at
+    by_test : (b : Bool) → IsTextOf (belief_with place beliefs) → IsTextOf (if b then Some belief else belief_with place beliefs)
+    by_test true behind = settled_told belief.fact (All-head IsSettled belief beliefs settled)
+    by_test false behind = behind
 
 settled_on : (shadow : Shadow) (screen : Screen) (field : PanelField) → ListsFields shadow screen → Meets shadow screen → All IsSettled (fields_of shadow) → IsAmong screen.cells field.extent
     → IsTextOf (belief_of shadow field)

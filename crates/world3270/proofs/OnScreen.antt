@@ -62,7 +62,7 @@ none_kept whole (WantChar byte ∷ rest) (there ∷ cells) h k = none_kept whole
 none_kept whole (Keep ∷ rest) (there ∷ cells) h k = absurd (cc)
 none_kept whole (WantAttr attribute ∷ rest) (there ∷ cells) h k =
     let more = none_kept whole rest cells h k in
-    (more.0, λ keeps. absurd (let none = sym (no_keep_ahead rest whole k h) ∙ keeps in cc), more.1)
+    (more.0, (λ keeps. absurd (let none = sym (no_keep_ahead rest whole k h) ∙ keeps in cc), more.1))
 
 under_same : (size : ℕ) (cells : List Cell) → length cells ≡ size → cells_under size cells ≡ cells
 under_same size cells e = ap (λ (same : Bool). if same then cells else replicate size (Char 0)) (eq-eqb (length cells) size e)
