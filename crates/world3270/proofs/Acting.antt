@@ -37,7 +37,7 @@ use Rattle.world3270.specs.Given.{Given}
 use Rattle.world3270.specs.Link.{Link, sent, host_sent}
 use Rattle.world3270.specs.Moments.{Kind, UnderWay, Talking, Serving, Moment, IsAt, host_talk_at, term_state_at, turn_at, pending_at, down_at, up_at, agreed, served_down, served_up}
 use Rattle.world3270.specs.TurnReasons.{IsOccasion, IsOpenBy, IsOpenFor}
-use Rattle.world3270.specs.Shown.{AsksForIts, ShownAt, ShownIn}
+use Rattle.world3270.specs.Showing.{WantsItsPanel, ShownAt, ShownIn}
 use Rattle.world3270.specs.Stages.{scene_of, FactsAreExact, IsNew, Decides, Fact, Kept, Sizes, may_differ_at}
 use Rattle.world3270.specs.View.{View, view_of}
 use Rattle.world3270.proofs.Down.{none_open}
@@ -104,7 +104,7 @@ asked_by app conn panel message true values = asked_if (fits conn.shadow (app.sc
 asked_by app conn panel message false values = (false, refl)
 
 asked_for : (app : Application) (conn : Conn) (panel : ℕ) (message : Message) (keep : Bool) (values : Values)
-    → AsksForIts app (shown app conn panel message keep values).conn (wants_of app conn panel message keep values)
+    → WantsItsPanel app (shown app conn panel message keep values).conn (wants_of app conn panel message keep values)
 asked_for app conn panel message keep values =
     let asked = asked_by app conn (app.shown (model_in conn) panel) message keep values in
     record { keep = asked.0; is = asked.1 }

@@ -34,12 +34,12 @@ use Rattle.host_core.specs.declared.question.Question.{Question}
 use Rattle.host_core.specs.declared.turn_reason.TurnReason.{TurnReason}
 use Rattle.host_core.specs.declared.turn_reason.TurnReason.TheVariants as turn_reasons
 use Rattle.world3270.specs.Always.{AlwaysOf}
-use Rattle.world3270.specs.Asked.{AskedIsSeen, EachFieldIsAsked, EachFieldIsSeen, IsSeen, ShowsItsFields, StandsAt, StandsIn}
+use Rattle.world3270.specs.Asked.{AskedIsSeen, AreFieldsAsked, FieldsAreSeen, IsSeen, ShowsItsFields, StandsAt, StandsIn}
 use Rattle.world3270.specs.Given.{Given}
 use Rattle.world3270.specs.Happens.{run}
 use Rattle.world3270.specs.Link.{Link}
 use Rattle.world3270.specs.Seen.{TerminalSeen, end_seen}
-use Rattle.world3270.specs.Shown.{IsSettled, IsSettledIfRead, ShowsIts}
+use Rattle.world3270.specs.Showing.{IsTextKnown, IsKnownIfRead, ShowsItsPanel}
 use Rattle.world3270.specs.Stages.{Kept}
 use Rattle.world3270.specs.Terminal.{bound_to}
 use Rattle.world3270.specs.TurnReasons.{IsCursorFor, IsOccasion}
@@ -178,7 +178,7 @@ sure_told shadow (first ∷ panel) (suc index) field sure at =
     sure_told shadow panel index field (neither (is_in_doubt shadow first) (list_any (is_in_doubt shadow) panel) sure).1 at
 
 -- a listed field is believed, with a settled fact
-belief_there : (place : ℕ) (beliefs : List Belief) (seen : List Field) (index : ℕ) (field : Field) → Pairwise FieldMeets beliefs seen → All IsSettled beliefs
+belief_there : (place : ℕ) (beliefs : List Belief) (seen : List Field) (index : ℕ) (field : Field) → Pairwise FieldMeets beliefs seen → All IsTextKnown beliefs
     → index < length seen → slice_index_or seen index field ≡ field → field.place ≡ place → IsTextOf (belief_with place beliefs)
 belief_there place [] [] index field meets settled below at is = absurd (omega arith)
 belief_there place [] (seen ∷ more) index field meets settled below at is = absurd meets
@@ -186,15 +186,15 @@ belief_there place (belief ∷ beliefs) [] index field meets settled below at is
 belief_there place (belief ∷ beliefs) (seen ∷ more) zero field meets settled below at is =
     let same : belief.place ≡ place = sym meets.0.same_place ∙ ap (λ (f : Field). f.place) at ∙ is in
     subst (λ (b : Bool). IsTextOf (if b then Some belief else belief_with place beliefs)) (sym (eq-eqb belief.place place same))
-    (settled_told belief.fact (All-head IsSettled belief beliefs settled))
+    (settled_told belief.fact (All-head IsTextKnown belief beliefs settled))
 belief_there place (belief ∷ beliefs) (seen ∷ more) (suc index) field meets settled below at is =
-    by_test (belief.place == place) (belief_there place beliefs more index field meets.1 (All-tail IsSettled belief beliefs settled) (omega (arith, below)) at is)
+    by_test (belief.place == place) (belief_there place beliefs more index field meets.1 (All-tail IsTextKnown belief beliefs settled) (omega (arith, below)) at is)
   where
     by_test : (b : Bool) → IsTextOf (belief_with place beliefs) → IsTextOf (if b then Some belief else belief_with place beliefs)
-    by_test true behind = settled_told belief.fact (All-head IsSettled belief beliefs settled)
+    by_test true behind = settled_told belief.fact (All-head IsTextKnown belief beliefs settled)
     by_test false behind = behind
 
-settled_on : (shadow : Shadow) (screen : Screen) (field : PanelField) → ListsFields shadow screen → Meets shadow screen → All IsSettled (fields_of shadow) → IsAmong screen.cells field.extent
+settled_on : (shadow : Shadow) (screen : Screen) (field : PanelField) → ListsFields shadow screen → Meets shadow screen → All IsTextKnown (fields_of shadow) → IsAmong screen.cells field.extent
     → IsTextOf (belief_of shadow field)
 settled_on shadow screen field lists meets settled there = by_belief shadow lists meets settled
   where
@@ -204,15 +204,15 @@ settled_on shadow screen field lists meets settled there = by_belief shadow list
     formatted : IsFormattedScreen screen.cells
     formatted none = absurd (let below = listed.1.1 in let empty = ap (λ (all : List Field). length all) none in omega (arith, below, empty))
 
-    by_belief : (shadow : Shadow) → ListsFields shadow screen → Meets shadow screen → All IsSettled (fields_of shadow) → IsTextOf (belief_of shadow field)
+    by_belief : (shadow : Shadow) → ListsFields shadow screen → Meets shadow screen → All IsTextKnown (fields_of shadow) → IsTextOf (belief_of shadow field)
     by_belief Shadow.NothingKnown lists meets settled = absurd (lists formatted)
     by_belief (Shadow.Unformatted known) lists meets settled = absurd (lists formatted)
     by_belief (Shadow.Formatted beliefs) lists meets settled =
         belief_there (field.extent.first - 1) beliefs (fields screen.cells) listed.1.0 listed.0 meets.1 settled listed.1.1 listed.1.2 listed.2
 
 -- where the application is asked, nothing is in doubt, or the screen was read
-asked_sure : (app : Application) (conn : Conn) (reason : TurnReason) → IsSettledIfRead reason conn.shadow → is_ask (decision_on app conn reason) ≡ true
-    → (list_any (is_in_doubt conn.shadow) (app.fields conn.panel) ≡ false) ⊎ All IsSettled (fields_of conn.shadow)
+asked_sure : (app : Application) (conn : Conn) (reason : TurnReason) → IsKnownIfRead reason conn.shadow → is_ask (decision_on app conn reason) ≡ true
+    → (list_any (is_in_doubt conn.shadow) (app.fields conn.panel) ≡ false) ⊎ All IsTextKnown (fields_of conn.shadow)
 asked_sure app conn turn_reasons.Agreement settled asks = absurd (cc)
 asked_sure app conn turn_reasons.Refusal settled asks = absurd (cc)
 asked_sure app conn (turn_reasons.Key aid true) settled asks = inr settled
@@ -257,12 +257,12 @@ learned_has shadow (first ∷ panel) values (suc index) field text apart at know
     (λ i j one other below at_i at_j. apart (suc i) (suc j) one other (omega (arith, below)) at_i at_j) at known
 
 -- the panel that is shown has its fields on the screen
-shown_among : (app : Application) → IsApplication app → ShowsItsFields app → (host : Conn) (left now : Screen) (index : ℕ) (field : PanelField) → ShowsIts app host left → SamePlaces left.cells now.cells
+shown_among : (app : Application) → IsApplication app → ShowsItsFields app → (host : Conn) (left now : Screen) (index : ℕ) (field : PanelField) → ShowsItsPanel app host left → SamePlaces left.cells now.cells
     → slice_get (app.fields host.panel) index ≡ Some field → IsAmong now.cells field.extent
 shown_among app is shows host left now index field shown same at =
     let wanted : WantedScreen = shown.wanted in
-    let keep : Bool = shown.asked_for.keep in
-    let wanted_is : wanted ≡ app.screen host.panel host.values host.message keep = shown.asked_for.is in
+    let keep : Bool = shown.wanted_for.keep in
+    let wanted_is : wanted ≡ app.screen host.panel host.values host.message keep = shown.wanted_for.is in
     let sized : length wanted.cells ≡ cells_in wanted.size =
     subst (λ (w : WantedScreen). length w.cells ≡ cells_in w.size) (sym wanted_is) (is.showable host.panel host.values host.message keep).cells in
     let on : IsFieldOn wanted field.extent =
@@ -331,17 +331,17 @@ asked_later : (app : Application) (conn : Conn) → is_ask (decision_on app conn
 asked_later app conn asks agreement = agreed_unasked app conn agreement asks
 
 pub each_asked : Given → (app : Application) → IsApplication app → ShowsItsFields app → (link : Link) → Kept app (view_of link) → (session : ℕ) (question : Question)
-    → question_in app session link.host ≡ Some question → EachFieldIsAsked (app.fields question.panel) question link.term.display.screen
+    → question_in app session link.host ≡ Some question → AreFieldsAsked (app.fields question.panel) question link.term.display.screen
 each_asked given app is shows link k session question asked =
     let there = question_is (is_asking app link.host) (agreed_lu link.host.talk.state) (question_on app session link.host) question asked in
     let asks = asks_deciding given app is link k there.0 in
     let conn : Conn = link.host in
     let screen : Screen = link.term.display.screen in
     let uncleared : screen.aid ≡ Clear → ⊥ = asked_uncleared app conn conn.turn_reason screen.aid asks.2.turn_reason asks.3 in
-    let shown : ShowsIts app conn link.term.display.last_restored = asks.4.0 (asked_later app conn asks.3) in
+    let shown : ShowsItsPanel app conn link.term.display.last_restored = asks.4.0 (asked_later app conn asks.3) in
     let same : SamePlaces link.term.display.last_restored.cells screen.cells = (k.unreturned uncleared).places in
     let sure = asked_sure app conn conn.turn_reason asks.4.1 asks.3 in
-    let on_it : EachFieldIsAsked (app.fields conn.panel) (question_on app session conn there.1) screen =
+    let on_it : AreFieldsAsked (app.fields conn.panel) (question_on app session conn there.1) screen =
     λ index field at.
     let among : IsAmong screen.cells field.extent = shown_among app is shows conn link.term.display.last_restored screen index field shown same at in
     let told : IsTextOf (belief_of conn.shadow field) = text_of conn.shadow screen (app.fields conn.panel) index field asks.2.sees.lists asks.2.sees.meets among at sure in
@@ -351,10 +351,10 @@ each_asked given app is shows link k session question asked =
       given = learned_has conn.shadow (app.fields conn.panel) [] index field told.0 (shows.numbers conn.panel) at told.1;
       stands = record { stands = stands; length_is = listed-length screen.cells field.extent stands.index stands.on_screen stands.listed stands.place among };
     } in
-    subst (λ (q : Question). EachFieldIsAsked (app.fields q.panel) q screen) (sym there.3) on_it
+    subst (λ (q : Question). AreFieldsAsked (app.fields q.panel) q screen) (sym there.3) on_it
   where
     text_of : (shadow : Shadow) (screen : Screen) (panel : List PanelField) (index : ℕ) (field : PanelField) → ListsFields shadow screen → Meets shadow screen → IsAmong screen.cells field.extent
-        → slice_get panel index ≡ Some field → (list_any (is_in_doubt shadow) panel ≡ false) ⊎ All IsSettled (fields_of shadow) → IsTextOf (belief_of shadow field)
+        → slice_get panel index ≡ Some field → (list_any (is_in_doubt shadow) panel ≡ false) ⊎ All IsTextKnown (fields_of shadow) → IsTextOf (belief_of shadow field)
     text_of shadow screen panel index field lists meets among at (inl sure) = sure_told shadow panel index field sure at
     text_of shadow screen panel index field lists meets among at (inr settled) = settled_on shadow screen field lists meets settled among
 
@@ -374,7 +374,7 @@ asked_is_seen given app pool models events is lists few are =
     subst (λ (t : TerminalSeen). IsSeen (app.fields question.panel) question t) (sym there.2)
     (asked_seen given app is link (g.links number) there.0 session question here.1)
 
-pub each_is_seen : Given → AlwaysOf EachFieldIsSeen
+pub each_is_seen : Given → AlwaysOf FieldsAreSeen
 each_is_seen given app pool models events is lists few are =
     let world : World = run app events (new_world app pool models) in
     let g = run_good given app is events (new_world app pool models) are (new_good given app is pool models lists) in
@@ -382,5 +382,5 @@ each_is_seen given app pool models events is lists few are =
     let link : Link = world.link number in
     let there = terminal_attached link.term_here link.term terminal terminal_is in
     let here = asked_there link.host_here (question_in app session link.host) question asked in
-    subst (λ (t : TerminalSeen). EachFieldIsAsked (app.fields question.panel) question t.screen) (sym there.2)
+    subst (λ (t : TerminalSeen). AreFieldsAsked (app.fields question.panel) question t.screen) (sym there.2)
     (each_asked given app is shows link (g.links number) session question here.1)

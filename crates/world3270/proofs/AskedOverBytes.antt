@@ -11,7 +11,7 @@ use Rattle.host_core.specs.Session.{Conn}
 use Rattle.host_core.specs.State.{Service, service_at, session_at}
 use Rattle.host_core.specs.declared.question.Question.{Question}
 use Rattle.world3270.specs.Always.{AlwaysOf}
-use Rattle.world3270.specs.Asked.{AskedIsSeen, AskedIsSeenOverBytes, EachFieldIsSeen, IsSeenWhole, ShowsItsFields, asked_by}
+use Rattle.world3270.specs.Asked.{AskedIsSeen, AskedIsSeenOverBytes, FieldsAreSeen, IsPanelSeen, ShowsItsFields, asked_by}
 use Rattle.world3270.specs.ByteWorld.{is_there}
 use Rattle.world3270.specs.Link.{Link}
 use Rattle.world3270.specs.Refines.{Begin, after}
@@ -47,7 +47,7 @@ shows_its_fields on_screen set sound = record {
       (subst (λ (p : PanelParts). HaveNumbersApart p.fields) same (sound.numbers panel there.0 there.1)) i j one other below at_i at_j;
 }
 
-pub asked_over_bytes : PanelsAreShown → FieldsAreOnTheScreen → AlwaysOf AskedIsSeen → AlwaysOf EachFieldIsSeen → AskedIsSeenOverBytes
+pub asked_over_bytes : PanelsAreShown → FieldsAreOnTheScreen → AlwaysOf AskedIsSeen → AlwaysOf FieldsAreSeen → AskedIsSeenOverBytes
 asked_over_bytes shown on_screen asked each bytes is number question terminal asked_now terminal_is =
     let begin : Begin = is.begin in
     let app : Application = application_of begin.panels in
@@ -61,7 +61,7 @@ asked_over_bytes shown on_screen asked each bytes is number question terminal as
     let over_messages : asked_by app session link ≡ Some question =
     same_question app session (service_at number bytes.host) link.host_here link.host question stands.host_here (λ here. (stands.host here).host) question_is in
     let seen_there = sym (ap (λ (l : SeenLink). l.terminal) (same_seen bytes world is.reached.stands number)) ∙ terminal_is in
-    subst (λ (p : Panels). IsSeenWhole ((application_of p).fields question.panel) question terminal) (sym is.reached.panels)
+    subst (λ (p : Panels). IsPanelSeen ((application_of p).fields question.panel) question terminal) (sym is.reached.panels)
     (record {
       seen = asked app begin.pool begin.models is.events is_app is.is_begin.pool is.is_begin.few is.reached.are_events number session question terminal over_messages seen_there;
       fields = each app begin.pool begin.models is.events is_app is.is_begin.pool is.is_begin.few is.reached.are_events

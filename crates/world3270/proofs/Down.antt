@@ -53,7 +53,7 @@ use Rattle.world3270.specs.Always.{is_negative}
 use Rattle.world3270.specs.Given.{Given}
 use Rattle.world3270.specs.Happens.{verdict_in}
 use Rattle.world3270.specs.Headline.{SentFields}
-use Rattle.world3270.specs.Shown.{AsksForIts, IsSettledIfRead, ShownAt}
+use Rattle.world3270.specs.Showing.{WantsItsPanel, IsKnownIfRead, ShownAt}
 use Rattle.world3270.specs.Unreturned.{UnmodifiedIsKept}
 use Rattle.world3270.specs.Link.{Link, sent}
 use Rattle.world3270.specs.Moments.{Kind, Talking, Serving, Moment, UnderWay, IsAt, host_talk_at, term_state_at, turn_at, pending_at, down_at, up_at}
@@ -214,7 +214,7 @@ serves link step rest wanted lu from to model at l same left = leads link step r
 -- ---- a paint
 
 takes_paint : Given → (app : Application) → IsApplication app → (link : Link) (rest : List ToTerminal) (k : Kept app (view_of link)) (lu : List ℕ) (number : ℕ) (command : CommandParts) (wants : WantedScreen) (over : Shadow)
-    → IsAt (view_of link) k.wanted (Moment.Serves lu (Serving.Painting number command wants over)) → IsPainted (scene_of (view_of link)) command wants over → AsksForIts app link.host wants
+    → IsAt (view_of link) k.wanted (Moment.Serves lu (Serving.Painting number command wants over)) → IsPainted (scene_of (view_of link)) command wants over → WantsItsPanel app link.host wants
     → UnderWay link.lost rest [] → Obeyed app link rest (took link.term (ToTerminal.Paint number wants over))
 takes_paint given app is link rest k lu number command wants over at f asked left =
     let screen : Screen = link.term.display.screen in
@@ -256,7 +256,7 @@ takes_paint given app is link rest k lu number command wants over at f asked lef
           messages = given.notes.painted_takes link.host.shape over wants screen f.paintable;
           noted = record { places = record { size = refl; kinds = λ place. refl }; each = λ place. inr refl };
         };
-        shown = record { wanted = wants; asked_for = asked; before = screen; over = over; meets = f.meets; fits = fits; is = refl };
+        shown = record { wanted = wants; wanted_for = asked; before = screen; over = over; meets = f.meets; fits = fits; is = refl };
       };
       open_end = refl;
       positive = refl;
@@ -488,7 +488,7 @@ obeys given app is link message rest e k = by_moment k.moment k.sizes k.at k.fac
             told = λ sent. absurd (subst SentFields f.0.aid sent);
           };
         })
-        (λ shown_before. absurd (shown_before f.0.turn_reason), subst (λ o. IsSettledIfRead o link.host.shadow) (sym f.0.turn_reason) tt)
+        (λ shown_before. absurd (shown_before f.0.turn_reason), subst (λ o. IsKnownIfRead o link.host.shadow) (sym f.0.turn_reason) tt)
     by_talk (Talking.Rejecting reason) same at f =
         let first = front link.lost link.down message rest _ [] e at.goes_down in
         talks app link rest k (Moment.Talks (Talking.Rejecting reason)) (Moment.Talks (Talking.Rejected reason)) (Saying.Sub (TypeReject reason)) [] message (λ steady. same) at first.0

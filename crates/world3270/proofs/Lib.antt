@@ -40,6 +40,7 @@ pub mod HostSteps
 pub mod Everywhere
 pub mod Numbers
 pub mod OnScreen
+pub mod ShownPanels
 pub mod Sendable
 pub mod Slots
 pub mod Steps

@@ -49,7 +49,7 @@ use Rattle.world3270.specs.Given.{Given}
 use Rattle.world3270.specs.Link.{Link, sent}
 use Rattle.world3270.specs.Moments.{Kind, awaiting, Talking, Serving, Moment, UnderWay, IsAt, host_talk_at, term_state_at, turn_at, pending_at, down_at, up_at, served_down, served_up}
 use Rattle.world3270.specs.TurnReasons.{IsOccasion, IsCursorFor, IsOpenBy, IsOpenFor}
-use Rattle.world3270.specs.Shown.{IsSettled, IsSettledIfRead, IsUnread, ShownAt}
+use Rattle.world3270.specs.Showing.{IsTextKnown, IsKnownIfRead, IsUnread, ShownAt}
 use Rattle.world3270.specs.Stages.{scene_of, once_taken, FactsAreExact, Suits, Sees, IsPressed, WillBeHeard, IsRead, Fact, Kept, Sizes}
 use Rattle.world3270.specs.View.{view_of}
 use Rattle.world3270.proofs.OneOfMany.{same_number}
@@ -276,29 +276,29 @@ read_occasion (turn_reasons.Key pressed buffered) aid is = is
 read_occasion turn_reasons.Refusal aid is = absurd is
 
 -- what is believed of a screen that was read is settled
-seen_settled : (fields : List Field) → All IsSettled (map belief_seen fields)
-seen_settled [] = All-nil IsSettled
-seen_settled (field ∷ fields) = All-cons IsSettled (belief_seen field) (map belief_seen fields) refl (seen_settled fields)
+seen_settled : (fields : List Field) → All IsTextKnown (map belief_seen fields)
+seen_settled [] = All-nil IsTextKnown
+seen_settled (field ∷ fields) = All-cons IsTextKnown (belief_seen field) (map belief_seen fields) refl (seen_settled fields)
 
-formatted_settled : (fields : List Field) (chars : List ℕ) → All IsSettled (fields_of (formatted_or fields chars))
-formatted_settled [] chars = All-nil IsSettled
+formatted_settled : (fields : List Field) (chars : List ℕ) → All IsTextKnown (fields_of (formatted_or fields chars))
+formatted_settled [] chars = All-nil IsTextKnown
 formatted_settled (field ∷ fields) chars = seen_settled (field ∷ fields)
 
-read_is_settled : (size : ℕ) (shadow : Shadow) (parts : InboundParts) → parts.form ≡ Buffer → IfOk (heard size shadow parts) (λ s. All IsSettled (fields_of s))
+read_is_settled : (size : ℕ) (shadow : Shadow) (parts : InboundParts) → parts.form ≡ Buffer → IfOk (heard size shadow parts) (λ s. All IsTextKnown (fields_of s))
 read_is_settled size shadow parts form =
-    subst (λ (f : Form). IfOk (heard_form f size shadow parts.aid parts.parts) (λ s. All IsSettled (fields_of s))) (sym form)
+    subst (λ (f : Form). IfOk (heard_form f size shadow parts.aid parts.parts) (λ s. All IsTextKnown (fields_of s))) (sym form)
     (by_denial (denies_buffer shadow (cells_sent parts.parts)))
   where
-    by_denial : (denied : Bool) → IfOk (if denied then Err Contradiction else Ok (seen (cells_sent parts.parts))) (λ s. All IsSettled (fields_of s))
+    by_denial : (denied : Bool) → IfOk (if denied then Err Contradiction else Ok (seen (cells_sent parts.parts))) (λ s. All IsTextKnown (fields_of s))
     by_denial true = tt
     by_denial false = formatted_settled (fields (cells_sent parts.parts)) (text_before_attribute (cells_sent parts.parts))
 
-settled_read : (turn_reason : TurnReason) (shadow : Shadow) → All IsSettled (fields_of shadow) → IsSettledIfRead (once_read turn_reason) shadow
+settled_read : (turn_reason : TurnReason) (shadow : Shadow) → All IsTextKnown (fields_of shadow) → IsKnownIfRead (once_read turn_reason) shadow
 settled_read turn_reasons.Agreement shadow settled = tt
 settled_read (turn_reasons.Key aid buffered) shadow settled = settled
 settled_read turn_reasons.Refusal shadow settled = tt
 
-unread_settled : (turn_reason : TurnReason) (shadow : Shadow) → IsUnread turn_reason → IsSettledIfRead turn_reason shadow
+unread_settled : (turn_reason : TurnReason) (shadow : Shadow) → IsUnread turn_reason → IsKnownIfRead turn_reason shadow
 unread_settled turn_reasons.Agreement shadow unread = tt
 unread_settled (turn_reasons.Key aid true) shadow unread = absurd unread
 unread_settled (turn_reasons.Key aid false) shadow unread = tt
@@ -368,15 +368,15 @@ module _ (given : Given) (app : Application) (pool : List Entry) (link : Link) (
       let read : InboundParts = buffer_data link.host.shape screen in
       as_step app pool link rest k (ToHost.Data read) message (believed (once_read link.host.turn_reason) Pending.Nothing read.cursor link.host (hears read link.host)) (e ∙ ap (λ p. ToHost.Data p) is)
       (buffer_took (answer_to pool) link.host link.host.shape screen number (agreed_at app pool link rest k lu (Serving.Reported number parts) at) at.pending)
-      (believes lu (Serving.Reported number parts) Serving.Deciding read (once_read link.host.turn_reason) Pending.Nothing read.cursor (λ s. Sees link.host.shape screen s × NothingIsOpen s × All IsSettled (fields_of s)) (hears read link.host) at
+      (believes lu (Serving.Reported number parts) Serving.Deciding read (once_read link.host.turn_reason) Pending.Nothing read.cursor (λ s. Sees link.host.shape screen s × NothingIsOpen s × All IsTextKnown (fields_of s)) (hears read link.host) at
       (given.belief.heard_exact size link.host.shadow read k.exact.known) (given.belief.heard_protected size link.host.shadow read k.exact.protected)
       (by_result (heard size link.host.shadow read) (subst (λ n. IsOkAnd (heard n link.host.shadow read) (Believed false screen)) (k.whole ∙ ap (λ (s : Shape). cells_in s) same) (given.belief.reads link.host.shape link.host.shadow screen f.decides.sees.meets))
       (given.belief.heard_exact size link.host.shadow read k.exact.known) (given.belief.heard_protected size link.host.shadow read k.exact.protected) (given.belief.read_leaves size link.host.shadow read refl) (read_is_settled size link.host.shadow read refl))
       refl refl refl left (λ shadow sees. record { lock = f.decides.lock; turn_reason = read_occasion link.host.turn_reason screen.aid f.decides.turn_reason; cursor = read_cursor link.host.turn_reason screen.cursor; closed = open_read link.host.turn_reason shadow link.host.shadow sees.1 f.decides.closed; sees = sees.0 })
       (λ shadow sees. (λ later. shown (λ is_first. later (ap once_read is_first)), settled_read link.host.turn_reason shadow sees.2)))
     where
-      by_result : (r : Result Shadow HeardFault) → IsOkAnd r (Believed false screen) → IfOk r KnownIsExact → IfOk r ProtectedIsExact → IfOk r NothingIsOpen → IfOk r (λ s. All IsSettled (fields_of s))
-          → IsOkAnd r (λ s. Sees link.host.shape screen s × NothingIsOpen s × All IsSettled (fields_of s))
+      by_result : (r : Result Shadow HeardFault) → IsOkAnd r (Believed false screen) → IfOk r KnownIsExact → IfOk r ProtectedIsExact → IfOk r NothingIsOpen → IfOk r (λ s. All IsTextKnown (fields_of s))
+          → IsOkAnd r (λ s. Sees link.host.shape screen s × NothingIsOpen s × All IsTextKnown (fields_of s))
       by_result (Ok s) believed known protected closed settled =
           (record { exact = record { known = known; protected = protected }; closed = all_open screen.aid false s closed; cleared = λ clear. absurd (f.not_cleared clear); meets = believed.0; lists = believed.1; told = λ sent. believed.2 refl }, closed, settled)
       by_result (Err fault) believed known protected closed settled = absurd believed

@@ -49,19 +49,19 @@ pub record IsSeen (panel : List PanelField) (question : Question) (terminal : Te
   pub texts : (number : ℕ) (text : List ℕ) → value_of question.values number ≡ Some text → StandsIn panel number text terminal.screen
 
 -- The panel's field is on the screen, at its place and with its length; and without nulls its text is this one.
-pub record StandsWhole (field : PanelField) (text : List ℕ) (screen : Screen) : Type 0 where
+pub record IsFieldShown (field : PanelField) (text : List ℕ) (screen : Screen) : Type 0 where
   pub stands : StandsAt field text screen
   pub length_is : length stands.on_screen.text ≡ field.extent.length
 
 -- The question gives a text for the field, and the field is on the screen with that text.
-pub record IsAskedWhole (field : PanelField) (question : Question) (screen : Screen) : Type 0 where
+pub record IsFieldAsked (field : PanelField) (question : Question) (screen : Screen) : Type 0 where
   pub text : List ℕ
   pub given : value_of question.values field.number ≡ Some text
-  pub stands : StandsWhole field text screen
+  pub stands : IsFieldShown field text screen
 
 -- It is so of each field of the panel.
-abbrev pub EachFieldIsAsked : List PanelField → Question → Screen → Type 0
-EachFieldIsAsked panel question screen = (index : ℕ) (field : PanelField) → slice_get panel index ≡ Some field → IsAskedWhole field question screen
+abbrev pub AreFieldsAsked : List PanelField → Question → Screen → Type 0
+AreFieldsAsked panel question screen = (index : ℕ) (field : PanelField) → slice_get panel index ≡ Some field → IsFieldAsked field question screen
 
 -- ---- of a world over messages
 
@@ -82,10 +82,10 @@ AskedIsSeen app world = (number session : ℕ) (question : Question) (terminal :
     → IsSeen (app.fields question.panel) question terminal
 
 -- And it has a text of each field of its panel, which is on that screen, if each screen that the application asks for has its fields.
-abbrev pub EachFieldIsSeen : Application → World → Type 0
-EachFieldIsSeen app world = ShowsItsFields app → (number session : ℕ) (question : Question) (terminal : TerminalSeen)
+abbrev pub FieldsAreSeen : Application → World → Type 0
+FieldsAreSeen app world = ShowsItsFields app → (number session : ℕ) (question : Question) (terminal : TerminalSeen)
     → asked_by app session (world.link number) ≡ Some question → (seen_link (world.link number)).terminal ≡ Some terminal
-    → EachFieldIsAsked (app.fields question.panel) question terminal.screen
+    → AreFieldsAsked (app.fields question.panel) question terminal.screen
 
 -- ---- of a world over bytes
 
@@ -94,15 +94,15 @@ abbrev pub asked_at : ℕ → ByteWorld → Option Question
 asked_at number world = question_of (application_of world.host.panels) (session_at number world.host) (service_at number world.host)
 
 -- What is asked is what is seen: the key, the LU, the cursor and each field of the panel.
-pub record IsSeenWhole (panel : List PanelField) (question : Question) (terminal : TerminalSeen) : Type 0 where
+pub record IsPanelSeen (panel : List PanelField) (question : Question) (terminal : TerminalSeen) : Type 0 where
   pub seen : IsSeen panel question terminal
-  pub fields : EachFieldIsAsked panel question terminal.screen
+  pub fields : AreFieldsAsked panel question terminal.screen
 
 -- It is so on each connection.
 abbrev pub WhatIsAskedIsSeen : ByteWorld → Type 0
 WhatIsAskedIsSeen world = (number : ℕ) (question : Question) (terminal : TerminalSeen)
     → asked_at number world ≡ Some question → (seen_connection number world).terminal ≡ Some terminal
-    → IsSeenWhole ((application_of world.host.panels).fields question.panel) question terminal
+    → IsPanelSeen ((application_of world.host.panels).fields question.panel) question terminal
 
 -- It is so of each world whose bytes represent a world over messages.
 abbrev pub AskedIsSeenOverBytes : Type 0

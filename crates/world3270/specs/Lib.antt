@@ -33,6 +33,7 @@ pub mod Skipped
 pub mod Losses
 pub mod Forms
 pub mod Numbers
+pub mod Showing
 pub mod Shown
 pub mod Sizes
 pub mod Sendable

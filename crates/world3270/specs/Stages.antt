@@ -29,7 +29,7 @@ use Rattle.host_core.specs.declared.turn_reason.TurnReason.{TurnReason}
 use Rattle.host_core.specs.declared.turn_reason.TurnReason.TheVariants as turn_reasons
 use Rattle.world3270.specs.Headline.{SentFields}
 use Rattle.world3270.specs.Moments.{Talking, Serving, Moment, IsAt}
-use Rattle.world3270.specs.Shown.{ShownAt}
+use Rattle.world3270.specs.Showing.{ShownAt}
 use Rattle.world3270.specs.TurnReasons.{IsOccasion, IsCursorFor, IsOpenBy, IsOpenFor, IsCleared}
 use Rattle.world3270.specs.Unreturned.{NotedSince, UnmodifiedIsKept}
 use Rattle.world3270.specs.View.{View}

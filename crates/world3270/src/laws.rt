@@ -1,7 +1,7 @@
 //! Laws of the worlds over messages and over bytes: each is the contract of a function that does nothing. Proofs of
 //! other crates use them; no program calls them, and the root doesn't export them.
 ghost use Rattle.world3270.specs.Always.{Always, AlwaysOf, HeadlineHolds, NobodyRefuses};
-ghost use Rattle.world3270.specs.Asked.{AskedIsSeen, AskedIsSeenOverBytes, EachFieldIsSeen};
+ghost use Rattle.world3270.specs.Asked.{AskedIsSeen, AskedIsSeenOverBytes, FieldsAreSeen};
 ghost use Rattle.world3270.specs.Example.{TheRunsEndSo};
 ghost use Rattle.world3270.specs.Forms.{FormsAreAwaited};
 ghost use Rattle.world3270.specs.Given.{Given};
@@ -16,6 +16,7 @@ ghost use Rattle.world3270.specs.Places.{EndsAgree, UpIsHeld, HoldersAreHere, Li
 ghost use Rattle.world3270.specs.Refines.{BeginIsReached, HeadlineIsSeen, RunsGoOn, SkipsAreThose, StepsGoOn};
 ghost use Rattle.world3270.specs.TrackedTerminals.{HistoryFollows};
 ghost use Rattle.world3270.specs.Sendable.{AlwaysTyped, DataCanBeSpelt, PaintsAreScreens, PaintsAreSpelt, ScreensAreSendable, ScreensHaveASize, ValuesAreTexts};
+ghost use Rattle.world3270.specs.Shown.{PanelIsShown, PanelIsShownOverBytes};
 ghost use Rattle.world3270.specs.Sizes.{AllSizesAgree};
 ghost use Rattle.world3270.specs.Skipped.{SkippedChangesNothing};
 ghost use Rattle.world3270.specs.Stands.{StandsDown, StandsUp, all_items, without_nops};
@@ -101,12 +102,25 @@ pub fn what_was_pressed_is_acted_on()
 /// represents one over messages: the screens of panels have their fields.
 pub fn what_is_asked_is_seen()
     ensures messages { AlwaysOf AskedIsSeen }
-    ensures fields { AlwaysOf EachFieldIsSeen }
+    ensures fields { AlwaysOf FieldsAreSeen }
     ensures bytes { AskedIsSeenOverBytes }
 {
     what_is_given();
     panels_are_shown();
     fields_are_on_the_screen();
+}
+
+/// Law: what is answered is shown. Over the same lists of messages, on each connection with both ends
+/// attached, in the operator's turn with the host's last command answered: the screen that the host's
+/// last restoring write left is the one that the connection's panel asks for, with the connection's
+/// values and message, painted on a screen that it fitted. And so it is of each world over bytes that
+/// represents one over messages.
+pub fn what_is_answered_is_shown()
+    ensures messages { AlwaysOf PanelIsShown }
+    ensures bytes { PanelIsShownOverBytes }
+{
+    what_is_given();
+    panels_are_shown();
 }
 
 /// Law: over the same lists the data that comes up to the host next has the form that it awaits:
