@@ -349,7 +349,7 @@ each_asked given app is shows link k session question asked =
     record {
       text = told.0;
       given = learned_has conn.shadow (app.fields conn.panel) [] index field told.0 (shows.numbers conn.panel) at told.1;
-      stands = record { stands = stands; length_is = listed-length screen.cells field.extent stands.index stands.on_screen stands.listed stands.place among };
+      shown = record { stands = stands; length_is = listed-length screen.cells field.extent stands.index stands.on_screen stands.listed stands.place among };
     } in
     subst (λ (q : Question). AreFieldsAsked (app.fields q.panel) q screen) (sym there.3) on_it
   where

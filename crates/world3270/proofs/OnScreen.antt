@@ -1,7 +1,7 @@
 -- A screen that shows a panel has each field of the panel, at its place and with its length, whatever keys were pressed since but Clear.
-use Rattle.std.proofs.Common.{◌≡◌, ◌⊎◌, inl, inr, ◌==◌, ◌&&◌, ◌||◌, not, ◌+◌, ◌-◌, ◌<◌, ◌≤◌, arith, ℕ, zero, suc, Bool, true, false, Option, None, Some, List, [], ◌∷◌, ◌++◌, length, drop, take, refl, ap, sym, subst, ◌∙◌, if◌then◌else◌}
+use Rattle.std.proofs.Common.{◌≡◌, ◌⊎◌, inl, inr, ◌==◌, not, ◌+◌, ◌-◌, ◌<◌, ◌≤◌, arith, ℕ, zero, suc, Bool, true, false, None, Some, List, [], ◌∷◌, ◌++◌, length, drop, take, refl, ap, sym, subst, ◌∙◌, if◌then◌else◌}
 use Rattle.std.specs.Prelude.{slice_get, slice_index_or, replicate}
-use Rattle.std.specs.List.{Contains, list_any}
+use Rattle.std.specs.List.{Contains}
 use Rattle.std.proofs.lemmas.Bool.{and_parts, cases_lt, eqb-true, eq-eqb}
 use Rattle.std.proofs.lemmas.List.{get_or-drop, get_or_past}
 use Rattle.std.proofs.lemmas.Option.{get_or_from_slice_get, slice_get_cases, slice_get_past}
@@ -9,7 +9,6 @@ use Rattle.codes3270.specs.Size.{cells_in}
 use Rattle.codes3270.specs.declared.attribute.Attr.{Attr as Attribute}
 use Rattle.codes3270.specs.declared.attribute.Cell.{Cell}
 use Rattle.codes3270.specs.declared.attribute.Cell.TheVariants.{Char, Attr}
-use Rattle.datastream.specs.FieldLaws.{IsFieldOf}
 use Rattle.datastream.specs.Fields.{Field, fields}
 use Rattle.datastream.specs.Screen.{Screen, field_text, is_char, is_char_at, text_before_attribute}
 use Rattle.datastream.specs.Wanted.{WantedScreen}
@@ -18,8 +17,8 @@ use Rattle.datastream.specs.declared.wanted.Want.TheVariants.{Char as WantChar, 
 use Rattle.datastream.proofs.FieldViews.{field_listed, listed_field}
 use Rattle.panels.specs.KeptFields.{IsCharacterOf, IsFieldOn}
 use Rattle.panels.specs.declared.extent.Extent.{Extent}
-use Rattle.shadow.specs.Belief.{Belief, Shadow, cells_of_fields, fields_of}
-use Rattle.shadow.specs.Fits.{fields_fit, is_attribute, is_keep, is_paintable}
+use Rattle.shadow.specs.Belief.{Belief, Shadow, cells_of_fields}
+use Rattle.shadow.specs.Fits.{is_attribute, is_paintable}
 use Rattle.shadow.specs.Meets.{Meets}
 use Rattle.shadow.specs.Painted.{attr_or_kept, cells_under, keeps_ahead, painted_from, plainly_painted}
 use Rattle.shadow.specs.Pairs.{Pairwise}

@@ -2,12 +2,9 @@
 use Rattle.std.proofs.Common.{◌≡◌, ℕ, true, List, ap, sym, subst, ◌∙◌}
 use Rattle.datastream.specs.Screen.{Screen}
 use Rattle.panels.specs.Panel.{Panels}
-use Rattle.telnet_wire.specs.Reading.{Rest}
 use Rattle.host_core.specs.Application.{Application, IsApplication, application_of}
 use Rattle.host_core.specs.Laws.{PanelsAreShown}
 use Rattle.host_core.specs.Session.{Conn, Pending}
-use Rattle.host_core.specs.State.{Service, service_at}
-use Rattle.host_core.specs.declared.turn.Turn.{Turn}
 use Rattle.host_core.specs.declared.turn.Turn.TheVariants as whose
 use Rattle.world3270.specs.Always.{AlwaysOf}
 use Rattle.world3270.specs.ByteWorld.{is_there}

@@ -57,9 +57,9 @@ pub record IsFieldShown (field : PanelField) (text : List ℕ) (screen : Screen)
 pub record IsFieldAsked (field : PanelField) (question : Question) (screen : Screen) : Type 0 where
   pub text : List ℕ
   pub given : value_of question.values field.number ≡ Some text
-  pub stands : IsFieldShown field text screen
+  pub shown : IsFieldShown field text screen
 
--- It is so of each field of the panel.
+-- It does so of each field of the panel.
 abbrev pub AreFieldsAsked : List PanelField → Question → Screen → Type 0
 AreFieldsAsked panel question screen = (index : ℕ) (field : PanelField) → slice_get panel index ≡ Some field → IsFieldAsked field question screen
 
@@ -81,7 +81,8 @@ AskedIsSeen app world = (number session : ℕ) (question : Question) (terminal :
     → asked_by app session (world.link number) ≡ Some question → (seen_link (world.link number)).terminal ≡ Some terminal
     → IsSeen (app.fields question.panel) question terminal
 
--- And it has a text of each field of its panel, which is on that screen, if each screen that the application asks for has its fields.
+-- And it has the text of each field of its panel as that screen shows it, if each screen that the application asks for has its panel's
+-- fields.
 abbrev pub FieldsAreSeen : Application → World → Type 0
 FieldsAreSeen app world = ShowsItsFields app → (number session : ℕ) (question : Question) (terminal : TerminalSeen)
     → asked_by app session (world.link number) ≡ Some question → (seen_link (world.link number)).terminal ≡ Some terminal

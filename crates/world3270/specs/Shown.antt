@@ -1,13 +1,5 @@
 -- What the operator is shown is the panel that the host has for the connection (our profile).
-use Rattle.std.specs.Prelude.{◌≡◌, ℕ, Bool, true, Option, Some}
-use Rattle.datastream.specs.Screen.{Screen}
-use Rattle.datastream.specs.Wanted.{WantedScreen}
-use Rattle.shadow.specs.Belief.{Shadow}
-use Rattle.shadow.specs.Fits.{is_paintable}
-use Rattle.shadow.specs.Meets.{Meets}
-use Rattle.shadow.specs.Painted.{plainly_painted}
-use Rattle.panels.specs.Screen.{Values}
-use Rattle.panels.specs.declared.message.Message.{Message}
+use Rattle.std.specs.Prelude.{◌≡◌, ℕ, true, Some}
 use Rattle.telnet_wire.specs.Reading.{Rest}
 use Rattle.host_core.specs.Application.{Application, application_of}
 use Rattle.host_core.specs.Session.{Conn, Pending}
