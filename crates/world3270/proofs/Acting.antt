@@ -15,6 +15,7 @@ use Rattle.panels.specs.Screen.{Values}
 use Rattle.shadow.specs.Belief.{Shadow}
 use Rattle.shadow.specs.Meets.{Meets}
 use Rattle.shadow.specs.Openness.{NothingIsOpen}
+use Rattle.shadow.specs.Fits.{fits}
 use Rattle.shadow.specs.Paint.{paint}
 use Rattle.tn3270e_msg.specs.Talk.{Talk, start_at}
 use Rattle.tn3270e_msg.specs.declared.host_talk.HostState.{HostState}
@@ -36,6 +37,7 @@ use Rattle.world3270.specs.Given.{Given}
 use Rattle.world3270.specs.Link.{Link, sent, host_sent}
 use Rattle.world3270.specs.Moments.{Kind, UnderWay, Talking, Serving, Moment, IsAt, host_talk_at, term_state_at, turn_at, pending_at, down_at, up_at, agreed, served_down, served_up}
 use Rattle.world3270.specs.TurnReasons.{IsOccasion, IsOpenBy, IsOpenFor}
+use Rattle.world3270.specs.Showing.{WantsItsPanel, ShownAt, ShownIn}
 use Rattle.world3270.specs.Stages.{scene_of, FactsAreExact, IsNew, Decides, Fact, Kept, Sizes, may_differ_at}
 use Rattle.world3270.specs.View.{View, view_of}
 use Rattle.world3270.proofs.Down.{none_open}
@@ -69,8 +71,9 @@ sent_at link sending wanted from to same at host term turn pending down up = rec
 -- a sending that leads to a moment
 kept_sent : (app : Application) (link : Link) (sending : Sending) (k : Kept app (view_of link)) (to : Moment) → Sends link sending → IsSizeOf app link.term.display.model sending.conn.shape
     → (may_differ_at to ≡ false → link.term.display.shape ≡ sending.conn.shape) → IsAt (view_of (sent_view sending link)) k.wanted to
-    → Fact k.wanted (scene_of (view_of (sent_view sending link))) to → Kept app (view_of (sent_view sending link))
-kept_sent app link sending k to same size steady at fact = record {
+    → Fact k.wanted (scene_of (view_of (sent_view sending link))) to → ShownAt app sending.conn link.term.display.last_restored to
+    → Kept app (view_of (sent_view sending link))
+kept_sent app link sending k to same size steady at fact shown = record {
   whole = k.whole;
   cursor = k.cursor;
   unreturned = k.unreturned;
@@ -80,6 +83,7 @@ kept_sent app link sending k to same size steady at fact = record {
   sizes = record { host = size; screen = k.sizes.screen; same = steady };
   at = at;
   fact = fact;
+  shown = shown;
 }
 
 -- ---- the host acts
@@ -87,6 +91,23 @@ kept_sent app link sending k to same size steady at fact = record {
 -- the screen that is asked for, of the panel that is shown to the terminal
 abbrev wants_of : Application → Conn → ℕ → Message → Bool → Values → WantedScreen
 wants_of app conn panel message keep values = wanted_by app conn (app.shown (model_in conn) panel) message keep values
+
+-- it is that of the panel, whether or not what is believed lets it keep fields
+asked_if : (fit : Bool) (app : Application) (conn : Conn) (panel : ℕ) (message : Message) (values : Values)
+    → (keep : Bool) × ((if fit then app.screen panel values message true else app.screen panel values message false) ≡ app.screen panel values message keep)
+asked_if true app conn panel message values = (true, refl)
+asked_if false app conn panel message values = (false, refl)
+
+asked_by : (app : Application) (conn : Conn) (panel : ℕ) (message : Message) (keep : Bool) (values : Values)
+    → (way : Bool) × (wanted_by app conn panel message keep values ≡ app.screen panel values message way)
+asked_by app conn panel message true values = asked_if (fits conn.shadow (app.screen panel values message true)) app conn panel message values
+asked_by app conn panel message false values = (false, refl)
+
+asked_for : (app : Application) (conn : Conn) (panel : ℕ) (message : Message) (keep : Bool) (values : Values)
+    → WantsItsPanel app (shown app conn panel message keep values).conn (wants_of app conn panel message keep values)
+asked_for app conn panel message keep values =
+    let asked = asked_by app conn (app.shown (model_in conn) panel) message keep values in
+    record { keep = asked.0; is = asked.1 }
 
 paintable : Given → (app : Application) → IsApplication app → (link : Link) → (panel : ℕ) (message : Message) (keep : Bool) (values : Values)
     → let wants = wants_of app link.host panel message keep values in IsPaintable wants.size link.host.shadow wants
@@ -177,6 +198,7 @@ module _ (given : Given) (app : Application) (is : IsApplication app) (link : Li
         closed = none_open link.host.shadow n.shadow;
         paintable = paintable given app is link panel message keep values;
       })
+      (asked_for app link.host panel message keep values)
 
   paints : (lu : List ℕ) (panel : ℕ) (message : Message) (keep : Bool) (values : Values) → NothingIsOpen link.host.shadow → IsAt (view_of link) k.wanted (Moment.Serves lu Serving.Deciding) → Decides (scene_of (view_of link)) link.host.shadow
       → Kept app (view_of (sent_view (shown app link.host panel message keep values) link))
@@ -195,23 +217,27 @@ module _ (given : Given) (app : Application) (is : IsApplication app) (link : Li
         closed = closed;
         paintable = paintable given app is link panel message keep values;
       })
+      (asked_for app link.host panel message keep values)
 
-  asks : (lu : List ℕ) → link.term.display.shape ≡ link.host.shape → (link.term.display.screen.aid ≡ ClearAid → ⊥) → IsAt (view_of link) k.wanted (Moment.Serves lu Serving.Deciding) → Decides (scene_of (view_of link)) link.host.shadow → Kept app (view_of (sent_view (done app link.host Act.Read) link))
-  asks lu steady not_cleared at f =
+  asks : (lu : List ℕ) → link.term.display.shape ≡ link.host.shape → (link.term.display.screen.aid ≡ ClearAid → ⊥) → IsAt (view_of link) k.wanted (Moment.Serves lu Serving.Deciding) → Decides (scene_of (view_of link)) link.host.shadow
+      → ShownIn app link.host link.term.display.last_restored Serving.Deciding → Kept app (view_of (sent_view (done app link.host Act.Read) link))
+  asks lu steady not_cleared at f showing =
       let sending : Sending = done app link.host Act.Read in
       let same : Sends link sending = record { talk = refl; shadow = refl } in
       let to : Moment = Moment.Serves lu (Serving.Reading link.host.next_seq) in
       kept_sent app link sending k to same k.sizes.host (λ s. steady)
       (sent_at link sending k.wanted (Moment.Serves lu Serving.Deciding) to same at refl refl at.turn refl refl refl)
       (record { decides = f; not_cleared = not_cleared })
+      showing.0
 
   acts_at : (lu : List ℕ) (decision : Decision) → link.term.display.shape ≡ link.host.shape → decision_on app link.host link.host.turn_reason ≡ decision → IsAt (view_of link) k.wanted (Moment.Serves lu Serving.Deciding)
-      → Decides (scene_of (view_of link)) link.host.shadow → Kept app (view_of (host_sent (decided app link.host decision) link))
-  acts_at lu (Decision.Do Act.Read) steady e at f = asks lu steady (reads_uncleared app link.host link.host.turn_reason link.term.display.screen.aid f.turn_reason e) at f
-  acts_at lu (Decision.Do (Act.Show panel message keep values)) steady e at f =
+      → Decides (scene_of (view_of link)) link.host.shadow → ShownIn app link.host link.term.display.last_restored Serving.Deciding → Kept app (view_of (host_sent (decided app link.host decision) link))
+  acts_at lu (Decision.Do Act.Read) steady e at f showing =
+      asks lu steady (reads_uncleared app link.host link.host.turn_reason link.term.display.screen.aid f.turn_reason e) at f showing
+  acts_at lu (Decision.Do (Act.Show panel message keep values)) steady e at f showing =
       paints lu panel message keep values
       (decided_closed app link.host link.host.turn_reason link.host.shadow (shows_unread (decision_on app link.host link.host.turn_reason) panel message keep values e) f.closed) at f
-  acts_at lu Decision.Asks steady e at f = k
+  acts_at lu Decision.Asks steady e at f showing = k
 
   -- at agreement the first panel is shown
   acts_new : (lu : List ℕ) → IsAt (view_of link) k.wanted (Moment.Talks (Talking.Agreeing lu)) → IsNew (scene_of (view_of link))
@@ -237,10 +263,10 @@ module _ (given : Given) (app : Application) (is : IsApplication app) (link : Li
   data MayAct : Type 0 where
     agreeing : (lu : List ℕ) → IsAt (view_of link) k.wanted (Moment.Talks (Talking.Agreeing lu)) → IsNew (scene_of (view_of link)) → MayAct
     deciding : (lu : List ℕ) → Sizes app (view_of link) (Moment.Serves lu Serving.Deciding) → IsAt (view_of link) k.wanted (Moment.Serves lu Serving.Deciding)
-        → Decides (scene_of (view_of link)) link.host.shadow → MayAct
+        → Decides (scene_of (view_of link)) link.host.shadow → ShownIn app link.host link.term.display.last_restored Serving.Deciding → MayAct
 
   may_act_at : link.host.turn ≡ whose.Host → link.host.pending ≡ Pending.Nothing → is_agreed link.host.talk.state ≡ true → MayAct
-  may_act_at turns pends agrees = by_moment k.moment k.sizes k.at k.fact
+  may_act_at turns pends agrees = by_moment k.moment k.sizes k.at k.fact k.shown
     where
       not_yet : (moment : Moment) → IsAt (view_of link) k.wanted moment → is_agreed (host_talk_at link.term.display.model moment).state ≡ true
       not_yet moment at = sym (ap (λ (t : Talk HostState). is_agreed t.state) at.host_talk) ∙ agrees
@@ -256,30 +282,32 @@ module _ (given : Given) (app : Application) (is : IsApplication app) (link : Li
       by_talk (Talking.Rejecting reason) at n = let x = not_yet (Moment.Talks (Talking.Rejecting reason)) at in absurd (cc)
       by_talk (Talking.Rejected reason) at n = let x = not_yet (Moment.Talks (Talking.Rejected reason)) at in absurd (cc)
 
-      by_serving : (lu : List ℕ) (serving : Serving) → Sizes app (view_of link) (Moment.Serves lu serving) → IsAt (view_of link) k.wanted (Moment.Serves lu serving) → Fact k.wanted (scene_of (view_of link)) (Moment.Serves lu serving) → turn_at (Moment.Serves lu serving) ≡ whose.Host
+      by_serving : (lu : List ℕ) (serving : Serving) → Sizes app (view_of link) (Moment.Serves lu serving) → IsAt (view_of link) k.wanted (Moment.Serves lu serving) → Fact k.wanted (scene_of (view_of link)) (Moment.Serves lu serving)
+          → ShownIn app link.host link.term.display.last_restored serving → turn_at (Moment.Serves lu serving) ≡ whose.Host
           → pending_at (Moment.Serves lu serving) ≡ Pending.Nothing → MayAct
-      by_serving lu Serving.Deciding s at f t p = MayAct.deciding lu s at f
-      by_serving lu (Serving.Reading number) s at f t p = absurd (cc)
-      by_serving lu (Serving.Reported number parts) s at f t p = absurd (cc)
-      by_serving lu (Serving.NotedLate number command) s at f t p = absurd (cc)
-      by_serving lu (Serving.AnsweredLate number command) s at f t p = absurd (cc)
-      by_serving lu (Serving.Painting number command wants over) s at f t p = absurd (cc)
-      by_serving lu (Serving.Answering kind number command) s at f t p = absurd (cc)
-      by_serving lu Serving.Operating s at f t p = absurd (cc)
-      by_serving lu (Serving.Noting number command) s at f t p = absurd (cc)
-      by_serving lu (Serving.KeyAlone parts) s at f t p = absurd (cc)
-      by_serving lu (Serving.KeyBehind kind number command parts) s at f t p = absurd (cc)
-      by_serving lu (Serving.KeyNoted number command parts) s at f t p = absurd (cc)
-      by_serving lu (Serving.KeyBefore number command parts) s at f t p = absurd (cc)
+      by_serving lu Serving.Deciding s at f showing t p = MayAct.deciding lu s at f showing
+      by_serving lu (Serving.Reading number) s at f showing t p = absurd (cc)
+      by_serving lu (Serving.Reported number parts) s at f showing t p = absurd (cc)
+      by_serving lu (Serving.NotedLate number command) s at f showing t p = absurd (cc)
+      by_serving lu (Serving.AnsweredLate number command) s at f showing t p = absurd (cc)
+      by_serving lu (Serving.Painting number command wants over) s at f showing t p = absurd (cc)
+      by_serving lu (Serving.Answering kind number command) s at f showing t p = absurd (cc)
+      by_serving lu Serving.Operating s at f showing t p = absurd (cc)
+      by_serving lu (Serving.Noting number command) s at f showing t p = absurd (cc)
+      by_serving lu (Serving.KeyAlone parts) s at f showing t p = absurd (cc)
+      by_serving lu (Serving.KeyBehind kind number command parts) s at f showing t p = absurd (cc)
+      by_serving lu (Serving.KeyNoted number command parts) s at f showing t p = absurd (cc)
+      by_serving lu (Serving.KeyBefore number command parts) s at f showing t p = absurd (cc)
 
-      by_moment : (moment : Moment) → Sizes app (view_of link) moment → IsAt (view_of link) k.wanted moment → Fact k.wanted (scene_of (view_of link)) moment → MayAct
-      by_moment (Moment.Talks talking) s at f = by_talk talking at f.0
-      by_moment (Moment.Begins lu number command wants over) s at f = let t = sym at.turn ∙ turns in absurd (cc)
-      by_moment (Moment.Serves lu serving) s at f = by_serving lu serving s at f (sym at.turn ∙ turns) (sym at.pending ∙ pends)
+      by_moment : (moment : Moment) → Sizes app (view_of link) moment → IsAt (view_of link) k.wanted moment → Fact k.wanted (scene_of (view_of link)) moment
+          → ShownAt app link.host link.term.display.last_restored moment → MayAct
+      by_moment (Moment.Talks talking) s at f showing = by_talk talking at f.0
+      by_moment (Moment.Begins lu number command wants over) s at f showing = let t = sym at.turn ∙ turns in absurd (cc)
+      by_moment (Moment.Serves lu serving) s at f showing = by_serving lu serving s at f showing (sym at.turn ∙ turns) (sym at.pending ∙ pends)
 
   acts_then : MayAct → Kept app (view_of (host_sent (decided app link.host (decision_on app link.host link.host.turn_reason)) link))
   acts_then (MayAct.agreeing lu at n) = acts_new lu at n
-  acts_then (MayAct.deciding lu s at f) = acts_at lu (decision_on app link.host link.host.turn_reason) (s.same refl) refl at f
+  acts_then (MayAct.deciding lu s at f showing) = acts_at lu (decision_on app link.host link.host.turn_reason) (s.same refl) refl at f showing
 
   acts_by : (turn : Turn) (pending : Pending) (agreed : Bool) → link.host.turn ≡ turn → link.host.pending ≡ pending → is_agreed link.host.talk.state ≡ agreed
       → Kept app (view_of (host_sent (if may_act turn pending agreed then decided app link.host (decision_on app link.host link.host.turn_reason) else None) link))
@@ -298,7 +326,7 @@ module _ (given : Given) (app : Application) (is : IsApplication app) (link : Li
 
   answers_then : (said : Said) → is_ask (decision_on app link.host link.host.turn_reason) ≡ true → MayAct → Kept app (view_of (sent_view (done app link.host (act_by app link.host said said.panel)) link))
   answers_then said is_asked (MayAct.agreeing lu at n) = absurd (agreed_unasked app link.host n.turn_reason is_asked)
-  answers_then said is_asked (MayAct.deciding lu s at f) = answers_at lu said said.panel is_asked at f
+  answers_then said is_asked (MayAct.deciding lu s at f showing) = answers_at lu said said.panel is_asked at f
 
   answers_by : (said : Said) (turn : Turn) (pending : Pending) (agreed is_asked has : Bool) → link.host.turn ≡ turn → link.host.pending ≡ pending → is_agreed link.host.talk.state ≡ agreed
       → is_ask (decision_on app link.host link.host.turn_reason) ≡ is_asked
@@ -322,11 +350,11 @@ module _ (given : Given) (app : Application) (is : IsApplication app) (link : Li
   -- the host decides, and asks
   abbrev pub Asks : Type 0
   Asks = (lu : List ℕ) × IsAt (view_of link) k.wanted (Moment.Serves lu Serving.Deciding) × Decides (scene_of (view_of link)) link.host.shadow
-      × (is_ask (decision_on app link.host link.host.turn_reason) ≡ true)
+      × (is_ask (decision_on app link.host link.host.turn_reason) ≡ true) × ShownIn app link.host link.term.display.last_restored Serving.Deciding
 
   asks_then : is_ask (decision_on app link.host link.host.turn_reason) ≡ true → MayAct → Asks
   asks_then is_asked (MayAct.agreeing lu at n) = absurd (agreed_unasked app link.host n.turn_reason is_asked)
-  asks_then is_asked (MayAct.deciding lu s at f) = (lu, at, f, is_asked)
+  asks_then is_asked (MayAct.deciding lu s at f showing) = (lu, at, f, is_asked, showing)
 
   asks_by : (turn : Turn) (pending : Pending) (agreed is_asked : Bool) → link.host.turn ≡ turn → link.host.pending ≡ pending → is_agreed link.host.talk.state ≡ agreed
       → is_ask (decision_on app link.host link.host.turn_reason) ≡ is_asked → (may_act turn pending agreed && is_asked) ≡ true → Asks
@@ -361,40 +389,42 @@ module _ (app : Application) (text : List ℕ) (is : IsNoteText text) (link : Li
   notes_at : (lu : List ℕ) (from to : Serving) → link.term.display.shape ≡ link.host.shape → IsAt (view_of link) k.wanted (Moment.Serves lu from) → turn_at (Moment.Serves lu from) ≡ turn_at (Moment.Serves lu to)
       → Pending.Noting link.host.next_seq command ≡ pending_at (Moment.Serves lu to)
       → served_down from ++ ToTerminal.Note link.host.next_seq command ∷ [] ≡ served_down to → served_up to ≡ served_up from
-      → Fact k.wanted (scene_of (view_of (sent_view noting link))) (Moment.Serves lu to) → Kept app (view_of (sent_view noting link))
-  notes_at lu from to steady at turn pending down up fact =
-      kept_sent app link noting k (Moment.Serves lu to) same_end k.sizes.host (λ s. steady) (sent_at link noting k.wanted (Moment.Serves lu from) (Moment.Serves lu to) same_end at refl refl (at.turn ∙ turn) pending down up) fact
+      → Fact k.wanted (scene_of (view_of (sent_view noting link))) (Moment.Serves lu to) → ShownIn app link.host link.term.display.last_restored to → Kept app (view_of (sent_view noting link))
+  notes_at lu from to steady at turn pending down up fact showing =
+      kept_sent app link noting k (Moment.Serves lu to) same_end k.sizes.host (λ s. steady) (sent_at link noting k.wanted (Moment.Serves lu from) (Moment.Serves lu to) same_end at refl refl (at.turn ∙ turn) pending down up) fact showing
 
   -- it may do so at two moments alone
   may_note_at : link.host.turn ≡ whose.Terminal → link.host.pending ≡ Pending.Nothing → Kept app (view_of (sent_view noting link))
-  may_note_at turns pends = by_moment k.moment k.sizes k.at k.fact
+  may_note_at turns pends = by_moment k.moment k.sizes k.at k.fact k.shown
     where
-      by_serving : (lu : List ℕ) (serving : Serving) → Sizes app (view_of link) (Moment.Serves lu serving) → IsAt (view_of link) k.wanted (Moment.Serves lu serving) → Fact k.wanted (scene_of (view_of link)) (Moment.Serves lu serving) → turn_at (Moment.Serves lu serving) ≡ whose.Terminal
+      by_serving : (lu : List ℕ) (serving : Serving) → Sizes app (view_of link) (Moment.Serves lu serving) → IsAt (view_of link) k.wanted (Moment.Serves lu serving) → Fact k.wanted (scene_of (view_of link)) (Moment.Serves lu serving)
+          → ShownIn app link.host link.term.display.last_restored serving → turn_at (Moment.Serves lu serving) ≡ whose.Terminal
           → pending_at (Moment.Serves lu serving) ≡ Pending.Nothing → Kept app (view_of (sent_view noting link))
-      by_serving lu Serving.Operating s at f t p =
+      by_serving lu Serving.Operating s at f showing t p =
           notes_at lu Serving.Operating (Serving.Noting link.host.next_seq command) (s.same refl) at refl refl refl refl
-          (f, is_note)
-      by_serving lu (Serving.KeyAlone parts) s at f t p =
+          (f, is_note) showing
+      by_serving lu (Serving.KeyAlone parts) s at f showing t p =
           notes_at lu (Serving.KeyAlone parts) (Serving.KeyNoted link.host.next_seq command parts) (s.same refl) at refl refl refl refl
-          (f.0, f.1, record { note = is_note; takes = f.2 })
-      by_serving lu Serving.Deciding s at f t p = absurd (cc)
-      by_serving lu (Serving.Reading number) s at f t p = absurd (cc)
-      by_serving lu (Serving.Reported number parts) s at f t p = absurd (cc)
-      by_serving lu (Serving.NotedLate number command) s at f t p = absurd (cc)
-      by_serving lu (Serving.AnsweredLate number command) s at f t p = absurd (cc)
-      by_serving lu (Serving.Painting number command wants over) s at f t p = absurd (cc)
-      by_serving lu (Serving.Answering Kind.APaint number command) s at f t p = absurd (cc)
-      by_serving lu (Serving.Answering Kind.ANote number command) s at f t p = absurd (cc)
-      by_serving lu (Serving.Noting number command) s at f t p = absurd (cc)
-      by_serving lu (Serving.KeyBehind Kind.APaint number command parts) s at f t p = absurd (cc)
-      by_serving lu (Serving.KeyBehind Kind.ANote number command parts) s at f t p = absurd (cc)
-      by_serving lu (Serving.KeyNoted number command parts) s at f t p = absurd (cc)
-      by_serving lu (Serving.KeyBefore number command parts) s at f t p = absurd (cc)
+          (f.0, f.1, record { note = is_note; takes = f.2 }) showing
+      by_serving lu Serving.Deciding s at f showing t p = absurd (cc)
+      by_serving lu (Serving.Reading number) s at f showing t p = absurd (cc)
+      by_serving lu (Serving.Reported number parts) s at f showing t p = absurd (cc)
+      by_serving lu (Serving.NotedLate number command) s at f showing t p = absurd (cc)
+      by_serving lu (Serving.AnsweredLate number command) s at f showing t p = absurd (cc)
+      by_serving lu (Serving.Painting number command wants over) s at f showing t p = absurd (cc)
+      by_serving lu (Serving.Answering Kind.APaint number command) s at f showing t p = absurd (cc)
+      by_serving lu (Serving.Answering Kind.ANote number command) s at f showing t p = absurd (cc)
+      by_serving lu (Serving.Noting number command) s at f showing t p = absurd (cc)
+      by_serving lu (Serving.KeyBehind Kind.APaint number command parts) s at f showing t p = absurd (cc)
+      by_serving lu (Serving.KeyBehind Kind.ANote number command parts) s at f showing t p = absurd (cc)
+      by_serving lu (Serving.KeyNoted number command parts) s at f showing t p = absurd (cc)
+      by_serving lu (Serving.KeyBefore number command parts) s at f showing t p = absurd (cc)
 
-      by_moment : (moment : Moment) → Sizes app (view_of link) moment → IsAt (view_of link) k.wanted moment → Fact k.wanted (scene_of (view_of link)) moment → Kept app (view_of (sent_view noting link))
-      by_moment (Moment.Talks talking) s at f = let t = sym at.turn ∙ turns in absurd (cc)
-      by_moment (Moment.Begins lu number command wants over) s at f = let p = sym at.pending ∙ pends in absurd (cc)
-      by_moment (Moment.Serves lu serving) s at f = by_serving lu serving s at f (sym at.turn ∙ turns) (sym at.pending ∙ pends)
+      by_moment : (moment : Moment) → Sizes app (view_of link) moment → IsAt (view_of link) k.wanted moment → Fact k.wanted (scene_of (view_of link)) moment
+          → ShownAt app link.host link.term.display.last_restored moment → Kept app (view_of (sent_view noting link))
+      by_moment (Moment.Talks talking) s at f showing = let t = sym at.turn ∙ turns in absurd (cc)
+      by_moment (Moment.Begins lu number command wants over) s at f showing = let p = sym at.pending ∙ pends in absurd (cc)
+      by_moment (Moment.Serves lu serving) s at f showing = by_serving lu serving s at f showing (sym at.turn ∙ turns) (sym at.pending ∙ pends)
 
   notes_by : (turn : Turn) (pending : Pending) (agreed : Bool) → link.host.turn ≡ turn → link.host.pending ≡ pending
       → Kept app (view_of (host_sent (if may_note turn pending agreed then Some (noted_as text link.host) else None) link))
@@ -434,4 +464,5 @@ loses app v k = record {
   sizes = record { host = k.sizes.host; screen = k.sizes.screen; same = k.sizes.same };
   at = lost_at v k.wanted k.moment k.at;
   fact = k.fact;
+  shown = k.shown;
 }

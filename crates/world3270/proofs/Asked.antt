@@ -1,25 +1,32 @@
 -- What the application is asked is what the operator sees: it is read off the moment in which the host decides.
-use Rattle.std.proofs.Common.{◌≡◌, ◌⊎◌, ◌+◌, ◌-◌, arith, ℕ, zero, suc, Bool, true, false, Option, None, Some, List, [], ◌∷◌, refl, ap, sym, subst, ◌∙◌, if◌then◌else◌, inl, inr}
-use Rattle.std.specs.Prelude.{◌==◌, slice_get, option_map, option_and_then}
-use Rattle.std.proofs.lemmas.Bool.{cases_eq, eqb-true}
+use Rattle.std.proofs.Common.{◌≡◌, ◌≢◌, ◌⊎◌, ◌+◌, ◌-◌, ◌<◌, ◌||◌, ◌&&◌, not, length, arith, ℕ, zero, suc, Bool, true, false, Option, None, Some, List, [], ◌∷◌, refl, ap, sym, subst, ◌∙◌, if◌then◌else◌, inl, inr}
+use Rattle.std.specs.Prelude.{◌==◌, All, slice_get, slice_index_or, option_map, option_and_then}
+use Rattle.std.specs.List.{Contains, list_any}
+use Rattle.std.specs.Option.{option_map_or}
+use Rattle.std.proofs.lemmas.Bool.{cases_eq, eq-eqb, eqb-true}
+use Rattle.std.proofs.lemmas.List.Elements.{All-head, All-tail}
+use Rattle.codes3270.specs.Size.{cells_in}
 use Rattle.codes3270.specs.declared.attention.Aid.{Aid}
 use Rattle.codes3270.specs.declared.attention.Aid.TheVariants.{NoAid, Enter, Clear, Pf, Pa}
-use Rattle.datastream.specs.Fields.{Field, fields}
+use Rattle.datastream.specs.Fields.{Field, fields, IsFormatted as IsFormattedScreen}
 use Rattle.datastream.specs.Inbound.{without_nulls}
 use Rattle.datastream.specs.Screen.{Screen}
+use Rattle.datastream.specs.Wanted.{WantedScreen}
 use Rattle.panels.proofs.Setting.{put_here, put_there}
+use Rattle.panels.specs.KeptFields.{IsFieldOn}
+use Rattle.panels.specs.Panel.{HaveNumbersApart}
 use Rattle.panels.specs.Screen.{Values}
 use Rattle.panels.specs.Values.{set_if, value_of}
 use Rattle.panels.specs.declared.extent.Extent.{Extent}
 use Rattle.panels.specs.declared.panel.Field.{Field as PanelField}
 use Rattle.shadow.specs.Asked.{belief_with}
-use Rattle.shadow.specs.Belief.{Fact, Belief, Shadow}
-use Rattle.shadow.specs.Meets.{FieldMeets, Holds, Meets, told}
+use Rattle.shadow.specs.Belief.{Fact, Belief, Shadow, fields_of}
+use Rattle.shadow.specs.Meets.{FieldMeets, Holds, ListsFields, Meets, told}
 use Rattle.shadow.specs.Pairs.{Pairwise}
 use Rattle.tn3270e_msg.specs.Talk.{Talk}
 use Rattle.tn3270e_msg.specs.TermTable.{Term}
 use Rattle.tn3270e_msg.specs.declared.host_talk.HostState.{HostState}
-use Rattle.host_core.specs.Acts.{decision_on, learned, text_known}
+use Rattle.host_core.specs.Acts.{Act, Decision, belief_of, decision_on, is_in_doubt, is_settled_fact, learned, text_known}
 use Rattle.host_core.specs.Application.{Application, IsApplication}
 use Rattle.host_core.specs.Questions.{is_ask, is_asking, key_of, question_in, question_on}
 use Rattle.host_core.specs.Session.{Conn, agreed_lu}
@@ -27,18 +34,21 @@ use Rattle.host_core.specs.declared.question.Question.{Question}
 use Rattle.host_core.specs.declared.turn_reason.TurnReason.{TurnReason}
 use Rattle.host_core.specs.declared.turn_reason.TurnReason.TheVariants as turn_reasons
 use Rattle.world3270.specs.Always.{AlwaysOf}
-use Rattle.world3270.specs.Asked.{AskedIsSeen, IsSeen, StandsAt, StandsIn}
+use Rattle.world3270.specs.Asked.{AskedIsSeen, AreFieldsAsked, FieldsAreSeen, IsSeen, ShowsItsFields, StandsAt, StandsIn}
 use Rattle.world3270.specs.Given.{Given}
 use Rattle.world3270.specs.Happens.{run}
 use Rattle.world3270.specs.Link.{Link}
 use Rattle.world3270.specs.Seen.{TerminalSeen, end_seen}
+use Rattle.world3270.specs.Showing.{IsTextKnown, IsKnownIfRead, ShowsItsPanel}
 use Rattle.world3270.specs.Stages.{Kept}
 use Rattle.world3270.specs.Terminal.{bound_to}
 use Rattle.world3270.specs.TurnReasons.{IsCursorFor, IsOccasion}
+use Rattle.world3270.specs.Unreturned.{SamePlaces}
 use Rattle.world3270.specs.View.{view_of}
 use Rattle.world3270.specs.World.{World, new_world}
 use Rattle.world3270.proofs.Acting.{agreed_unasked, asks_deciding}
 use Rattle.world3270.proofs.Headline.{terminal_attached}
+use Rattle.world3270.proofs.OnScreen.{IsAmong, among_listed, among_painted, among_same, listed-length}
 use Rattle.world3270.proofs.Worlds.{new_good, run_good}
 
 -- ---- a text that is known stands on the screen
@@ -130,6 +140,136 @@ stands_in shadow screen panel number text meets is = by_case (learned_from shado
       stands = stands_at shadow screen found.1 text meets found.4;
     }
 
+-- ---- each field is asked about
+
+-- a settled fact tells a text
+settled_told : (fact : Fact) → is_settled_fact fact ≡ true → (text : List ℕ) × (told fact ≡ Some text)
+settled_told (Fact.Exact value) settled = (without_nulls value, refl)
+settled_told (Fact.Text value) settled = (value, refl)
+settled_told (Fact.ExactOrNulls value) settled = absurd (cc)
+settled_told (Fact.TextOrNulls value) settled = absurd (cc)
+settled_told (Fact.Any known) settled = absurd (cc)
+
+-- a text is known of the field that is believed there
+abbrev IsTextOf : Option Belief → Type 0
+IsTextOf found = (text : List ℕ) × (option_and_then (λ (belief : Belief). told belief.fact) found ≡ Some text)
+
+found_told : (found : Option Belief) → not (option_map_or (λ (belief : Belief). is_settled_fact belief.fact) found false) ≡ false → IsTextOf found
+found_told None sure = absurd (cc)
+found_told (Some belief) sure = settled_told belief.fact (is_true (is_settled_fact belief.fact) sure)
+  where
+    is_true : (b : Bool) → not b ≡ false → b ≡ true
+    is_true true e = refl
+    is_true false e = absurd (cc)
+
+neither : (one other : Bool) → (one || other) ≡ false → (one ≡ false) × (other ≡ false)
+neither true other none = absurd (cc)
+neither false other none = (refl, none)
+
+-- nothing is in doubt
+sure_told : (shadow : Shadow) (panel : List PanelField) (index : ℕ) (field : PanelField) → list_any (is_in_doubt shadow) panel ≡ false → slice_get panel index ≡ Some field
+    → IsTextOf (belief_of shadow field)
+sure_told shadow [] index field sure at = absurd (cc)
+sure_told shadow (first ∷ panel) zero field sure at =
+    let same : first ≡ field = let both : Some first ≡ Some field = at in cc in
+    subst (λ (f : PanelField). IsTextOf (belief_of shadow f)) same
+    (found_told (belief_of shadow first) (neither (is_in_doubt shadow first) (list_any (is_in_doubt shadow) panel) sure).0)
+sure_told shadow (first ∷ panel) (suc index) field sure at =
+    sure_told shadow panel index field (neither (is_in_doubt shadow first) (list_any (is_in_doubt shadow) panel) sure).1 at
+
+-- a listed field is believed, with a settled fact
+belief_there : (place : ℕ) (beliefs : List Belief) (seen : List Field) (index : ℕ) (field : Field) → Pairwise FieldMeets beliefs seen → All IsTextKnown beliefs
+    → index < length seen → slice_index_or seen index field ≡ field → field.place ≡ place → IsTextOf (belief_with place beliefs)
+belief_there place [] [] index field meets settled below at is = absurd (omega arith)
+belief_there place [] (seen ∷ more) index field meets settled below at is = absurd meets
+belief_there place (belief ∷ beliefs) [] index field meets settled below at is = absurd meets
+belief_there place (belief ∷ beliefs) (seen ∷ more) zero field meets settled below at is =
+    let same : belief.place ≡ place = sym meets.0.same_place ∙ ap (λ (f : Field). f.place) at ∙ is in
+    subst (λ (b : Bool). IsTextOf (if b then Some belief else belief_with place beliefs)) (sym (eq-eqb belief.place place same))
+    (settled_told belief.fact (All-head IsTextKnown belief beliefs settled))
+belief_there place (belief ∷ beliefs) (seen ∷ more) (suc index) field meets settled below at is =
+    by_test (belief.place == place) (belief_there place beliefs more index field meets.1 (All-tail IsTextKnown belief beliefs settled) (omega (arith, below)) at is)
+  where
+    by_test : (b : Bool) → IsTextOf (belief_with place beliefs) → IsTextOf (if b then Some belief else belief_with place beliefs)
+    by_test true behind = settled_told belief.fact (All-head IsTextKnown belief beliefs settled)
+    by_test false behind = behind
+
+settled_on : (shadow : Shadow) (screen : Screen) (field : PanelField) → ListsFields shadow screen → Meets shadow screen → All IsTextKnown (fields_of shadow) → IsAmong screen.cells field.extent
+    → IsTextOf (belief_of shadow field)
+settled_on shadow screen field lists meets settled there = by_belief shadow lists meets settled
+  where
+    listed : (on_screen : Field) × Contains (fields screen.cells) on_screen × (on_screen.place ≡ field.extent.first - 1)
+    listed = among_listed screen.cells field.extent there
+
+    formatted : IsFormattedScreen screen.cells
+    formatted none = absurd (let below = listed.1.1 in let empty = ap (λ (all : List Field). length all) none in omega (arith, below, empty))
+
+    by_belief : (shadow : Shadow) → ListsFields shadow screen → Meets shadow screen → All IsTextKnown (fields_of shadow) → IsTextOf (belief_of shadow field)
+    by_belief Shadow.NothingKnown lists meets settled = absurd (lists formatted)
+    by_belief (Shadow.Unformatted known) lists meets settled = absurd (lists formatted)
+    by_belief (Shadow.Formatted beliefs) lists meets settled =
+        belief_there (field.extent.first - 1) beliefs (fields screen.cells) listed.1.0 listed.0 meets.1 settled listed.1.1 listed.1.2 listed.2
+
+-- where the application is asked, nothing is in doubt, or the screen was read
+asked_sure : (app : Application) (conn : Conn) (reason : TurnReason) → IsKnownIfRead reason conn.shadow → is_ask (decision_on app conn reason) ≡ true
+    → (list_any (is_in_doubt conn.shadow) (app.fields conn.panel) ≡ false) ⊎ All IsTextKnown (fields_of conn.shadow)
+asked_sure app conn turn_reasons.Agreement settled asks = absurd (cc)
+asked_sure app conn turn_reasons.Refusal settled asks = absurd (cc)
+asked_sure app conn (turn_reasons.Key aid true) settled asks = inr settled
+asked_sure app conn (turn_reasons.Key aid false) settled asks = inl (by_aid aid asks)
+  where
+    by_doubt : (doubt : Bool) (led_to : Decision) → is_ask (if doubt && not false then Decision.Do Act.Read else led_to) ≡ true → doubt ≡ false
+    by_doubt true led_to asks = absurd (cc)
+    by_doubt false led_to asks = refl
+
+    by_aid : (aid : Aid) → is_ask (decision_on app conn (turn_reasons.Key aid false)) ≡ true → list_any (is_in_doubt conn.shadow) (app.fields conn.panel) ≡ false
+    by_aid Clear asks = absurd (cc)
+    by_aid (Pa key) asks = absurd (cc)
+    by_aid NoAid asks = by_doubt (list_any (is_in_doubt conn.shadow) (app.fields conn.panel)) _ asks
+    by_aid Enter asks = by_doubt (list_any (is_in_doubt conn.shadow) (app.fields conn.panel)) _ asks
+    by_aid (Pf key) asks = by_doubt (list_any (is_in_doubt conn.shadow) (app.fields conn.panel)) _ asks
+
+-- what later fields have leaves the value of a number that they haven't
+learned_stays : (shadow : Shadow) (panel : List PanelField) (values : Values) (number : ℕ) → ((index : ℕ) (field : PanelField) → slice_get panel index ≡ Some field → number ≢ field.number)
+    → value_of (learned shadow panel values) number ≡ value_of values number
+learned_stays shadow [] values number apart = refl
+learned_stays shadow (field ∷ panel) values number apart =
+    learned_stays shadow panel (set_if field.number (text_known shadow field) values) number (λ index other at. apart (suc index) other at)
+    ∙ by_text (text_known shadow field)
+  where
+    by_text : (known : Option (List ℕ)) → value_of (set_if field.number known values) number ≡ value_of values number
+    by_text None = refl
+    by_text (Some text) = put_there values field.number number text (apart zero field refl)
+
+-- a text that is known is the value of its field
+learned_has : (shadow : Shadow) (panel : List PanelField) (values : Values) (index : ℕ) (field : PanelField) (text : List ℕ) → HaveNumbersApart panel → slice_get panel index ≡ Some field
+    → text_known shadow field ≡ Some text → value_of (learned shadow panel values) field.number ≡ Some text
+learned_has shadow [] values index field text apart at known = absurd (cc)
+learned_has shadow (first ∷ panel) values zero field text apart at known =
+    let same : first ≡ field = let is : Some first ≡ Some field = at in cc in
+    let first_known : text_known shadow first ≡ Some text = ap (text_known shadow) same ∙ known in
+    ap (λ (f : PanelField). value_of (learned shadow panel (set_if first.number (text_known shadow first) values)) f.number) (sym same)
+    ∙ learned_stays shadow panel (set_if first.number (text_known shadow first) values) first.number (λ index other there. apart zero (suc index) first other (omega arith) refl there)
+    ∙ ap (λ (k : Option (List ℕ)). value_of (set_if first.number k values) first.number) first_known
+    ∙ put_here values first.number text
+learned_has shadow (first ∷ panel) values (suc index) field text apart at known =
+    learned_has shadow panel (set_if first.number (text_known shadow first) values) index field text
+    (λ i j one other below at_i at_j. apart (suc i) (suc j) one other (omega (arith, below)) at_i at_j) at known
+
+-- the panel that is shown has its fields on the screen
+shown_among : (app : Application) → IsApplication app → ShowsItsFields app → (host : Conn) (left now : Screen) (index : ℕ) (field : PanelField) → ShowsItsPanel app host left → SamePlaces left.cells now.cells
+    → slice_get (app.fields host.panel) index ≡ Some field → IsAmong now.cells field.extent
+shown_among app is shows host left now index field shown same at =
+    let wanted : WantedScreen = shown.wanted in
+    let keep : Bool = shown.wanted_for.keep in
+    let wanted_is : wanted ≡ app.screen host.panel host.values host.message keep = shown.wanted_for.is in
+    let sized : length wanted.cells ≡ cells_in wanted.size =
+    subst (λ (w : WantedScreen). length w.cells ≡ cells_in w.size) (sym wanted_is) (is.showable host.panel host.values host.message keep).cells in
+    let on : IsFieldOn wanted field.extent =
+    subst (λ (w : WantedScreen). IsFieldOn w field.extent) (sym wanted_is) (shows.on_screen host.panel host.values host.message keep index field at) in
+    among_same left.cells now.cells field.extent same
+    (subst (λ (s : Screen). IsAmong s.cells field.extent) (sym shown.is) (among_painted shown.over wanted shown.before field.extent sized shown.fits shown.meets on))
+
 -- ---- the key
 
 asked_key : (app : Application) (conn : Conn) (reason : TurnReason) (aid : Aid) → conn.turn_reason ≡ reason → IsOccasion reason aid
@@ -178,6 +318,46 @@ asked_seen given app is link k number session question asked =
     } in
     subst (λ (q : Question). IsSeen (app.fields q.panel) q (end_seen number link.term)) (sym there.3) seen_on
 
+-- the key isn't Clear
+asked_uncleared : (app : Application) (conn : Conn) (reason : TurnReason) (aid : Aid) → IsOccasion reason aid → is_ask (decision_on app conn reason) ≡ true → aid ≡ Clear → ⊥
+asked_uncleared app conn turn_reasons.Agreement aid occasion asks clear = absurd (cc)
+asked_uncleared app conn turn_reasons.Refusal aid occasion asks clear = absurd (cc)
+asked_uncleared app conn (turn_reasons.Key pressed buffered) aid occasion asks clear =
+    absurd (let is_clear : is_ask (decision_on app conn (turn_reasons.Key Clear buffered)) ≡ true =
+    subst (λ (a : Aid). is_ask (decision_on app conn (turn_reasons.Key a buffered)) ≡ true) (occasion.0 ∙ clear) asks in cc)
+
+-- something was shown
+asked_later : (app : Application) (conn : Conn) → is_ask (decision_on app conn conn.turn_reason) ≡ true → conn.turn_reason ≡ turn_reasons.Agreement → ⊥
+asked_later app conn asks agreement = agreed_unasked app conn agreement asks
+
+pub each_asked : Given → (app : Application) → IsApplication app → ShowsItsFields app → (link : Link) → Kept app (view_of link) → (session : ℕ) (question : Question)
+    → question_in app session link.host ≡ Some question → AreFieldsAsked (app.fields question.panel) question link.term.display.screen
+each_asked given app is shows link k session question asked =
+    let there = question_is (is_asking app link.host) (agreed_lu link.host.talk.state) (question_on app session link.host) question asked in
+    let asks = asks_deciding given app is link k there.0 in
+    let conn : Conn = link.host in
+    let screen : Screen = link.term.display.screen in
+    let uncleared : screen.aid ≡ Clear → ⊥ = asked_uncleared app conn conn.turn_reason screen.aid asks.2.turn_reason asks.3 in
+    let shown : ShowsItsPanel app conn link.term.display.last_restored = asks.4.0 (asked_later app conn asks.3) in
+    let same : SamePlaces link.term.display.last_restored.cells screen.cells = (k.unreturned uncleared).places in
+    let sure = asked_sure app conn conn.turn_reason asks.4.1 asks.3 in
+    let on_it : AreFieldsAsked (app.fields conn.panel) (question_on app session conn there.1) screen =
+    λ index field at.
+    let among : IsAmong screen.cells field.extent = shown_among app is shows conn link.term.display.last_restored screen index field shown same at in
+    let told : IsTextOf (belief_of conn.shadow field) = text_of conn.shadow screen (app.fields conn.panel) index field asks.2.sees.lists asks.2.sees.meets among at sure in
+    let stands : StandsAt field told.0 screen = stands_at conn.shadow screen field told.0 asks.2.sees.meets told.1 in
+    record {
+      text = told.0;
+      given = learned_has conn.shadow (app.fields conn.panel) [] index field told.0 (shows.numbers conn.panel) at told.1;
+      shown = record { stands = stands; length_is = listed-length screen.cells field.extent stands.index stands.on_screen stands.listed stands.place among };
+    } in
+    subst (λ (q : Question). AreFieldsAsked (app.fields q.panel) q screen) (sym there.3) on_it
+  where
+    text_of : (shadow : Shadow) (screen : Screen) (panel : List PanelField) (index : ℕ) (field : PanelField) → ListsFields shadow screen → Meets shadow screen → IsAmong screen.cells field.extent
+        → slice_get panel index ≡ Some field → (list_any (is_in_doubt shadow) panel ≡ false) ⊎ All IsTextKnown (fields_of shadow) → IsTextOf (belief_of shadow field)
+    text_of shadow screen panel index field lists meets among at (inl sure) = sure_told shadow panel index field sure at
+    text_of shadow screen panel index field lists meets among at (inr settled) = settled_on shadow screen field lists meets settled among
+
 -- a question is asked where the host is
 asked_there : (here : Bool) (asked : Option Question) (question : Question) → (if here then asked else None) ≡ Some question → (here ≡ true) × (asked ≡ Some question)
 asked_there true asked question is = (refl, is)
@@ -193,3 +373,14 @@ asked_is_seen given app pool models events is lists few are =
     let here = asked_there link.host_here (question_in app session link.host) question asked in
     subst (λ (t : TerminalSeen). IsSeen (app.fields question.panel) question t) (sym there.2)
     (asked_seen given app is link (g.links number) there.0 session question here.1)
+
+pub each_is_seen : Given → AlwaysOf FieldsAreSeen
+each_is_seen given app pool models events is lists few are =
+    let world : World = run app events (new_world app pool models) in
+    let g = run_good given app is events (new_world app pool models) are (new_good given app is pool models lists) in
+    λ shows number session question terminal asked terminal_is.
+    let link : Link = world.link number in
+    let there = terminal_attached link.term_here link.term terminal terminal_is in
+    let here = asked_there link.host_here (question_in app session link.host) question asked in
+    subst (λ (t : TerminalSeen). AreFieldsAsked (app.fields question.panel) question t.screen) (sym there.2)
+    (each_asked given app is shows link (g.links number) session question here.1)

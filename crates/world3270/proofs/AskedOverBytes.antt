@@ -1,14 +1,17 @@
 -- What is asked over bytes is what is asked over the messages that they represent.
-use Rattle.std.proofs.Common.{◌≡◌, ℕ, Bool, true, false, None, Some, refl, ap, sym, subst, ◌∙◌, if◌then◌else◌}
-use Rattle.panels.specs.Panel.{Panels}
-use Rattle.host_core.specs.Application.{Application, IsApplication, application_of}
+use Rattle.std.proofs.Common.{◌≡◌, ℕ, Bool, true, false, Option, None, Some, refl, ap, sym, subst, ◌∙◌, if◌then◌else◌}
+use Rattle.std.specs.Prelude.{slice_get, unwrap_or}
+use Rattle.panels.specs.KeptFields.{FieldsAreOnTheScreen}
+use Rattle.panels.specs.Panel.{PanelParts, Panels, AreSound, HasItemsApart, HaveNumbersApart, IsLaidOut}
+use Rattle.panels.specs.declared.panel.Field.{Field as PanelField}
+use Rattle.host_core.specs.Application.{Application, IsApplication, application_of, no_panel, panel_at}
 use Rattle.host_core.specs.Laws.{PanelsAreShown}
 use Rattle.host_core.specs.Questions.{question_in, question_of}
 use Rattle.host_core.specs.Session.{Conn}
 use Rattle.host_core.specs.State.{Service, service_at, session_at}
 use Rattle.host_core.specs.declared.question.Question.{Question}
 use Rattle.world3270.specs.Always.{AlwaysOf}
-use Rattle.world3270.specs.Asked.{AskedIsSeen, AskedIsSeenOverBytes, IsSeen, asked_by}
+use Rattle.world3270.specs.Asked.{AskedIsSeen, AskedIsSeenOverBytes, FieldsAreSeen, IsPanelSeen, ShowsItsFields, asked_by}
 use Rattle.world3270.specs.ByteWorld.{is_there}
 use Rattle.world3270.specs.Link.{Link}
 use Rattle.world3270.specs.Refines.{Begin, after}
@@ -26,8 +29,26 @@ same_question app session (Service.Closed cause) here conn question there same a
 same_question app session (Service.Open rest held) true conn question there same asked = ap (λ (c : Conn). question_in app session c) (sym (same refl)) ∙ asked
 same_question app session (Service.Open rest held) false conn question there same asked = absurd (cc)
 
-pub asked_over_bytes : PanelsAreShown → AlwaysOf AskedIsSeen → AskedIsSeenOverBytes
-asked_over_bytes shown asked bytes is number question terminal asked_now terminal_is =
+-- a panel that has fields is one of the set's
+panel_there : (panel : Option PanelParts) (index : ℕ) (field : PanelField) → slice_get (unwrap_or panel no_panel).fields index ≡ Some field → (there : PanelParts) × (panel ≡ Some there)
+panel_there None index field at = absurd (cc)
+panel_there (Some there) index field at = (there, refl)
+
+-- each screen that panels ask for has its panel's fields
+shows_its_fields : FieldsAreOnTheScreen → (set : Panels) → AreSound set → ShowsItsFields (application_of set)
+shows_its_fields on_screen set sound = record {
+  on_screen = λ panel values message keep index field at.
+      let there = panel_there (slice_get set.panels panel) index field at in
+      let same : there.0 ≡ panel_at set panel = sym (ap (λ (p : Option PanelParts). unwrap_or p no_panel) there.1) in
+      on_screen (panel_at set panel) values message keep index field (subst HasItemsApart same (sound.apart panel there.0 there.1)) (subst IsLaidOut same (sound.laid_out panel there.0 there.1)) at;
+  numbers = λ panel i j one other below at_i at_j.
+      let there = panel_there (slice_get set.panels panel) i one at_i in
+      let same : there.0 ≡ panel_at set panel = sym (ap (λ (p : Option PanelParts). unwrap_or p no_panel) there.1) in
+      (subst (λ (p : PanelParts). HaveNumbersApart p.fields) same (sound.numbers panel there.0 there.1)) i j one other below at_i at_j;
+}
+
+pub asked_over_bytes : PanelsAreShown → FieldsAreOnTheScreen → AlwaysOf AskedIsSeen → AlwaysOf FieldsAreSeen → AskedIsSeenOverBytes
+asked_over_bytes shown on_screen asked each bytes is number question terminal asked_now terminal_is =
     let begin : Begin = is.begin in
     let app : Application = application_of begin.panels in
     let is_app : IsApplication app = shown begin.panels is.is_begin.panels.otherwise is.is_begin.panels.laid_out is.is_begin.panels.apart in
@@ -40,5 +61,9 @@ asked_over_bytes shown asked bytes is number question terminal asked_now termina
     let over_messages : asked_by app session link ≡ Some question =
     same_question app session (service_at number bytes.host) link.host_here link.host question stands.host_here (λ here. (stands.host here).host) question_is in
     let seen_there = sym (ap (λ (l : SeenLink). l.terminal) (same_seen bytes world is.reached.stands number)) ∙ terminal_is in
-    subst (λ (p : Panels). IsSeen ((application_of p).fields question.panel) question terminal) (sym is.reached.panels)
-    (asked app begin.pool begin.models is.events is_app is.is_begin.pool is.is_begin.few is.reached.are_events number session question terminal over_messages seen_there)
+    subst (λ (p : Panels). IsPanelSeen ((application_of p).fields question.panel) question terminal) (sym is.reached.panels)
+    (record {
+      seen = asked app begin.pool begin.models is.events is_app is.is_begin.pool is.is_begin.few is.reached.are_events number session question terminal over_messages seen_there;
+      fields = each app begin.pool begin.models is.events is_app is.is_begin.pool is.is_begin.few is.reached.are_events
+          (shows_its_fields on_screen begin.panels is.is_begin.panels) number session question terminal over_messages seen_there;
+    })

@@ -53,6 +53,7 @@ use Rattle.world3270.specs.Always.{is_negative}
 use Rattle.world3270.specs.Given.{Given}
 use Rattle.world3270.specs.Happens.{verdict_in}
 use Rattle.world3270.specs.Headline.{SentFields}
+use Rattle.world3270.specs.Showing.{WantsItsPanel, IsKnownIfRead, ShownAt}
 use Rattle.world3270.specs.Unreturned.{UnmodifiedIsKept}
 use Rattle.world3270.specs.Link.{Link, sent}
 use Rattle.world3270.specs.Moments.{Kind, Talking, Serving, Moment, UnderWay, IsAt, host_talk_at, term_state_at, turn_at, pending_at, down_at, up_at}
@@ -61,7 +62,7 @@ use Rattle.world3270.specs.Stages.{scene_of, once_taken, FactsAreExact, Suits, I
 use Rattle.world3270.specs.Terminal.{TermStep, with_talk, is_bound, bound_to, once_bound, paint_came, note_came, read_came, talked, took}
 use Rattle.world3270.specs.View.{view_of}
 use Rattle.world3270.proofs.Queues.{more, front, nothing}
-use Rattle.world3270.proofs.Unreturned.{noted_on, kept_noted, kept_bare, still_bare, still_one}
+use Rattle.world3270.proofs.Unreturned.{all_kept, noted_on, kept_noted, kept_bare, still_bare, still_one}
 
 -- the connection once the terminal took the message before the rest
 abbrev pub term_view : TermStep → List ToTerminal → Link → Link
@@ -121,8 +122,9 @@ talks : (app : Application) (link : Link) (rest : List ToTerminal) (k : Kept app
     → (may_differ_at to ≡ false → link.term.display.shape ≡ link.host.shape)
     → IsAt (view_of link) k.wanted from → message ≡ ToTerminal.TalksDown saying → TalkTransition link.term.display.model k.wanted (term_state_at from) saying (term_state_at to) sends
     → Leads link.term.display.model k.wanted from to sends → list_any is_negative (filter_map verdict_in sends) ≡ false → UnderWay link.lost rest (down_at link.term.display.model to)
-    → Fact k.wanted (scene_of (view_of (term_view (talk_step link (term_state_at to) sends) rest link))) to → Obeyed app link rest (took link.term message)
-talks app link rest k from to saying sends message same at is transition l positive left fact =
+    → Fact k.wanted (scene_of (view_of (term_view (talk_step link (term_state_at to) sends) rest link))) to → ShownAt app link.host link.term.display.last_restored to
+    → Obeyed app link rest (took link.term message)
+talks app link rest k from to saying sends message same at is transition l positive left fact shown =
     subst (λ m. Obeyed app link rest (took link.term m)) (sym is)
     (subst (Obeyed app link rest) (sym (talk_took link link.term.display.model k.wanted (term_state_at from) (term_state_at to) saying sends at.term_talk transition))
     (record {
@@ -136,6 +138,7 @@ talks app link rest k from to saying sends message same at is transition l posit
         sizes = record { host = k.sizes.host; screen = k.sizes.screen; same = same };
         at = leads link (talk_step link (term_state_at to) sends) rest k.wanted from to refl at l (ap (λ (t : Term). record { model = t.model; wanted = t.wanted; talk = start_at (term_state_at to) }) at.term_talk) left;
         fact = fact;
+        shown = shown;
       };
       open_end = refl;
       positive = positive;
@@ -187,7 +190,7 @@ length_over reset whole (WantChar byte ∷ rest) (x ∷ cells) same = ap suc (le
 length_over reset whole (Keep ∷ rest) (x ∷ cells) same = ap suc (length_over reset whole rest cells (omega arith))
 length_over reset whole (WantAttr attribute ∷ rest) (x ∷ cells) same = ap suc (length_over reset whole rest cells (omega arith))
 
-length_under : (size : ℕ) (cells : List Cell) → length (cells_under size cells) ≡ size
+pub length_under : (size : ℕ) (cells : List Cell) → length (cells_under size cells) ≡ size
 length_under size cells = by_size (length cells == size) refl
   where
     by_size : (b : Bool) → (length cells == size) ≡ b → length (if b then cells else replicate size (Char 0)) ≡ size
@@ -211,9 +214,9 @@ serves link step rest wanted lu from to model at l same left = leads link step r
 -- ---- a paint
 
 takes_paint : Given → (app : Application) → IsApplication app → (link : Link) (rest : List ToTerminal) (k : Kept app (view_of link)) (lu : List ℕ) (number : ℕ) (command : CommandParts) (wants : WantedScreen) (over : Shadow)
-    → IsAt (view_of link) k.wanted (Moment.Serves lu (Serving.Painting number command wants over)) → IsPainted (scene_of (view_of link)) command wants over → UnderWay link.lost rest []
-    → Obeyed app link rest (took link.term (ToTerminal.Paint number wants over))
-takes_paint given app is link rest k lu number command wants over at f left =
+    → IsAt (view_of link) k.wanted (Moment.Serves lu (Serving.Painting number command wants over)) → IsPainted (scene_of (view_of link)) command wants over → WantsItsPanel app link.host wants
+    → UnderWay link.lost rest [] → Obeyed app link rest (took link.term (ToTerminal.Paint number wants over))
+takes_paint given app is link rest k lu number command wants over at f asked left =
     let screen : Screen = link.term.display.screen in
     let size : ℕ = cells_in link.host.shape in
     let new : Screen = plainly_painted wants screen in
@@ -232,7 +235,7 @@ takes_paint given app is link rest k lu number command wants over at f left =
       kept = record {
         whole = painted-length wants screen ∙ same;
         cursor = subst (λ n. wants.cursor < n) (sym base) f.paintable.showable.cursor;
-        unreturned = λ wrong. absurd wrong;
+        unreturned = λ _. all_kept new.cells;
         exact = k.exact;
         wanted = k.wanted;
         moment = Moment.Serves lu (Serving.Answering Kind.APaint number command);
@@ -253,6 +256,7 @@ takes_paint given app is link rest k lu number command wants over at f left =
           messages = given.notes.painted_takes link.host.shape over wants screen f.paintable;
           noted = record { places = record { size = refl; kinds = λ place. refl }; each = λ place. inr refl };
         };
+        shown = record { wanted = wants; wanted_for = asked; before = screen; over = over; meets = f.meets; fits = fits; is = refl };
       };
       open_end = refl;
       positive = refl;
@@ -261,8 +265,9 @@ takes_paint given app is link rest k lu number command wants over at f left =
 -- ---- a Read Buffer
 
 takes_read : (app : Application) (link : Link) (rest : List ToTerminal) (k : Kept app (view_of link)) → link.term.display.shape ≡ link.host.shape → (lu : List ℕ) (number : ℕ) → IsAt (view_of link) k.wanted (Moment.Serves lu (Serving.Reading number))
-    → IsRead (scene_of (view_of link)) → UnderWay link.lost rest [] → Obeyed app link rest (took link.term (ToTerminal.ReadBuffer number))
-takes_read app link rest k same lu number at f left =
+    → IsRead (scene_of (view_of link)) → ShownAt app link.host link.term.display.last_restored (Moment.Serves lu (Serving.Reading number)) → UnderWay link.lost rest []
+    → Obeyed app link rest (took link.term (ToTerminal.ReadBuffer number))
+takes_read app link rest k same lu number at f shown left =
     let parts : InboundParts = buffer_data link.term.display.shape link.term.display.screen in
     subst (Obeyed app link rest) (ap (λ b. once_bound b (read_came link.term) link.term) (sym (bound link k.wanted lu _ at)))
     (record {
@@ -276,6 +281,7 @@ takes_read app link rest k same lu number at f left =
         sizes = record { host = k.sizes.host; screen = k.sizes.screen; same = λ steady. same };
         at = serves link (read_came link.term) rest k.wanted lu _ (Serving.Reported number parts) refl at (record { host_talk = refl; turn = refl; pending = refl; up = refl }) refl left;
         fact = (f, ap (λ (size : Shape). buffer_data size link.term.display.screen) same);
+        shown = shown;
       };
       open_end = refl;
       positive = refl;
@@ -387,21 +393,23 @@ module _ (given : Given) (app : Application) (is : IsApplication app) (link : Li
   takes_note : (lu : List ℕ) (number : ℕ) (command : CommandParts) (from to : Serving) → IsAt (view_of link) k.wanted (Moment.Serves lu from) → IsNoteOf shape command → TakesNotes shape screen.cells
       → Leads link.term.display.model k.wanted (Moment.Serves lu from) (Moment.Serves lu to) (note_came number command link.term).sends
       → UnderWay link.lost rest (down_at link.term.display.model (Moment.Serves lu to))
-      → Fact k.wanted (scene_of (view_of (term_view (note_came number command link.term) rest link))) (Moment.Serves lu to) → Obeyed app link rest (took link.term (ToTerminal.Note number command))
-  takes_note lu number command from to at note takes l left fact =
+      → Fact k.wanted (scene_of (view_of (term_view (note_came number command link.term) rest link))) (Moment.Serves lu to)
+      → ShownAt app link.host link.term.display.last_restored (Moment.Serves lu to) → Obeyed app link rest (took link.term (ToTerminal.Note number command))
+  takes_note lu number command from to at note takes l left fact shown =
       let noted = noted_on_it given shape command screen is_shape note whole_here takes in
       subst (Obeyed app link rest) (ap (λ b. once_bound b (note_came number command link.term) link.term) (sym (bound link k.wanted lu from at)))
       (record {
         kept = record {
           whole = noted.size ∙ k.whole;
           cursor = subst (λ n. n < cells_in link.term.display.shape) (sym noted.cursor) k.cursor;
-          unreturned = λ sent. kept_by given shape command screen link.term.display.erased link.term.display.last_restored.cells is_shape note whole_here takes (k.unreturned (subst SentFields noted.aid sent));
+          unreturned = λ uncleared. kept_by given shape command screen link.term.display.erased link.term.display.last_restored.cells is_shape note whole_here takes (k.unreturned (λ clear. uncleared (noted.aid ∙ clear)));
           exact = k.exact;
           wanted = k.wanted;
           moment = Moment.Serves lu to;
           sizes = record { host = k.sizes.host; screen = k.sizes.screen; same = λ steady. same };
           at = serves link (note_came number command link.term) rest k.wanted lu from to refl at l refl left;
           fact = fact;
+          shown = shown;
         };
         open_end = refl;
         positive = refl;
@@ -438,7 +446,7 @@ as_message : (app : Application) (link : Link) (rest : List ToTerminal) (m messa
 as_message app link rest m message e o = subst (λ x. Obeyed app link rest (took link.term x)) (sym e) o
 
 pub obeys : Given → (app : Application) → IsApplication app → (link : Link) (message : ToTerminal) (rest : List ToTerminal) → link.down ≡ message ∷ rest → Kept app (view_of link) → Obeyed app link rest (took link.term message)
-obeys given app is link message rest e k = by_moment k.moment k.sizes k.at k.fact
+obeys given app is link message rest e k = by_moment k.moment k.sizes k.at k.fact k.shown
   where
     screen : Screen
     screen = link.term.display.screen
@@ -451,17 +459,17 @@ obeys given app is link message rest e k = by_moment k.moment k.sizes k.at k.fac
         let first = front link.lost link.down message rest _ [] e at.goes_down in
         talks app link rest k (Moment.Talks Talking.Offering) (Moment.Talks Talking.Accepting) (Saying.Opt Do 40) (ToHost.TalksUp (Saying.Opt Will 40) ∷ []) message (λ steady. same) at first.0
         (record { reply = reply.Opt Will 40; leads = refl; quiet = refl; sends_is = refl }) (record { host_talk = refl; turn = refl; pending = refl; up = refl }) refl first.1
-        (f.0, f.1)
+        (f.0, f.1) tt
     by_talk Talking.AskingType same at f =
         let first = front link.lost link.down message rest _ [] e at.goes_down in
         talks app link rest k (Moment.Talks Talking.AskingType) (Moment.Talks Talking.NamingType) (Saying.Sub SendType) (ToHost.TalksUp (Saying.Sub (TypeRequest link.term.display.model k.wanted)) ∷ []) message (λ steady. same) at first.0
         (record { reply = reply.Sub (TypeRequest link.term.display.model k.wanted) Going; leads = refl; quiet = refl; sends_is = refl }) (record { host_talk = refl; turn = refl; pending = refl; up = refl }) refl first.1
-        (f.0, f.1)
+        (f.0, f.1) tt
     by_talk (Talking.Granting lu) same at f =
         let first = front link.lost link.down message rest _ [] e at.goes_down in
         talks app link rest k (Moment.Talks (Talking.Granting lu)) (Moment.Talks (Talking.AskingFunctions lu)) (Saying.Sub (TypeIs (device_for link.term.display.model) lu)) (ToHost.TalksUp (Saying.Sub FunRequest) ∷ []) message (λ steady. same) at first.0
         (granted_transition given link.term.display.model k.wanted lu f.1) (record { host_talk = refl; turn = refl; pending = refl; up = refl }) refl first.1
-        (f.0, tt)
+        (f.0, tt) tt
     by_talk (Talking.Agreeing lu) same at f =
         let first = front link.lost link.down message rest _ [] e at.goes_down in
         talks app link rest k (Moment.Talks (Talking.Agreeing lu)) (Moment.Serves lu Serving.Deciding) (Saying.Sub FunIs) [] message (λ steady. same) at first.0
@@ -480,30 +488,32 @@ obeys given app is link message rest e k = by_moment k.moment k.sizes k.at k.fac
             told = λ sent. absurd (subst SentFields f.0.aid sent);
           };
         })
+        (λ shown_before. absurd (shown_before f.0.turn_reason), subst (λ o. IsKnownIfRead o link.host.shadow) (sym f.0.turn_reason) tt)
     by_talk (Talking.Rejecting reason) same at f =
         let first = front link.lost link.down message rest _ [] e at.goes_down in
         talks app link rest k (Moment.Talks (Talking.Rejecting reason)) (Moment.Talks (Talking.Rejected reason)) (Saying.Sub (TypeReject reason)) [] message (λ steady. same) at first.0
         (record { reply = reply.Refused reason; leads = refl; quiet = refl; sends_is = refl }) (record { host_talk = refl; turn = refl; pending = refl; up = refl }) refl first.1
-        (f.0, tt)
+        (f.0, tt) tt
     by_talk Talking.Accepting same at f = no_more at.goes_down
     by_talk Talking.NamingType same at f = no_more at.goes_down
     by_talk (Talking.AskingFunctions lu) same at f = no_more at.goes_down
     by_talk (Talking.Rejected reason) same at f = no_more at.goes_down
 
-    by_serving : (lu : List ℕ) (serving : Serving) → Sizes app (view_of link) (Moment.Serves lu serving) → IsAt (view_of link) k.wanted (Moment.Serves lu serving) → Fact k.wanted (scene_of (view_of link)) (Moment.Serves lu serving) → Obeyed app link rest (took link.term message)
-    by_serving lu (Serving.Reading number) s at f =
+    by_serving : (lu : List ℕ) (serving : Serving) → Sizes app (view_of link) (Moment.Serves lu serving) → IsAt (view_of link) k.wanted (Moment.Serves lu serving) → Fact k.wanted (scene_of (view_of link)) (Moment.Serves lu serving)
+        → ShownAt app link.host link.term.display.last_restored (Moment.Serves lu serving) → Obeyed app link rest (took link.term message)
+    by_serving lu (Serving.Reading number) s at f shown =
         let first = front link.lost link.down message rest _ [] e at.goes_down in
-        as_message app link rest (ToTerminal.ReadBuffer number) message first.0 (takes_read app link rest k (s.same refl) lu number at f first.1)
-    by_serving lu (Serving.Painting number command wants over) s at f =
+        as_message app link rest (ToTerminal.ReadBuffer number) message first.0 (takes_read app link rest k (s.same refl) lu number at f shown first.1)
+    by_serving lu (Serving.Painting number command wants over) s at f shown =
         let first = front link.lost link.down message rest _ [] e at.goes_down in
-        as_message app link rest (ToTerminal.Paint number wants over) message first.0 (takes_paint given app is link rest k lu number command wants over at f first.1)
-    by_serving lu (Serving.Noting number command) s at f =
+        as_message app link rest (ToTerminal.Paint number wants over) message first.0 (takes_paint given app is link rest k lu number command wants over at f shown first.1)
+    by_serving lu (Serving.Noting number command) s at f shown =
         let first = front link.lost link.down message rest _ [] e at.goes_down in
         let row = given.notes.held_takes link.host.shape link.term.display.erased f.0.shown.cells screen.cells f.0.held f.0.messages in
         as_message app link rest (ToTerminal.Note number command) message first.0
         (takes_note given app is link rest k (s.same refl) lu number command (Serving.Noting number command) (Serving.Answering Kind.ANote number command) at f.1 (TakesNotes.formatted row)
-        (record { host_talk = refl; turn = refl; pending = refl; up = refl }) first.1 (operates_noted given app is link rest k (s.same refl) command f.1 f.0 number))
-    by_serving lu (Serving.KeyNoted number command parts) s at f =
+        (record { host_talk = refl; turn = refl; pending = refl; up = refl }) first.1 (operates_noted given app is link rest k (s.same refl) command f.1 f.0 number) shown)
+    by_serving lu (Serving.KeyNoted number command parts) s at f shown =
         let first = front link.lost link.down message rest _ [] e at.goes_down in
         let noted = noted_on_it given link.host.shape command screen (is_shape given app is link rest k (s.same refl)) f.2.note (whole_here given app is link rest k (s.same refl)) f.2.takes in
         as_message app link rest (ToTerminal.Note number command) message first.0
@@ -512,8 +522,8 @@ obeys given app is link message rest e k = by_moment k.moment k.sizes k.at k.fac
           record { lock = f.0.lock; form = f.0.form; size = f.0.size; pressed = f.0.pressed ∙ sym noted.aid; cursor = λ long. f.0.cursor (sym (ap is_short_aid noted.aid) ∙ long) ∙ ap (λ (n : ℕ). Some n) (sym noted.cursor); some = λ none. f.0.some (sym noted.aid ∙ none) },
           ok_map (Sees link.host.shape screen) (λ shadow. Sees link.host.shape (after_command command screen) (once_taken link.host.shape command shadow)) (heard (cells_in link.host.shape) link.host.shadow parts)
               (λ shadow seen. sees_noted given link.host.shape command screen shadow f.2.note (whole_here given app is link rest k (s.same refl)) noted seen) f.1,
-        ))
-    by_serving lu (Serving.NotedLate number command) s at f =
+        ) shown)
+    by_serving lu (Serving.NotedLate number command) s at f shown =
         let first = front link.lost link.down message rest _ [] e at.goes_down in
         let noted = noted_on_it given link.host.shape command screen (is_shape given app is link rest k (s.same refl)) f.1.note (whole_here given app is link rest k (s.same refl)) f.1.takes in
         as_message app link rest (ToTerminal.Note number command) message first.0
@@ -526,22 +536,23 @@ obeys given app is link message rest e k = by_moment k.moment k.sizes k.at k.fac
           closed = open_for link.host.turn_reason link.host.shadow (once_taken link.host.shape command link.host.shadow)
               (λ o. subst (λ n. NothingIsOpen (taken n command link.host.shadow)) (whole_here given app is link rest k (s.same refl)) (given.notes.opens command link.host.shadow screen noted.over f.0.sees.meets o)) f.0.closed;
           sees = sees_noted given link.host.shape command screen link.host.shadow f.1.note (whole_here given app is link rest k (s.same refl)) noted f.0.sees;
-        }))
-    by_serving lu Serving.Deciding s at f = no_more at.goes_down
-    by_serving lu (Serving.Reported number parts) s at f = no_more at.goes_down
-    by_serving lu (Serving.AnsweredLate number command) s at f = no_more at.goes_down
-    by_serving lu (Serving.Answering kind number command) s at f = no_more at.goes_down
-    by_serving lu Serving.Operating s at f = no_more at.goes_down
-    by_serving lu (Serving.KeyAlone parts) s at f = no_more at.goes_down
-    by_serving lu (Serving.KeyBehind kind number command parts) s at f = no_more at.goes_down
-    by_serving lu (Serving.KeyBefore number command parts) s at f = no_more at.goes_down
+        }) shown)
+    by_serving lu Serving.Deciding s at f shown = no_more at.goes_down
+    by_serving lu (Serving.Reported number parts) s at f shown = no_more at.goes_down
+    by_serving lu (Serving.AnsweredLate number command) s at f shown = no_more at.goes_down
+    by_serving lu (Serving.Answering kind number command) s at f shown = no_more at.goes_down
+    by_serving lu Serving.Operating s at f shown = no_more at.goes_down
+    by_serving lu (Serving.KeyAlone parts) s at f shown = no_more at.goes_down
+    by_serving lu (Serving.KeyBehind kind number command parts) s at f shown = no_more at.goes_down
+    by_serving lu (Serving.KeyBefore number command parts) s at f shown = no_more at.goes_down
 
-    by_moment : (moment : Moment) → Sizes app (view_of link) moment → IsAt (view_of link) k.wanted moment → Fact k.wanted (scene_of (view_of link)) moment → Obeyed app link rest (took link.term message)
-    by_moment (Moment.Talks talking) s at f = by_talk talking (s.same refl) at f
-    by_moment (Moment.Begins lu number command wants over) s at f =
+    by_moment : (moment : Moment) → Sizes app (view_of link) moment → IsAt (view_of link) k.wanted moment → Fact k.wanted (scene_of (view_of link)) moment
+        → ShownAt app link.host link.term.display.last_restored moment → Obeyed app link rest (took link.term message)
+    by_moment (Moment.Talks talking) s at f shown = by_talk talking (s.same refl) at f
+    by_moment (Moment.Begins lu number command wants over) s at f shown =
         let first = front link.lost link.down message rest _ _ e at.goes_down in
         talks app link rest k (Moment.Begins lu number command wants over) (Moment.Serves lu (Serving.Painting number command wants over)) (Saying.Sub FunIs) [] message
         (λ steady. absurd (cc)) at first.0
         (agreed_transition link.term.display.model k.wanted lu) (record { host_talk = refl; turn = refl; pending = refl; up = refl }) refl first.1
-        f
-    by_moment (Moment.Serves lu serving) s at f = by_serving lu serving s at f
+        f shown
+    by_moment (Moment.Serves lu serving) s at f shown = by_serving lu serving s at f shown

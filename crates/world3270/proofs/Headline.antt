@@ -146,6 +146,14 @@ knows_turn app link k h =
     knows_at app (view_of link) k (sym (ap (λ (host : HostSeen). host.turn) here.1) ∙ h.turn)
     (nothing_waits link.host.pending (sym (ap (λ (host : HostSeen). host.pending) here.1) ∙ h.answered))
 
+-- a key that sent fields isn't Clear
+not_clear : (aid : Aid) → SentFields aid → aid ≡ ClearAid → ⊥
+not_clear NoAid sent is = absurd sent
+not_clear EnterAid sent is = absurd (cc)
+not_clear (PfAid key) sent is = absurd (cc)
+not_clear (PaAid key) sent is = absurd sent
+not_clear ClearAid sent is = absurd sent
+
 agrees : Given → (app : Application) (link : Link) → Kept app (view_of link) → (h : IsHostsTurn (seen_link link)) → Agrees h.host h.terminal
 agrees given app link k h =
     let v : View = view_of link in
@@ -156,7 +164,7 @@ agrees given app link k h =
     record {
       sees = record { meets = known.meets; protected = given.belief.seen v.host.shadow v.screen known.meets known.lists k.exact.protected };
       returned = λ sent. given.belief.told v.host.shadow v.screen known.meets known.lists k.exact.protected (known.told sent);
-      unreturned = λ sent. as_left v.erased v.last_restored.cells v.screen.cells (k.unreturned sent);
+      unreturned = λ sent. as_left v.erased v.last_restored.cells v.screen.cells (k.unreturned (not_clear v.screen.aid sent));
     } in
     subst (λ (host : HostSeen). Agrees host h.terminal) (sym here.1)
     (subst (λ (terminal : TerminalSeen). Agrees (conn_seen link.host) terminal) (sym there.2) both)

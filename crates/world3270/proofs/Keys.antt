@@ -38,9 +38,9 @@ use Rattle.host_core.specs.Application.{Application}
 use Rattle.host_core.specs.Messages.{ToHost}
 use Rattle.host_core.specs.NoteLaws.{HasMessageRow, TakesNotes}
 use Rattle.world3270.specs.Given.{Given}
-use Rattle.world3270.specs.Headline.{SentFields}
 use Rattle.world3270.specs.Link.{Link, sent, term_stepped}
 use Rattle.world3270.specs.Moments.{Serving, Moment, UnderWay, IsAt, turn_at, pending_at, served_down, served_up}
+use Rattle.world3270.specs.Showing.{ShownAt}
 use Rattle.world3270.specs.TurnReasons.{IsCleared, IsOpenBy}
 use Rattle.world3270.specs.Stages.{Scene, scene_of, once_taken, FactsAreExact, Operates, Sees, IsPressed, WillSee, Fact, Kept, Sizes}
 use Rattle.world3270.specs.Terminal.{Display, is_bound, bound_to, data_of, erases_if, outcome_of, key_came}
@@ -198,13 +198,13 @@ sent_from erased left now (PfAid key) k = k
 sent_from erased left now (PaAid key) k = k
 sent_from erased left now ClearAid k = k
 
--- fields were sent of a screen that keys kept
-held_fields : (erased : Bool) (left now : List Cell) (aid : Aid) → KeepsSent erased aid left now → SentFields aid → Held erased left now
-held_fields erased left now NoAid k s = absurd s
+-- but for Clear, each key was sent of a screen that keys kept
+held_fields : (erased : Bool) (left now : List Cell) (aid : Aid) → KeepsSent erased aid left now → (aid ≡ ClearAid → ⊥) → Held erased left now
+held_fields erased left now NoAid k s = absurd k
 held_fields erased left now EnterAid k s = k
 held_fields erased left now (PfAid key) k s = k
-held_fields erased left now (PaAid key) k s = absurd s
-held_fields erased left now ClearAid k s = absurd s
+held_fields erased left now (PaAid key) k s = k
+held_fields erased left now ClearAid k s = absurd (s refl)
 
 all_chars : (count : ℕ) → list_all is_char (replicate count (CharCell 0)) ≡ true
 all_chars zero = refl
@@ -295,6 +295,8 @@ module _ (given : Given) (app : Application) (link : Link) (key : Key) (k : Kept
     press : (parts : InboundParts) (screen : Screen) (lock : Lock) (erased : Bool) → IsPressed (scene_now screen lock erased) parts → WillSee (scene_now screen lock erased) shadow parts → TakesNotes v.host.shape screen.cells
         → Fact k.wanted (scene_now screen lock erased) (Moment.Serves lu (to parts))
     at_to : (parts : InboundParts) (screen : Screen) (lock : Lock) (erased : Bool) → IsAt (seen_as v (sent v.lost v.up (ToHost.Data parts ∷ [])) screen lock erased) k.wanted (Moment.Serves lu (to parts))
+    shown : ShownAt app v.host v.last_restored (Moment.Serves lu from)
+    shown_to : (parts : InboundParts) → ShownAt app v.host v.last_restored (Moment.Serves lu (to parts))
 
   -- a key that sends nothing
   stays : Typing → (screen : Screen) (lock : Lock) (erased : Bool) → length screen.cells ≡ cells_in v.shape → screen.cursor < cells_in v.shape → (lock ≡ Wait → ⊥) → Held erased f.shown.cells screen.cells
@@ -309,6 +311,7 @@ module _ (given : Given) (app : Application) (link : Link) (key : Key) (k : Kept
     sizes = record { host = k.sizes.host; screen = k.sizes.screen; same = λ steady. same };
     at = stays_at screen lock erased;
     fact = typing.stay screen lock erased (record { shown = f.shown; lock = free; exact = f.exact; meets = f.meets; closed = f.closed; knows = f.knows; held = held; messages = f.messages; noted = f.noted });
+    shown = typing.shown;
   }
 
   -- a key that sends
@@ -319,7 +322,7 @@ module _ (given : Given) (app : Application) (link : Link) (key : Key) (k : Kept
       record {
         whole = whole;
         cursor = cursor;
-        unreturned = λ fields. kept_of given.notes.still_protected erased v.last_restored.cells f.shown.cells screen.cells (held_fields erased f.shown.cells screen.cells aid keeps (subst SentFields is fields)) f.noted;
+        unreturned = λ uncleared. kept_of given.notes.still_protected erased v.last_restored.cells f.shown.cells screen.cells (held_fields erased f.shown.cells screen.cells aid keeps (λ clear. uncleared (is ∙ clear))) f.noted;
         exact = k.exact;
         wanted = k.wanted;
         moment = Moment.Serves lu (typing.to parts);
@@ -329,6 +332,7 @@ module _ (given : Given) (app : Application) (link : Link) (key : Key) (k : Kept
             (record { lock = waits; form = key_form v.shape screen; size = key_size v.shape screen ∙ same; pressed = key_aid v.shape screen; cursor = key_cursor v.shape screen; some = λ none. some (sym is ∙ none) })
             (will_see given erased v.host.shape v.shape shadow f.shown screen aid is (whole ∙ ap (λ (s : Shape). cells_in s) same) f.exact f.knows f.closed f.meets keeps)
             (takes_notes given v.host.shape erased f.shown.cells screen.cells aid keeps f.messages);
+        shown = typing.shown_to parts;
       }
 
   -- the connection with what was said, by the answer
@@ -365,46 +369,54 @@ module _ (given : Given) (app : Application) (link : Link) (key : Key) (k : Kept
 -- ---- any key, at any moment
 
 pub keys : Given → (app : Application) (link : Link) (key : Key) → Kept app (view_of link) → Kept app (view_of (key_view key link))
-keys given app link key k = by_moment k.moment k.sizes k.at k.fact
+keys given app link key k = by_moment k.moment k.sizes k.at k.fact k.shown
   where
     wait : link.term.display.keyboard.lock ≡ Wait → Kept app (view_of (key_view key link))
     wait e = subst (Kept app) (sym (key_waits key link e)) k
 
-    by_serving : (lu : List ℕ) (serving : Serving) → Sizes app (view_of link) (Moment.Serves lu serving) → IsAt (view_of link) k.wanted (Moment.Serves lu serving) → Fact k.wanted (scene_of (view_of link)) (Moment.Serves lu serving) → Kept app (view_of (key_view key link))
-    by_serving lu (Serving.Answering kind number command) s at f =
+    by_serving : (lu : List ℕ) (serving : Serving) → Sizes app (view_of link) (Moment.Serves lu serving) → IsAt (view_of link) k.wanted (Moment.Serves lu serving) → Fact k.wanted (scene_of (view_of link)) (Moment.Serves lu serving)
+        → ShownAt app link.host link.term.display.last_restored (Moment.Serves lu serving) → Kept app (view_of (key_view key link))
+    by_serving lu (Serving.Answering kind number command) s at f shown =
         let shadow : Shadow = once_taken link.host.shape command link.host.shadow in
         types given app link key k lu (Serving.Answering kind number command) shadow at (s.same refl) f (record {
           to = λ parts. Serving.KeyBehind kind number command parts;
           stay = λ screen lock erased operates. operates;
           press = λ parts screen lock erased pressed sees takes. (pressed, sees, takes, f.exact);
           at_to = λ parts screen lock erased. sends_at given app link key k lu (Serving.Answering kind number command) shadow at (s.same refl) f (Serving.KeyBehind kind number command parts) parts screen lock erased refl refl refl refl;
+          shown = shown;
+          shown_to = λ parts. shown;
         })
-    by_serving lu Serving.Operating s at f =
+    by_serving lu Serving.Operating s at f shown =
         types given app link key k lu Serving.Operating link.host.shadow at (s.same refl) f (record {
           to = λ parts. Serving.KeyAlone parts;
           stay = λ screen lock erased operates. operates;
           press = λ parts screen lock erased pressed sees takes. (pressed, sees, takes);
           at_to = λ parts screen lock erased. sends_at given app link key k lu Serving.Operating link.host.shadow at (s.same refl) f (Serving.KeyAlone parts) parts screen lock erased refl refl refl refl;
+          shown = shown;
+          shown_to = λ parts. shown;
         })
-    by_serving lu (Serving.Noting number command) s at f =
+    by_serving lu (Serving.Noting number command) s at f shown =
         types given app link key k lu (Serving.Noting number command) link.host.shadow at (s.same refl) f.0 (record {
           to = λ parts. Serving.KeyNoted number command parts;
           stay = λ screen lock erased operates. (operates, f.1);
           press = λ parts screen lock erased pressed sees takes. (pressed, sees, record { note = f.1; takes = takes });
           at_to = λ parts screen lock erased. sends_at given app link key k lu (Serving.Noting number command) link.host.shadow at (s.same refl) f.0 (Serving.KeyNoted number command parts) parts screen lock erased refl refl refl refl;
+          shown = shown;
+          shown_to = λ parts. shown;
         })
-    by_serving lu Serving.Deciding s at f = wait f.lock
-    by_serving lu (Serving.Reading number) s at f = wait f.decides.lock
-    by_serving lu (Serving.Reported number parts) s at f = wait f.0.decides.lock
-    by_serving lu (Serving.NotedLate number command) s at f = wait f.0.lock
-    by_serving lu (Serving.AnsweredLate number command) s at f = wait f.lock
-    by_serving lu (Serving.Painting number command wants over) s at f = wait f.lock
-    by_serving lu (Serving.KeyAlone parts) s at f = wait f.0.lock
-    by_serving lu (Serving.KeyBehind kind number command parts) s at f = wait f.0.lock
-    by_serving lu (Serving.KeyNoted number command parts) s at f = wait f.0.lock
-    by_serving lu (Serving.KeyBefore number command parts) s at f = wait f.0.lock
+    by_serving lu Serving.Deciding s at f shown = wait f.lock
+    by_serving lu (Serving.Reading number) s at f shown = wait f.decides.lock
+    by_serving lu (Serving.Reported number parts) s at f shown = wait f.0.decides.lock
+    by_serving lu (Serving.NotedLate number command) s at f shown = wait f.0.lock
+    by_serving lu (Serving.AnsweredLate number command) s at f shown = wait f.lock
+    by_serving lu (Serving.Painting number command wants over) s at f shown = wait f.lock
+    by_serving lu (Serving.KeyAlone parts) s at f shown = wait f.0.lock
+    by_serving lu (Serving.KeyBehind kind number command parts) s at f shown = wait f.0.lock
+    by_serving lu (Serving.KeyNoted number command parts) s at f shown = wait f.0.lock
+    by_serving lu (Serving.KeyBefore number command parts) s at f shown = wait f.0.lock
 
-    by_moment : (moment : Moment) → Sizes app (view_of link) moment → IsAt (view_of link) k.wanted moment → Fact k.wanted (scene_of (view_of link)) moment → Kept app (view_of (key_view key link))
-    by_moment (Moment.Talks talking) s at f = wait f.0.lock
-    by_moment (Moment.Begins lu number command wants over) s at f = wait f.lock
-    by_moment (Moment.Serves lu serving) s at f = by_serving lu serving s at f
+    by_moment : (moment : Moment) → Sizes app (view_of link) moment → IsAt (view_of link) k.wanted moment → Fact k.wanted (scene_of (view_of link)) moment → ShownAt app link.host link.term.display.last_restored moment
+        → Kept app (view_of (key_view key link))
+    by_moment (Moment.Talks talking) s at f shown = wait f.0.lock
+    by_moment (Moment.Begins lu number command wants over) s at f shown = wait f.lock
+    by_moment (Moment.Serves lu serving) s at f shown = by_serving lu serving s at f shown

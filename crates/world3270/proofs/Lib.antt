@@ -39,6 +39,8 @@ pub mod Models
 pub mod HostSteps
 pub mod Everywhere
 pub mod Numbers
+pub mod OnScreen
+pub mod ShownPanels
 pub mod Sendable
 pub mod Slots
 pub mod Steps

@@ -92,6 +92,14 @@ kept_of stays erased left shown now held noted =
         subst (λ cell. IsKept erased cell (slice_index_or now place (Char 0))) same
         (cell_kept erased (attribute_over now place) (slice_index_or shown place (Char 0)) (slice_index_or now place (Char 0)) unmodified (held.each place within))
 
+-- at first all is kept
+kept_same : (cell : Cell) → IsKept false cell cell
+kept_same (Char byte) = refl
+kept_same (Attr attribute) = tt
+
+pub all_kept : (cells : List Cell) → UnmodifiedIsKept false cells cells
+all_kept cells = record { places = record { size = refl; kinds = λ place. refl }; each = λ place within unmodified. kept_same (slice_index_or cells place (Char 0)) }
+
 -- ---- notes
 
 -- a place is among those of a list, or isn't

@@ -6,19 +6,23 @@ use Rattle.codes3270.specs.Size.{Shape, cells_in}
 use Rattle.codes3270.specs.declared.attention.Aid.{Aid}
 use Rattle.codes3270.specs.declared.attention.Aid.TheVariants.{NoAid, Enter, Clear, Pf, Pa}
 use Rattle.datastream.specs.Grammar.{CommandParts}
-use Rattle.datastream.specs.InboundFields.{buffer_data}
+use Rattle.datastream.specs.Fields.{Field, fields}
+use Rattle.datastream.specs.InboundFields.{buffer_data, cells_sent}
 use Rattle.datastream.specs.InboundText.{InboundParts}
-use Rattle.datastream.specs.Screen.{Screen}
-use Rattle.datastream.specs.declared.inbound_part.Form.TheVariants.{Modified}
+use Rattle.datastream.specs.Screen.{Screen, text_before_attribute}
+use Rattle.datastream.specs.declared.inbound_part.Form.{Form}
+use Rattle.datastream.specs.declared.inbound_part.Form.TheVariants.{Modified, Buffer}
 use Rattle.lu_pool.specs.Asking.{answer_to}
 use Rattle.lu_pool.specs.HolderLaws.{IsSound}
 use Rattle.lu_pool.specs.declared.entry.Entry.{Entry}
-use Rattle.shadow.specs.Belief.{Shadow}
+use Rattle.shadow.specs.Belief.{Shadow, fields_of}
 use Rattle.shadow.specs.Exactness.{KnownIsExact, ProtectedIsExact}
-use Rattle.shadow.specs.Heard.{heard}
+use Rattle.shadow.specs.Heard.{heard, heard_form}
 use Rattle.shadow.specs.Laws.{Believed}
 use Rattle.shadow.specs.Openness.{NothingIsOpen}
+use Rattle.shadow.specs.Seen.{belief_seen, denies_buffer, formatted_or, seen}
 use Rattle.shadow.specs.declared.fault.HeardFault.{HeardFault}
+use Rattle.shadow.specs.declared.fault.HeardFault.TheVariants.{Contradiction}
 use Rattle.telnet_wire.specs.declared.wire.Verb.TheVariants.{Will}
 use Rattle.tn3270e_msg.specs.HostTable.{host_transition, answer_transition, request_transition, named_transition, granted}
 use Rattle.tn3270e_msg.specs.Message.{Connect}
@@ -39,11 +43,13 @@ use Rattle.host_core.specs.Session.{Conn, Pending, is_agreed}
 use Rattle.host_core.specs.Rejections.{lu_asked}
 use Rattle.host_core.specs.declared.rejection.Rejection.{Rejection}
 use Rattle.host_core.specs.Takes.{HostStep, Answers, quiet, with_talk, replied, granted_by, talked_on, talked, hears, believed, once_read, key_came, key_data_came, data_came, answered, if_answers, response_came, once_agreed, took}
-use Rattle.std.specs.Prelude.{unwrap_or}
+use Rattle.std.specs.Prelude.{All, map, unwrap_or, if◌then◌else◌}
+use Rattle.std.proofs.lemmas.List.Elements.{All-nil, All-cons}
 use Rattle.world3270.specs.Given.{Given}
 use Rattle.world3270.specs.Link.{Link, sent}
 use Rattle.world3270.specs.Moments.{Kind, awaiting, Talking, Serving, Moment, UnderWay, IsAt, host_talk_at, term_state_at, turn_at, pending_at, down_at, up_at, served_down, served_up}
 use Rattle.world3270.specs.TurnReasons.{IsOccasion, IsCursorFor, IsOpenBy, IsOpenFor}
+use Rattle.world3270.specs.Showing.{IsTextKnown, IsKnownIfRead, IsUnread, ShownAt}
 use Rattle.world3270.specs.Stages.{scene_of, once_taken, FactsAreExact, Suits, Sees, IsPressed, WillBeHeard, IsRead, Fact, Kept, Sizes}
 use Rattle.world3270.specs.View.{view_of}
 use Rattle.world3270.proofs.OneOfMany.{same_number}
@@ -112,6 +118,7 @@ talks app pool link rest k from to saying sends grants rejects message same at i
         sizes = record { host = k.sizes.host; screen = k.sizes.screen; same = λ steady. same };
         at = leads link (talk_step link (host_talk_at link.term.display.model (Moment.Talks to)) sends grants rejects) rest k.wanted (Moment.Talks from) (Moment.Talks to) at l refl at.turn at.pending left;
         fact = fact;
+        shown = tt;
       };
       open_end = refl;
       grants = g;
@@ -173,8 +180,9 @@ module _ (app : Application) (pool : List Entry) (link : Link) (rest : List ToHo
 
   serves : (lu : List ℕ) (from to : Serving) (conn : Conn) → link.term.display.shape ≡ link.host.shape → IsAt (view_of link) k.wanted (Moment.Serves lu from) → conn.talk ≡ link.host.talk → conn.shape ≡ link.host.shape → FactsAreExact conn.shadow
       → conn.turn ≡ turn_at (Moment.Serves lu to) → conn.pending ≡ pending_at (Moment.Serves lu to) → served_down from ++ [] ≡ served_down to → UnderWay link.lost rest (served_up to)
-      → Fact k.wanted (scene_of (view_of (host_view (quiet conn) rest link))) (Moment.Serves lu to) → Answered app pool link rest (quiet conn)
-  serves lu from to conn same at talk shape exact turn pending down left fact = record {
+      → Fact k.wanted (scene_of (view_of (host_view (quiet conn) rest link))) (Moment.Serves lu to) → ShownAt app conn link.term.display.last_restored (Moment.Serves lu to)
+      → Answered app pool link rest (quiet conn)
+  serves lu from to conn same at talk shape exact turn pending down left fact shown = record {
     kept = record {
       whole = k.whole;
       cursor = k.cursor;
@@ -189,6 +197,7 @@ module _ (app : Application) (pool : List Entry) (link : Link) (rest : List ToHo
       };
       at = leads link (quiet conn) rest k.wanted (Moment.Serves lu from) (Moment.Serves lu to) at (record { term = refl; down = down }) (talk ∙ at.host_talk) turn pending left;
       fact = fact;
+      shown = shown;
     };
     open_end = refl;
     grants = Grants.none refl (ap (λ (t : Talk HostState). granted t.state) talk);
@@ -266,6 +275,35 @@ read_occasion turn_reasons.Agreement aid is = is
 read_occasion (turn_reasons.Key pressed buffered) aid is = is
 read_occasion turn_reasons.Refusal aid is = absurd is
 
+-- what is believed of a screen that was read is settled
+seen_settled : (fields : List Field) → All IsTextKnown (map belief_seen fields)
+seen_settled [] = All-nil IsTextKnown
+seen_settled (field ∷ fields) = All-cons IsTextKnown (belief_seen field) (map belief_seen fields) refl (seen_settled fields)
+
+formatted_settled : (fields : List Field) (chars : List ℕ) → All IsTextKnown (fields_of (formatted_or fields chars))
+formatted_settled [] chars = All-nil IsTextKnown
+formatted_settled (field ∷ fields) chars = seen_settled (field ∷ fields)
+
+read_is_settled : (size : ℕ) (shadow : Shadow) (parts : InboundParts) → parts.form ≡ Buffer → IfOk (heard size shadow parts) (λ s. All IsTextKnown (fields_of s))
+read_is_settled size shadow parts form =
+    subst (λ (f : Form). IfOk (heard_form f size shadow parts.aid parts.parts) (λ s. All IsTextKnown (fields_of s))) (sym form)
+    (by_denial (denies_buffer shadow (cells_sent parts.parts)))
+  where
+    by_denial : (denied : Bool) → IfOk (if denied then Err Contradiction else Ok (seen (cells_sent parts.parts))) (λ s. All IsTextKnown (fields_of s))
+    by_denial true = tt
+    by_denial false = formatted_settled (fields (cells_sent parts.parts)) (text_before_attribute (cells_sent parts.parts))
+
+settled_read : (turn_reason : TurnReason) (shadow : Shadow) → All IsTextKnown (fields_of shadow) → IsKnownIfRead (once_read turn_reason) shadow
+settled_read turn_reasons.Agreement shadow settled = tt
+settled_read (turn_reasons.Key aid buffered) shadow settled = settled
+settled_read turn_reasons.Refusal shadow settled = tt
+
+unread_settled : (turn_reason : TurnReason) (shadow : Shadow) → IsUnread turn_reason → IsKnownIfRead turn_reason shadow
+unread_settled turn_reasons.Agreement shadow unread = tt
+unread_settled (turn_reasons.Key aid true) shadow unread = absurd unread
+unread_settled (turn_reasons.Key aid false) shadow unread = tt
+unread_settled turn_reasons.Refusal shadow unread = tt
+
 -- once the screen was read the host knows where the cursor is
 read_cursor : (turn_reason : TurnReason) (place : ℕ) → IsCursorFor (once_read turn_reason) place place
 read_cursor turn_reasons.Agreement place = tt
@@ -279,16 +317,22 @@ module _ (given : Given) (app : Application) (pool : List Entry) (link : Link) (
   abbrev size : ℕ
   size = cells_in link.host.shape
 
+  -- the host's end once it heard this
+  abbrev heard_conn : TurnReason → Pending → Option ℕ → Shadow → Conn
+  heard_conn turn_reason pending cursor shadow =
+      record link.host { shadow = shadow; turn = whose.Host; pending = pending; turn_reason = turn_reason; cursor = unwrap_or cursor link.host.cursor }
+
   -- what is heard is believed, and it is the host's turn
   believes : (lu : List ℕ) (from to : Serving) (parts : InboundParts) (turn_reason : TurnReason) (pending : Pending) (cursor : Option ℕ) (Then : Shadow → Type 0) (r : Result Shadow HeardFault)
       → IsAt (view_of link) k.wanted (Moment.Serves lu from) → IfOk r KnownIsExact → IfOk r ProtectedIsExact → IsOkAnd r Then
       → whose.Host ≡ turn_at (Moment.Serves lu to) → pending ≡ pending_at (Moment.Serves lu to) → served_down from ++ [] ≡ served_down to → UnderWay link.lost rest (served_up to)
       → ((shadow : Shadow) → Then shadow
       → Fact k.wanted (record { shape = link.host.shape; shadow = shadow; turn_reason = turn_reason; cursor = unwrap_or cursor link.host.cursor; lock = link.term.display.keyboard.lock; screen = screen; last_restored = link.term.display.last_restored; erased = link.term.display.erased }) (Moment.Serves lu to))
+      → ((shadow : Shadow) → Then shadow → ShownAt app (heard_conn turn_reason pending cursor shadow) link.term.display.last_restored (Moment.Serves lu to))
       → Answered app pool link rest (believed turn_reason pending cursor link.host r)
-  believes lu from to parts turn_reason pending cursor Then (Ok shadow) at knows protects ok turn pends down left fact =
-      serves app pool link rest k lu from to (record link.host { shadow = shadow; turn = whose.Host; pending = pending; turn_reason = turn_reason; cursor = unwrap_or cursor link.host.cursor }) same at refl refl (record { known = knows; protected = protects }) turn pends down left (fact shadow ok)
-  believes lu from to parts turn_reason pending cursor Then (Err fault) at knows protects ok turn pends down left fact = absurd ok
+  believes lu from to parts turn_reason pending cursor Then (Ok shadow) at knows protects ok turn pends down left fact shown =
+      serves app pool link rest k lu from to (heard_conn turn_reason pending cursor shadow) same at refl refl (record { known = knows; protected = protects }) turn pends down left (fact shadow ok) (shown shadow ok)
+  believes lu from to parts turn_reason pending cursor Then (Err fault) at knows protects ok turn pends down left fact shown = absurd ok
 
   -- a key's data
   hears_key : (lu : List ℕ) (from to : Serving) (parts : InboundParts) (message : ToHost) (Then : Shadow → Type 0) → IsAt (view_of link) k.wanted (Moment.Serves lu from) → IsPressed (scene_of (view_of link)) parts
@@ -297,47 +341,51 @@ module _ (given : Given) (app : Application) (pool : List Entry) (link : Link) (
       → UnderWay link.lost rest (served_up to)
       → ((shadow : Shadow) → Then shadow
       → Fact k.wanted (record { shape = link.host.shape; shadow = shadow; turn_reason = turn_reasons.Key screen.aid false; cursor = unwrap_or parts.cursor link.host.cursor; lock = link.term.display.keyboard.lock; screen = screen; last_restored = link.term.display.last_restored; erased = link.term.display.erased }) (Moment.Serves lu to))
+      → ((shadow : Shadow) → Then shadow → ShownAt app (heard_conn (turn_reasons.Key screen.aid false) link.host.pending parts.cursor shadow) link.term.display.last_restored (Moment.Serves lu to))
       → Answered app pool link rest (took (answer_to pool) link.host message)
-  hears_key lu from to parts message Then at p will e turns time turn pends down left fact =
+  hears_key lu from to parts message Then at p will e turns time turn pends down left fact shown =
       as_step app pool link rest k (ToHost.Data parts) message (believed (turn_reasons.Key screen.aid false) link.host.pending parts.cursor link.host (hears parts link.host)) e
       (key_took (answer_to pool) link.host parts screen.aid (agreed_at app pool link rest k lu from at) (at.turn ∙ turns) (subst IsKeyTime (sym at.pending) time) p.form p.pressed p.some)
       (believes lu from to parts (turn_reasons.Key screen.aid false) link.host.pending parts.cursor Then (hears parts link.host) at
-      (given.belief.heard_exact size link.host.shadow parts k.exact.known) (given.belief.heard_protected size link.host.shadow parts k.exact.protected) will turn (at.pending ∙ pends) down left fact)
+      (given.belief.heard_exact size link.host.shadow parts k.exact.known) (given.belief.heard_protected size link.host.shadow parts k.exact.protected) will turn (at.pending ∙ pends) down left fact shown)
 
   -- a response to a write
   hears_response : (lu : List ℕ) (from to : Serving) (kind : Kind) (number : ℕ) (command : CommandParts) (message : ToHost) → IsAt (view_of link) k.wanted (Moment.Serves lu from) → message ≡ ToHost.Response number Verdict.Positive
       → pending_at (Moment.Serves lu from) ≡ awaiting kind number command → FactsAreExact (once_taken link.host.shape command link.host.shadow)
       → turn_at (Moment.Serves lu from) ≡ turn_at (Moment.Serves lu to) → Pending.Nothing ≡ pending_at (Moment.Serves lu to) → served_down from ++ [] ≡ served_down to
       → UnderWay link.lost rest (served_up to) → Fact k.wanted (scene_of (view_of (host_view (quiet (answered command link.host)) rest link))) (Moment.Serves lu to)
-      → Answered app pool link rest (took (answer_to pool) link.host message)
-  hears_response lu from to kind number command message at e waits exact turn pends down left fact =
+      → ShownAt app (answered command link.host) link.term.display.last_restored (Moment.Serves lu to) → Answered app pool link rest (took (answer_to pool) link.host message)
+  hears_response lu from to kind number command message at e waits exact turn pends down left fact shown =
       as_step app pool link rest k (ToHost.Response number Verdict.Positive) message (quiet (answered command link.host)) e
       (response_took (answer_to pool) link.host kind number command (agreed_at app pool link rest k lu from at) (at.pending ∙ waits))
-      (serves app pool link rest k lu from to (answered command link.host) same at refl refl exact (at.turn ∙ turn) pends down left fact)
+      (serves app pool link rest k lu from to (answered command link.host) same at refl refl exact (at.turn ∙ turn) pends down left fact shown)
 
   -- the whole screen, as it was asked for
   hears_buffer : (lu : List ℕ) (number : ℕ) (parts : InboundParts) (message : ToHost) → IsAt (view_of link) k.wanted (Moment.Serves lu (Serving.Reported number parts)) → IsRead (scene_of (view_of link))
-      → parts ≡ buffer_data link.host.shape screen → message ≡ ToHost.Data parts → UnderWay link.lost rest [] → Answered app pool link rest (took (answer_to pool) link.host message)
-  hears_buffer lu number parts message at f is e left =
+      → parts ≡ buffer_data link.host.shape screen → message ≡ ToHost.Data parts → UnderWay link.lost rest [] → ShownAt app link.host link.term.display.last_restored (Moment.Serves lu (Serving.Reported number parts))
+      → Answered app pool link rest (took (answer_to pool) link.host message)
+  hears_buffer lu number parts message at f is e left shown =
       let read : InboundParts = buffer_data link.host.shape screen in
       as_step app pool link rest k (ToHost.Data read) message (believed (once_read link.host.turn_reason) Pending.Nothing read.cursor link.host (hears read link.host)) (e ∙ ap (λ p. ToHost.Data p) is)
       (buffer_took (answer_to pool) link.host link.host.shape screen number (agreed_at app pool link rest k lu (Serving.Reported number parts) at) at.pending)
-      (believes lu (Serving.Reported number parts) Serving.Deciding read (once_read link.host.turn_reason) Pending.Nothing read.cursor (λ s. Sees link.host.shape screen s × NothingIsOpen s) (hears read link.host) at
+      (believes lu (Serving.Reported number parts) Serving.Deciding read (once_read link.host.turn_reason) Pending.Nothing read.cursor (λ s. Sees link.host.shape screen s × NothingIsOpen s × All IsTextKnown (fields_of s)) (hears read link.host) at
       (given.belief.heard_exact size link.host.shadow read k.exact.known) (given.belief.heard_protected size link.host.shadow read k.exact.protected)
       (by_result (heard size link.host.shadow read) (subst (λ n. IsOkAnd (heard n link.host.shadow read) (Believed false screen)) (k.whole ∙ ap (λ (s : Shape). cells_in s) same) (given.belief.reads link.host.shape link.host.shadow screen f.decides.sees.meets))
-      (given.belief.heard_exact size link.host.shadow read k.exact.known) (given.belief.heard_protected size link.host.shadow read k.exact.protected) (given.belief.read_leaves size link.host.shadow read refl))
-      refl refl refl left (λ shadow sees. record { lock = f.decides.lock; turn_reason = read_occasion link.host.turn_reason screen.aid f.decides.turn_reason; cursor = read_cursor link.host.turn_reason screen.cursor; closed = open_read link.host.turn_reason shadow link.host.shadow sees.1 f.decides.closed; sees = sees.0 }))
+      (given.belief.heard_exact size link.host.shadow read k.exact.known) (given.belief.heard_protected size link.host.shadow read k.exact.protected) (given.belief.read_leaves size link.host.shadow read refl) (read_is_settled size link.host.shadow read refl))
+      refl refl refl left (λ shadow sees. record { lock = f.decides.lock; turn_reason = read_occasion link.host.turn_reason screen.aid f.decides.turn_reason; cursor = read_cursor link.host.turn_reason screen.cursor; closed = open_read link.host.turn_reason shadow link.host.shadow sees.1 f.decides.closed; sees = sees.0 })
+      (λ shadow sees. (λ later. shown (λ is_first. later (ap once_read is_first)), settled_read link.host.turn_reason shadow sees.2)))
     where
-      by_result : (r : Result Shadow HeardFault) → IsOkAnd r (Believed false screen) → IfOk r KnownIsExact → IfOk r ProtectedIsExact → IfOk r NothingIsOpen → IsOkAnd r (λ s. Sees link.host.shape screen s × NothingIsOpen s)
-      by_result (Ok s) believed known protected closed =
-          (record { exact = record { known = known; protected = protected }; closed = all_open screen.aid false s closed; cleared = λ clear. absurd (f.not_cleared clear); meets = believed.0; lists = believed.1; told = λ sent. believed.2 refl }, closed)
-      by_result (Err fault) believed known protected closed = absurd believed
+      by_result : (r : Result Shadow HeardFault) → IsOkAnd r (Believed false screen) → IfOk r KnownIsExact → IfOk r ProtectedIsExact → IfOk r NothingIsOpen → IfOk r (λ s. All IsTextKnown (fields_of s))
+          → IsOkAnd r (λ s. Sees link.host.shape screen s × NothingIsOpen s × All IsTextKnown (fields_of s))
+      by_result (Ok s) believed known protected closed settled =
+          (record { exact = record { known = known; protected = protected }; closed = all_open screen.aid false s closed; cleared = λ clear. absurd (f.not_cleared clear); meets = believed.0; lists = believed.1; told = λ sent. believed.2 refl }, closed, settled)
+      by_result (Err fault) believed known protected closed settled = absurd believed
 
 -- ---- any message, at any moment
 
 pub answers : Given → (app : Application) (pool : List Entry) → IsSound pool → (link : Link) (message : ToHost) (rest : List ToHost) → link.up ≡ message ∷ rest → Kept app (view_of link)
     → Answered app pool link rest (took (answer_to pool) link.host message)
-answers given app pool sound link message rest e k = by_moment k.moment k.sizes k.at k.fact
+answers given app pool sound link message rest e k = by_moment k.moment k.sizes k.at k.fact k.shown
   where
     screen : Screen
     screen = link.term.display.screen
@@ -365,44 +413,52 @@ answers given app pool sound link message rest e k = by_moment k.moment k.sizes 
     by_talk (Talking.Rejecting reason) same at f = no_more at.goes_up
     by_talk (Talking.Rejected reason) same at f = no_more at.goes_up
 
-    by_serving : (lu : List ℕ) (serving : Serving) → Sizes app (view_of link) (Moment.Serves lu serving) → IsAt (view_of link) k.wanted (Moment.Serves lu serving) → Fact k.wanted (scene_of (view_of link)) (Moment.Serves lu serving) → Answered app pool link rest (took (answer_to pool) link.host message)
-    by_serving lu (Serving.Reported number parts) s at f =
+    by_serving : (lu : List ℕ) (serving : Serving) → Sizes app (view_of link) (Moment.Serves lu serving) → IsAt (view_of link) k.wanted (Moment.Serves lu serving) → Fact k.wanted (scene_of (view_of link)) (Moment.Serves lu serving)
+        → ShownAt app link.host link.term.display.last_restored (Moment.Serves lu serving) → Answered app pool link rest (took (answer_to pool) link.host message)
+    by_serving lu (Serving.Reported number parts) s at f shown =
         let first = front link.lost link.up message rest _ [] e at.goes_up in
-        hears_buffer given app pool link rest k (s.same refl) lu number parts message at f.0 f.1 first.0 first.1
-    by_serving lu (Serving.AnsweredLate number command) s at f =
+        hears_buffer given app pool link rest k (s.same refl) lu number parts message at f.0 f.1 first.0 first.1 shown
+    by_serving lu (Serving.AnsweredLate number command) s at f shown =
         let first = front link.lost link.up message rest _ [] e at.goes_up in
         hears_response given app pool link rest k (s.same refl) lu (Serving.AnsweredLate number command) Serving.Deciding Kind.ANote number command message at first.0 refl f.sees.exact refl refl refl first.1
         (record { lock = f.lock; turn_reason = f.turn_reason; cursor = f.cursor; closed = f.closed; sees = f.sees })
-    by_serving lu (Serving.Answering kind number command) s at f =
+        (λ _. shown.0, unread_settled link.host.turn_reason (once_taken link.host.shape command link.host.shadow) shown.1)
+    by_serving lu (Serving.Answering kind number command) s at f shown =
         let first = front link.lost link.up message rest _ [] e at.goes_up in
         hears_response given app pool link rest k (s.same refl) lu (Serving.Answering kind number command) Serving.Operating kind number command message at first.0 refl f.exact refl refl refl first.1
         (record { shown = f.shown; lock = f.lock; exact = f.exact; meets = f.meets; closed = f.closed; knows = f.knows; held = f.held; messages = f.messages; noted = f.noted })
-    by_serving lu (Serving.KeyBehind kind number command parts) s at f =
+        shown
+    by_serving lu (Serving.KeyBehind kind number command parts) s at f shown =
         let first = front link.lost link.up message rest _ _ e at.goes_up in
         hears_response given app pool link rest k (s.same refl) lu (Serving.KeyBehind kind number command parts) (Serving.KeyAlone parts) kind number command message at first.0 refl
         f.3 refl refl refl first.1
         (record { lock = f.0.lock; form = f.0.form; size = f.0.size; pressed = f.0.pressed; cursor = f.0.cursor; some = f.0.some }, f.1, f.2)
-    by_serving lu (Serving.KeyAlone parts) s at f =
+        shown
+    by_serving lu (Serving.KeyAlone parts) s at f shown =
         let first = front link.lost link.up message rest _ [] e at.goes_up in
         hears_key given app pool link rest k (s.same refl) lu (Serving.KeyAlone parts) Serving.Deciding parts message (Sees link.host.shape screen) at f.0 f.1 first.0 refl (IsKeyTime.nothing_waits refl) refl refl refl first.1
         (λ shadow sees. record { lock = f.0.lock; turn_reason = (refl, f.0.some); cursor = λ long. ap (λ (c : Option ℕ). unwrap_or c link.host.cursor) (f.0.cursor long); closed = sees.closed; sees = sees })
-    by_serving lu (Serving.KeyNoted number command parts) s at f =
+        (λ shadow sees. (λ _. shown, tt))
+    by_serving lu (Serving.KeyNoted number command parts) s at f shown =
         let first = front link.lost link.up message rest _ [] e at.goes_up in
         hears_key given app pool link rest k (s.same refl) lu (Serving.KeyNoted number command parts) (Serving.NotedLate number command) parts message (Sees link.host.shape screen) at f.0 f.1 first.0 refl (IsKeyTime.note_waits number command refl) refl refl refl first.1
         (λ shadow sees. (record { lock = f.0.lock; turn_reason = (refl, f.0.some); cursor = λ long. ap (λ (c : Option ℕ). unwrap_or c link.host.cursor) (f.0.cursor long); closed = sees.closed; sees = sees }, record { note = f.2.note; takes = f.2.takes }))
-    by_serving lu (Serving.KeyBefore number command parts) s at f =
+        (λ shadow sees. (shown, tt))
+    by_serving lu (Serving.KeyBefore number command parts) s at f shown =
         let first = front link.lost link.up message rest _ _ e at.goes_up in
         hears_key given app pool link rest k (s.same refl) lu (Serving.KeyBefore number command parts) (Serving.AnsweredLate number command) parts message (λ shadow. Sees link.host.shape screen (once_taken link.host.shape command shadow)) at f.0 f.1 first.0 refl
         (IsKeyTime.note_waits number command refl) refl refl refl first.1
         (λ shadow sees. record { lock = f.0.lock; turn_reason = (refl, f.0.some); cursor = λ long. ap (λ (c : Option ℕ). unwrap_or c link.host.cursor) (f.0.cursor long); closed = sees.closed; sees = sees })
-    by_serving lu Serving.Deciding s at f = no_more at.goes_up
-    by_serving lu (Serving.Reading number) s at f = no_more at.goes_up
-    by_serving lu (Serving.NotedLate number command) s at f = no_more at.goes_up
-    by_serving lu (Serving.Painting number command wants over) s at f = no_more at.goes_up
-    by_serving lu Serving.Operating s at f = no_more at.goes_up
-    by_serving lu (Serving.Noting number command) s at f = no_more at.goes_up
+        (λ shadow sees. (shown, tt))
+    by_serving lu Serving.Deciding s at f shown = no_more at.goes_up
+    by_serving lu (Serving.Reading number) s at f shown = no_more at.goes_up
+    by_serving lu (Serving.NotedLate number command) s at f shown = no_more at.goes_up
+    by_serving lu (Serving.Painting number command wants over) s at f shown = no_more at.goes_up
+    by_serving lu Serving.Operating s at f shown = no_more at.goes_up
+    by_serving lu (Serving.Noting number command) s at f shown = no_more at.goes_up
 
-    by_moment : (moment : Moment) → Sizes app (view_of link) moment → IsAt (view_of link) k.wanted moment → Fact k.wanted (scene_of (view_of link)) moment → Answered app pool link rest (took (answer_to pool) link.host message)
-    by_moment (Moment.Talks talking) s at f = by_talk talking (s.same refl) at f
-    by_moment (Moment.Begins lu number command wants over) s at f = no_more at.goes_up
-    by_moment (Moment.Serves lu serving) s at f = by_serving lu serving s at f
+    by_moment : (moment : Moment) → Sizes app (view_of link) moment → IsAt (view_of link) k.wanted moment → Fact k.wanted (scene_of (view_of link)) moment
+        → ShownAt app link.host link.term.display.last_restored moment → Answered app pool link rest (took (answer_to pool) link.host message)
+    by_moment (Moment.Talks talking) s at f shown = by_talk talking (s.same refl) at f
+    by_moment (Moment.Begins lu number command wants over) s at f shown = no_more at.goes_up
+    by_moment (Moment.Serves lu serving) s at f shown = by_serving lu serving s at f shown

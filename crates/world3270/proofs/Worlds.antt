@@ -39,6 +39,7 @@ use Rattle.world3270.proofs.Acting.{acts, notes, loses, answers_are_shown}
 use Rattle.world3270.proofs.Down.{term_view, obeys}
 use Rattle.world3270.proofs.Keys.{keys}
 use Rattle.world3270.proofs.OneOfMany.{all_with, differs}
+use Rattle.world3270.proofs.Unreturned.{all_kept}
 use Rattle.world3270.proofs.Up.{claim, Grants, host_view, answers}
 
 -- ---- what is kept
@@ -228,7 +229,7 @@ unused_kept : Given → (app : Application) → IsApplication app → Kept app (
 unused_kept given app is = record {
   whole = length-replicate (cells_in app.begins) (Char 0);
   cursor = some_cells app.begins is.begins;
-  unreturned = λ wrong. absurd wrong;
+  unreturned = λ _. all_kept (replicate (cells_in app.begins) (Char 0));
   exact = record { known = given.belief.nothing_exact.0; protected = given.belief.nothing_exact.1 };
   wanted = None;
   moment = Moment.Talks Talking.Offering;
@@ -242,13 +243,14 @@ unused_kept given app is = record {
     goes_up = record { vanished = []; whole = refl; none = λ _. refl };
   };
   fact = (record { shadow = refl; turn_reason = refl; lock = refl; aid = refl; no_fields = no_field (replicate (cells_in app.begins) (Char 0)) 0 (cells_in app.begins) }, tt);
+  shown = tt;
 }
 
 begun_kept : Given → (app : Application) → IsApplication app → (model : Model) (terminal : ℕ) (wanted : Option (List ℕ)) → IsLuIfSome wanted → Kept app (view_of (begun app model terminal wanted))
 begun_kept given app is model terminal wanted lu = record {
   whole = length-replicate (cells_in app.begins) (Char 0);
   cursor = some_cells app.begins is.begins;
-  unreturned = λ wrong. absurd wrong;
+  unreturned = λ _. all_kept (replicate (cells_in app.begins) (Char 0));
   exact = record { known = given.belief.nothing_exact.0; protected = given.belief.nothing_exact.1 };
   wanted = wanted;
   moment = Moment.Talks Talking.Offering;
@@ -262,6 +264,7 @@ begun_kept given app is model terminal wanted lu = record {
     goes_up = record { vanished = []; whole = refl; none = λ _. refl };
   };
   fact = (record { shadow = refl; turn_reason = refl; lock = refl; aid = refl; no_fields = no_field (replicate (cells_in app.begins) (Char 0)) 0 (cells_in app.begins) }, lu);
+  shown = tt;
 }
 
 joined_good : Given → (app : Application) → IsApplication app → (world : World) (terminal : ℕ) (model : Model) (wanted : Option (List ℕ)) → IsLuIfSome wanted → (number : Option ℕ) → GoodWorld app world → GoodWorld app (joined app terminal model wanted number world)

@@ -1,9 +1,13 @@
 -- What the application is asked is what the operator sees (our profile).
-use Rattle.std.specs.Prelude.{◌≡◌, ◌+◌, ℕ, List, Option, Some, None, slice_get, if◌then◌else◌}
+use Rattle.std.specs.Prelude.{◌≡◌, ◌+◌, ℕ, Bool, List, length, Option, Some, None, slice_get, if◌then◌else◌}
 use Rattle.datastream.specs.Fields.{Field, fields}
 use Rattle.datastream.specs.Inbound.{without_nulls}
 use Rattle.datastream.specs.Screen.{Screen}
+use Rattle.panels.specs.KeptFields.{IsFieldOn}
+use Rattle.panels.specs.Panel.{HaveNumbersApart}
+use Rattle.panels.specs.Screen.{Values}
 use Rattle.panels.specs.Values.{value_of}
+use Rattle.panels.specs.declared.message.Message.{Message}
 use Rattle.panels.specs.declared.panel.Field.{Field as PanelField}
 use Rattle.host_core.specs.Application.{Application, application_of}
 use Rattle.host_core.specs.Questions.{question_in, question_of}
@@ -44,7 +48,28 @@ pub record IsSeen (panel : List PanelField) (question : Question) (terminal : Te
   pub cursor : question.cursor ≡ terminal.screen.cursor
   pub texts : (number : ℕ) (text : List ℕ) → value_of question.values number ≡ Some text → StandsIn panel number text terminal.screen
 
+-- The panel's field is on the screen, at its place and with its length; and without nulls its text is this one.
+pub record IsFieldShown (field : PanelField) (text : List ℕ) (screen : Screen) : Type 0 where
+  pub stands : StandsAt field text screen
+  pub length_is : length stands.on_screen.text ≡ field.extent.length
+
+-- The question gives a text for the field, and the field is on the screen with that text.
+pub record IsFieldAsked (field : PanelField) (question : Question) (screen : Screen) : Type 0 where
+  pub text : List ℕ
+  pub given : value_of question.values field.number ≡ Some text
+  pub shown : IsFieldShown field text screen
+
+-- It does so of each field of the panel.
+abbrev pub AreFieldsAsked : List PanelField → Question → Screen → Type 0
+AreFieldsAsked panel question screen = (index : ℕ) (field : PanelField) → slice_get panel index ≡ Some field → IsFieldAsked field question screen
+
 -- ---- of a world over messages
+
+-- Each screen that is asked for has each field of its panel, and no two fields of a panel have the same number.
+pub record ShowsItsFields (app : Application) : Type 0 where
+  pub on_screen : (panel : ℕ) (values : Values) (message : Message) (keep : Bool) (index : ℕ) (field : PanelField) → slice_get (app.fields panel) index ≡ Some field
+      → IsFieldOn (app.screen panel values message keep) field.extent
+  pub numbers : (panel : ℕ) → HaveNumbersApart (app.fields panel)
 
 -- the question that is open at a connection, if the host is there; sessions are counted over bytes alone
 abbrev pub asked_by : Application → ℕ → Link → Option Question
@@ -56,17 +81,29 @@ AskedIsSeen app world = (number session : ℕ) (question : Question) (terminal :
     → asked_by app session (world.link number) ≡ Some question → (seen_link (world.link number)).terminal ≡ Some terminal
     → IsSeen (app.fields question.panel) question terminal
 
+-- And it has the text of each field of its panel as that screen shows it, if each screen that the application asks for has its panel's
+-- fields.
+abbrev pub FieldsAreSeen : Application → World → Type 0
+FieldsAreSeen app world = ShowsItsFields app → (number session : ℕ) (question : Question) (terminal : TerminalSeen)
+    → asked_by app session (world.link number) ≡ Some question → (seen_link (world.link number)).terminal ≡ Some terminal
+    → AreFieldsAsked (app.fields question.panel) question terminal.screen
+
 -- ---- of a world over bytes
 
 -- the question that the host answers if it is asked for one
 abbrev pub asked_at : ℕ → ByteWorld → Option Question
 asked_at number world = question_of (application_of world.host.panels) (session_at number world.host) (service_at number world.host)
 
--- what is asked is what is seen, on each connection
+-- What is asked is what is seen: the key, the LU, the cursor and each field of the panel.
+pub record IsPanelSeen (panel : List PanelField) (question : Question) (terminal : TerminalSeen) : Type 0 where
+  pub seen : IsSeen panel question terminal
+  pub fields : AreFieldsAsked panel question terminal.screen
+
+-- It is so on each connection.
 abbrev pub WhatIsAskedIsSeen : ByteWorld → Type 0
 WhatIsAskedIsSeen world = (number : ℕ) (question : Question) (terminal : TerminalSeen)
     → asked_at number world ≡ Some question → (seen_connection number world).terminal ≡ Some terminal
-    → IsSeen ((application_of world.host.panels).fields question.panel) question terminal
+    → IsPanelSeen ((application_of world.host.panels).fields question.panel) question terminal
 
 -- It is so of each world whose bytes represent a world over messages.
 abbrev pub AskedIsSeenOverBytes : Type 0

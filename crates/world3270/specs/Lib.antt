@@ -33,6 +33,8 @@ pub mod Skipped
 pub mod Losses
 pub mod Forms
 pub mod Numbers
+pub mod Showing
+pub mod Shown
 pub mod Sizes
 pub mod Sendable
 pub mod ByteWorld

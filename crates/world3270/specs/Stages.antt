@@ -29,6 +29,7 @@ use Rattle.host_core.specs.declared.turn_reason.TurnReason.{TurnReason}
 use Rattle.host_core.specs.declared.turn_reason.TurnReason.TheVariants as turn_reasons
 use Rattle.world3270.specs.Headline.{SentFields}
 use Rattle.world3270.specs.Moments.{Talking, Serving, Moment, IsAt}
+use Rattle.world3270.specs.Showing.{ShownAt}
 use Rattle.world3270.specs.TurnReasons.{IsOccasion, IsCursorFor, IsOpenBy, IsOpenFor, IsCleared}
 use Rattle.world3270.specs.Unreturned.{NotedSince, UnmodifiedIsKept}
 use Rattle.world3270.specs.View.{View}
@@ -206,10 +207,11 @@ pub record Sizes (app : Application) (v : View) (moment : Moment) : Type 0 where
 pub record Kept (app : Application) (v : View) : Type 0 where
   pub whole : length v.screen.cells ≡ cells_in v.shape
   pub cursor : v.screen.cursor < cells_in v.shape
-  pub unreturned : SentFields v.screen.aid → UnmodifiedIsKept v.erased v.last_restored.cells v.screen.cells
+  pub unreturned : (v.screen.aid ≡ Clear → ⊥) → UnmodifiedIsKept v.erased v.last_restored.cells v.screen.cells
   pub exact : FactsAreExact v.host.shadow
   pub wanted : Option (List ℕ)
   pub moment : Moment
   pub sizes : Sizes app v moment
   pub at : IsAt v wanted moment
   pub fact : Fact wanted (scene_of v) moment
+  pub shown : ShownAt app v.host v.last_restored moment

@@ -1,7 +1,7 @@
 //! Laws of the worlds over messages and over bytes: each is the contract of a function that does nothing. Proofs of
 //! other crates use them; no program calls them, and the root doesn't export them.
 ghost use Rattle.world3270.specs.Always.{Always, AlwaysOf, HeadlineHolds, NobodyRefuses};
-ghost use Rattle.world3270.specs.Asked.{AskedIsSeen, AskedIsSeenOverBytes};
+ghost use Rattle.world3270.specs.Asked.{AskedIsSeen, AskedIsSeenOverBytes, FieldsAreSeen};
 ghost use Rattle.world3270.specs.Example.{TheRunsEndSo};
 ghost use Rattle.world3270.specs.Forms.{FormsAreAwaited};
 ghost use Rattle.world3270.specs.Given.{Given};
@@ -16,6 +16,7 @@ ghost use Rattle.world3270.specs.Places.{EndsAgree, UpIsHeld, HoldersAreHere, Li
 ghost use Rattle.world3270.specs.Refines.{BeginIsReached, HeadlineIsSeen, RunsGoOn, SkipsAreThose, StepsGoOn};
 ghost use Rattle.world3270.specs.TrackedTerminals.{HistoryFollows};
 ghost use Rattle.world3270.specs.Sendable.{AlwaysTyped, DataCanBeSpelt, PaintsAreScreens, PaintsAreSpelt, ScreensAreSendable, ScreensHaveASize, ValuesAreTexts};
+ghost use Rattle.world3270.specs.Shown.{PanelIsShown, PanelIsShownOverBytes};
 ghost use Rattle.world3270.specs.Sizes.{AllSizesAgree};
 ghost use Rattle.world3270.specs.Skipped.{SkippedChangesNothing};
 ghost use Rattle.world3270.specs.Stands.{StandsDown, StandsUp, all_items, without_nops};
@@ -27,6 +28,7 @@ use datastream::laws::{fields_both_ways, kept_since_the_write, sent_is_read, wha
 use host_core::laws::{notes_are_written, panels_are_shown, what_is_shown_fits};
 use keyboard::laws::{keys_keep_what_was_left, what_keys_leave_can_be_sent};
 use lu_pool::laws::the_pool_is_a_map;
+use panels::laws::fields_are_on_the_screen;
 use shadow::laws::{
     what_a_note_leaves, what_is_believed_has_a_size, what_is_exact_is_so, what_is_known_is_exact,
     what_is_protected_is_exact, what_is_read_is_heard, what_is_sent_is_heard,
@@ -94,11 +96,28 @@ pub fn what_was_pressed_is_acted_on()
 /// Law: what the application is asked is what the operator sees. Over the same lists of messages, on
 /// each connection with both ends attached, an open question has the key whose AID the terminal's
 /// screen has, the LU that the terminal is bound to, the screen's cursor, and no text of a field but
-/// the one that the screen shows in that field, nulls removed. And so it is of each world over bytes
-/// that represents one over messages.
+/// the one that the screen shows in that field, nulls removed. It has a text for each field of the
+/// panel, and each of these is on the screen, at its place and with its length, if each screen that
+/// the application asks for has its panel's fields. And so it is of each world over bytes that
+/// represents one over messages: the screens of panels have their fields.
 pub fn what_is_asked_is_seen()
     ensures messages { AlwaysOf AskedIsSeen }
+    ensures fields { AlwaysOf FieldsAreSeen }
     ensures bytes { AskedIsSeenOverBytes }
+{
+    what_is_given();
+    panels_are_shown();
+    fields_are_on_the_screen();
+}
+
+/// Law: what is answered is shown. Over the same lists of messages, on each connection with both ends
+/// attached, in the operator's turn with the host's last command answered: the screen that the host's
+/// last restoring write left is the one that the connection's panel asks for, with the connection's
+/// values and message, painted on a screen that it fitted. And so it is of each world over bytes that
+/// represents one over messages.
+pub fn what_is_answered_is_shown()
+    ensures messages { AlwaysOf PanelIsShown }
+    ensures bytes { PanelIsShownOverBytes }
 {
     what_is_given();
     panels_are_shown();

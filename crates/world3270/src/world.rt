@@ -8,9 +8,10 @@ ghost use Rattle.world3270.specs.ByteWorld.{IsTerminalCount, down_of, new_byte_w
 ghost use Rattle.world3270.specs.Headline.{Headline};
 ghost use Rattle.world3270.specs.Refines.{IsReached, RunOverMessages, StepOverMessages};
 ghost use Rattle.world3270.specs.SeenBytes.{seen_bytes};
+ghost use Rattle.world3270.specs.Shown.{WhatIsAnsweredIsShown};
 
 use crate::event::{Event, Ran, Stepped, events_are_real};
-use crate::laws::{bytes_follow_messages, what_is_asked_is_seen};
+use crate::laws::{bytes_follow_messages, what_is_answered_is_shown, what_is_asked_is_seen};
 use crate::network::Network;
 use codes3270::Model as TerminalModel;
 use host_core::Host;
@@ -118,14 +119,26 @@ impl World {
 
     /// Law: what the application is asked is what the operator sees, whatever happened to this world.
     /// A question that [`Host::question`] answers has the key that the operator pressed, the LU that
-    /// the terminal is bound to, the cursor of its screen, and no text but those that this screen
-    /// shows, nulls removed.
+    /// the terminal is bound to, the cursor of its screen, and for each field of the panel the text
+    /// that this screen shows in that field, nulls removed: the field is there, at its place and with
+    /// its length.
     pub fn what_is_asked_is_seen(&self)
         ensures { WhatIsAskedIsSeen self.now }
     {
         // For the contract: the world is reached.
         let _network = &self.network;
         what_is_asked_is_seen();
+    }
+
+    /// Law: what is answered is shown, whatever happened to this world. In the operator's turn, once
+    /// the host's last command is answered, the screen that the host left on the terminal is the one
+    /// that the connection's panel asks for, with its values and its message.
+    pub fn what_is_answered_is_shown(&self)
+        ensures { WhatIsAnsweredIsShown self.now }
+    {
+        // For the contract: the world is reached.
+        let _network = &self.network;
+        what_is_answered_is_shown();
     }
 
     /// Law: the bytes of this world represent a world over messages, to which some list of events
@@ -154,10 +167,12 @@ impl World {
         ensures messages { StepOverMessages event self.old result self.new }
         ensures headline { Headline (seen_bytes self.new) }
         ensures asked { WhatIsAskedIsSeen self.new }
+        ensures shown { WhatIsAnsweredIsShown self.new }
     {
         let stepped = self.happen(&event);
         self.headline_holds();
         self.what_is_asked_is_seen();
+        self.what_is_answered_is_shown();
         stepped
     }
 
@@ -167,6 +182,7 @@ impl World {
         ensures messages { RunOverMessages events.now self.old result self.new }
         ensures headline { Headline (seen_bytes self.new) }
         ensures asked { WhatIsAskedIsSeen self.new }
+        ensures shown { WhatIsAnsweredIsShown self.new }
     {
         self.represents_messages();
         for (whole, event) in events.iter().enumerate() {
@@ -175,12 +191,14 @@ impl World {
                 Some(part) => {
                     self.headline_holds();
                     self.what_is_asked_is_seen();
+                    self.what_is_answered_is_shown();
                     return Ran { whole, part };
                 }
             }
         }
         self.headline_holds();
         self.what_is_asked_is_seen();
+        self.what_is_answered_is_shown();
         Ran {
             whole: events.len(),
             part: 0,

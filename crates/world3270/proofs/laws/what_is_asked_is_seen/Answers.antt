@@ -1,9 +1,13 @@
-use Rattle.world3270.proofs.Asked.{asked_is_seen}
+use Rattle.world3270.proofs.Asked.{asked_is_seen, each_is_seen}
 use Rattle.world3270.proofs.AskedOverBytes.{asked_over_bytes}
 use Rattle.world3270.proofs.laws.what_is_asked_is_seen.Goals as goal
 
 pub returns-clause-messages : goal.returns-clause-messages
 returns-clause-messages c = asked_is_seen c.what_is_given.ensures
 
+pub returns-clause-fields : goal.returns-clause-fields
+returns-clause-fields c = each_is_seen c.what_is_given.ensures
+
 pub returns-clause-bytes : goal.returns-clause-bytes
-returns-clause-bytes c = asked_over_bytes c.panels_are_shown.ensures.application (asked_is_seen c.what_is_given.ensures)
+returns-clause-bytes c =
+    asked_over_bytes c.panels_are_shown.ensures.application c.fields_are_on_the_screen.ensures (asked_is_seen c.what_is_given.ensures) (each_is_seen c.what_is_given.ensures)

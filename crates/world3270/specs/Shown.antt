@@ -1,0 +1,38 @@
+-- What the operator is shown is the panel that the host has for the connection (our profile).
+use Rattle.std.specs.Prelude.{◌≡◌, ℕ, true, Some}
+use Rattle.telnet_wire.specs.Reading.{Rest}
+use Rattle.host_core.specs.Application.{Application, application_of}
+use Rattle.host_core.specs.Session.{Conn, Pending}
+use Rattle.host_core.specs.State.{Service, service_at}
+use Rattle.host_core.specs.declared.turn.Turn.TheVariants as whose
+use Rattle.world3270.specs.ByteWorld.{ByteWorld}
+use Rattle.world3270.specs.Refines.{IsReached}
+use Rattle.world3270.specs.Seen.{TerminalSeen, seen_link}
+use Rattle.world3270.specs.SeenBytes.{seen_connection}
+use Rattle.world3270.specs.World.{World}
+use Rattle.world3270.specs.Showing.{ShowsItsPanel}
+
+-- the host gave the operator the turn, and its last command is answered
+pub record IsOperatorsTurn (host : Conn) : Type 0 where
+  pub turn : host.turn ≡ whose.Terminal
+  pub answered : host.pending ≡ Pending.Nothing
+
+-- ---- of a world over messages
+
+-- On each connection with both ends attached, lost or not, in the operator's turn: the screen that the host's last restoring write left
+-- shows the connection's panel, with the connection's values and message.
+abbrev pub PanelIsShown : Application → World → Type 0
+PanelIsShown app world = (number : ℕ) (terminal : TerminalSeen) → let link = world.link number in
+    link.host_here ≡ true → (seen_link link).terminal ≡ Some terminal → IsOperatorsTurn link.host → ShowsItsPanel app link.host terminal.last_restored
+
+-- ---- of a world over bytes
+
+-- It is so on each connection.
+abbrev pub WhatIsAnsweredIsShown : ByteWorld → Type 0
+WhatIsAnsweredIsShown world = (number : ℕ) (rest : Rest) (host : Conn) (terminal : TerminalSeen) → service_at number world.host ≡ Service.Open rest host
+    → (seen_connection number world).terminal ≡ Some terminal → IsOperatorsTurn host
+    → ShowsItsPanel (application_of world.host.panels) host terminal.last_restored
+
+-- It is so of each world whose bytes represent a world over messages.
+abbrev pub PanelIsShownOverBytes : Type 0
+PanelIsShownOverBytes = (bytes : ByteWorld) → IsReached bytes → WhatIsAnsweredIsShown bytes
