@@ -130,9 +130,9 @@ impl World {
         what_is_asked_is_seen();
     }
 
-    /// Law: what is answered is shown, whatever happened to this world. In the operator's turn, once
-    /// the host's last command is answered, the screen that the host left on the terminal is the one
-    /// that the connection's panel asks for, with its values and its message.
+    /// Law: what is answered is shown, whatever happened to this world. If a panel was shown on a
+    /// connection and its paint is answered, the screen that the host left on the terminal is one that
+    /// the connection's panel asks for, with the connection's values and message.
     pub fn what_is_answered_is_shown(&self)
         ensures { WhatIsAnsweredIsShown self.now }
     {
