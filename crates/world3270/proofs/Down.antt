@@ -214,7 +214,7 @@ serves link step rest wanted lu from to model at l same left = leads link step r
 -- ---- a paint
 
 takes_paint : Given → (app : Application) → IsApplication app → (link : Link) (rest : List ToTerminal) (k : Kept app (view_of link)) (lu : List ℕ) (number : ℕ) (command : CommandParts) (wants : WantedScreen) (over : Shadow)
-    → IsAt (view_of link) k.wanted (Moment.Serves lu (Serving.Painting number command wants over)) → IsPainted (scene_of (view_of link)) command wants over → WantsItsPanel app link.host wants
+    → IsAt (view_of link) k.wanted (Moment.Serves lu (Serving.Painting number command wants over)) → IsPainted (scene_of (view_of link)) command wants over → WantsItsPanel app link.host over wants
     → UnderWay link.lost rest [] → Obeyed app link rest (took link.term (ToTerminal.Paint number wants over))
 takes_paint given app is link rest k lu number command wants over at f asked left =
     let screen : Screen = link.term.display.screen in
@@ -256,7 +256,7 @@ takes_paint given app is link rest k lu number command wants over at f asked lef
           messages = given.notes.painted_takes link.host.shape over wants screen f.paintable;
           noted = record { places = record { size = refl; kinds = λ place. refl }; each = λ place. inr refl };
         };
-        shown = record { wanted = wants; wanted_for = asked; before = screen; over = over; meets = f.meets; fits = fits; is = refl };
+        shown = record { wanted = wants; over = over; wanted_for = asked; before = screen; meets = f.meets; fits = fits; is = refl };
       };
       open_end = refl;
       positive = refl;
