@@ -107,7 +107,7 @@ wanted_in_a_way app conn panel message false values = (false, refl)
 wants_its : (app : Application) (conn : Conn) (panel : ℕ) (message : Message) (keep : Bool) (values : Values) → IsDecided app conn (Act.Show panel message keep values)
     → WantsItsPanel app (shown app conn panel message keep values).conn conn.shadow (wants_of app conn panel message keep values)
 wants_its app conn panel message keep values choice =
-    record { conn = conn; asked = panel; keep = keep; is_decided = choice; panel_is = refl; over_is = refl; wanted_is = refl }
+    record { conn = conn; same_talk = refl; asked = panel; keep = keep; is_decided = choice; panel_is = refl; over_is = refl; wanted_is = refl }
 
 paintable : Given → (app : Application) → IsApplication app → (link : Link) → (panel : ℕ) (message : Message) (keep : Bool) (values : Values)
     → let wants = wants_of app link.host panel message keep values in IsPaintable wants.size link.host.shadow wants

@@ -8,6 +8,8 @@ use Rattle.shadow.specs.Meets.{Meets}
 use Rattle.shadow.specs.Painted.{plainly_painted}
 use Rattle.panels.specs.Screen.{Values}
 use Rattle.panels.specs.declared.message.Message.{Message}
+use Rattle.tn3270e_msg.specs.Talk.{Talk}
+use Rattle.tn3270e_msg.specs.declared.host_talk.HostState.{HostState}
 use Rattle.host_core.specs.Acts.{Act, Decision, decision_on, is_settled_fact, wanted_by}
 use Rattle.host_core.specs.Application.{Application}
 use Rattle.host_core.specs.Questions.{act_by, is_ask}
@@ -24,10 +26,11 @@ pub data IsDecided (app : Application) (conn : Conn) (act : Act) : Type 0 where
   by_host : decision_on app conn conn.turn_reason ≡ Decision.Do act → IsDecided app conn act
   by_application : (said : Said) → is_ask (decision_on app conn conn.turn_reason) ≡ true → act ≡ act_by app conn said said.panel → IsDecided app conn act
 
--- The screen that is wanted once it was decided to show a panel, with these values and this message, over what the host believed. `conn`:
--- the connection as it was then; with `keep`, fields keep what the operator left in them, if that fits.
-pub record IsWantedFor (app : Application) (panel : ℕ) (values : Values) (message : Message) (over : Shadow) (wanted : WantedScreen) : Type 0 where
+-- The screen that is wanted once it was decided, in a session with this talk, to show a panel with these values and this message, over what
+-- the host believed. `conn`: the connection as it was then; with `keep`, fields keep what the operator left in them, if that fits.
+pub record IsWantedFor (app : Application) (talk : Talk HostState) (panel : ℕ) (values : Values) (message : Message) (over : Shadow) (wanted : WantedScreen) : Type 0 where
   pub conn : Conn
+  pub same_talk : conn.talk ≡ talk
   pub asked : ℕ
   pub keep : Bool
   pub is_decided : IsDecided app conn (Act.Show asked message keep values)
@@ -37,10 +40,10 @@ pub record IsWantedFor (app : Application) (panel : ℕ) (values : Values) (mess
 
 -- Such a screen was painted on one that was as the host believed, and which it fits: so each field that is kept was there, with the same
 -- attribute and length.
-pub record IsPaintedFor (app : Application) (panel : ℕ) (values : Values) (message : Message) (screen : Screen) : Type 0 where
+pub record IsPaintedFor (app : Application) (talk : Talk HostState) (panel : ℕ) (values : Values) (message : Message) (screen : Screen) : Type 0 where
   pub wanted : WantedScreen
   pub over : Shadow
-  pub wanted_for : IsWantedFor app panel values message over wanted
+  pub wanted_for : IsWantedFor app talk panel values message over wanted
   pub before : Screen
   pub meets : Meets over before
   pub fits : is_paintable over wanted ≡ true
@@ -48,11 +51,11 @@ pub record IsPaintedFor (app : Application) (panel : ℕ) (values : Values) (mes
 
 -- the screen that is wanted of the connection's panel
 abbrev pub WantsItsPanel : Application → Conn → Shadow → WantedScreen → Type 0
-WantsItsPanel app host over wanted = IsWantedFor app host.panel host.values host.message over wanted
+WantsItsPanel app host over wanted = IsWantedFor app host.talk host.panel host.values host.message over wanted
 
 -- the connection's panel is shown
 abbrev pub ShowsItsPanel : Application → Conn → Screen → Type 0
-ShowsItsPanel app host screen = IsPaintedFor app host.panel host.values host.message screen
+ShowsItsPanel app host screen = IsPaintedFor app host.talk host.panel host.values host.message screen
 
 -- in the host's turn it is, unless nothing was shown yet
 abbrev pub HasShownItsPanel : Application → Conn → Screen → Type 0
