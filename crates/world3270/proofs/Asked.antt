@@ -39,8 +39,8 @@ use Rattle.world3270.specs.Given.{Given}
 use Rattle.world3270.specs.Happens.{run}
 use Rattle.world3270.specs.Link.{Link}
 use Rattle.world3270.specs.Seen.{TerminalSeen, end_seen}
-use Rattle.world3270.specs.Showing.{IsTextKnown, IsKnownIfRead, ShowsItsPanel}
-use Rattle.world3270.specs.Stages.{Kept}
+use Rattle.world3270.specs.Showing.{ShowsItsPanel}
+use Rattle.world3270.specs.Stages.{Kept, IsTextKnown, IsKnownIfRead}
 use Rattle.world3270.specs.Terminal.{bound_to}
 use Rattle.world3270.specs.TurnReasons.{IsCursorFor, IsOccasion}
 use Rattle.world3270.specs.Unreturned.{SamePlaces}
