@@ -37,8 +37,8 @@ use Rattle.world3270.specs.Given.{Given}
 use Rattle.world3270.specs.Link.{Link, sent, host_sent}
 use Rattle.world3270.specs.Moments.{Kind, UnderWay, Talking, Serving, Moment, IsAt, host_talk_at, term_state_at, turn_at, pending_at, down_at, up_at, agreed, served_down, served_up}
 use Rattle.world3270.specs.TurnReasons.{IsOccasion, IsOpenBy, IsOpenFor}
-use Rattle.world3270.specs.Showing.{WantsItsPanel, ShownAt, ShownIn}
-use Rattle.world3270.specs.Stages.{scene_of, FactsAreExact, IsNew, Decides, Fact, Kept, Sizes, may_differ_at}
+use Rattle.world3270.specs.Showing.{IsDecided, WantsItsPanel}
+use Rattle.world3270.specs.Stages.{scene_of, FactsAreExact, IsNew, Decides, Fact, Kept, Sizes, may_differ_at, ShownAt, ShownIn}
 use Rattle.world3270.specs.View.{View, view_of}
 use Rattle.world3270.proofs.Down.{none_open}
 use Rattle.world3270.proofs.Queues.{more, still}
@@ -92,22 +92,22 @@ kept_sent app link sending k to same size steady at fact shown = record {
 abbrev wants_of : Application → Conn → ℕ → Message → Bool → Values → WantedScreen
 wants_of app conn panel message keep values = wanted_by app conn (app.shown (model_in conn) panel) message keep values
 
--- it is that of the panel, whether or not what is believed lets it keep fields
-asked_if : (fit : Bool) (app : Application) (conn : Conn) (panel : ℕ) (message : Message) (values : Values)
-    → (keep : Bool) × ((if fit then app.screen panel values message true else app.screen panel values message false) ≡ app.screen panel values message keep)
-asked_if true app conn panel message values = (true, refl)
-asked_if false app conn panel message values = (false, refl)
+-- it is one that the panel asks for, whether or not what is believed lets it keep fields
+wanted_if_fits : (fit : Bool) (app : Application) (panel : ℕ) (message : Message) (values : Values)
+    → (way : Bool) × ((if fit then app.screen panel values message true else app.screen panel values message false) ≡ app.screen panel values message way)
+wanted_if_fits true app panel message values = (true, refl)
+wanted_if_fits false app panel message values = (false, refl)
 
-asked_by : (app : Application) (conn : Conn) (panel : ℕ) (message : Message) (keep : Bool) (values : Values)
+pub wanted_in_a_way : (app : Application) (conn : Conn) (panel : ℕ) (message : Message) (keep : Bool) (values : Values)
     → (way : Bool) × (wanted_by app conn panel message keep values ≡ app.screen panel values message way)
-asked_by app conn panel message true values = asked_if (fits conn.shadow (app.screen panel values message true)) app conn panel message values
-asked_by app conn panel message false values = (false, refl)
+wanted_in_a_way app conn panel message true values = wanted_if_fits (fits conn.shadow (app.screen panel values message true)) app panel message values
+wanted_in_a_way app conn panel message false values = (false, refl)
 
-asked_for : (app : Application) (conn : Conn) (panel : ℕ) (message : Message) (keep : Bool) (values : Values)
-    → WantsItsPanel app (shown app conn panel message keep values).conn (wants_of app conn panel message keep values)
-asked_for app conn panel message keep values =
-    let asked = asked_by app conn (app.shown (model_in conn) panel) message keep values in
-    record { keep = asked.0; is = asked.1 }
+-- it is the one of the connection's panel from then on
+wants_its : (app : Application) (conn : Conn) (panel : ℕ) (message : Message) (keep : Bool) (values : Values) → IsDecided app conn (Act.Show panel message keep values)
+    → WantsItsPanel app (shown app conn panel message keep values).conn conn.shadow (wants_of app conn panel message keep values)
+wants_its app conn panel message keep values choice =
+    record { conn = conn; same_talk = refl; asked = panel; keep = keep; is_decided = choice; panel_is = refl; over_is = refl; wanted_is = refl }
 
 paintable : Given → (app : Application) → IsApplication app → (link : Link) → (panel : ℕ) (message : Message) (keep : Bool) (values : Values)
     → let wants = wants_of app link.host panel message keep values in IsPaintable wants.size link.host.shadow wants
@@ -182,8 +182,8 @@ command_of app conn panel message keep values =
 module _ (given : Given) (app : Application) (is : IsApplication app) (link : Link) (k : Kept app (view_of link)) where
   -- before the terminal knows that both agreed
   paints_first : (lu : List ℕ) (panel : ℕ) (message : Message) (keep : Bool) (values : Values) → IsAt (view_of link) k.wanted (Moment.Talks (Talking.Agreeing lu)) → IsNew (scene_of (view_of link))
-      → Kept app (view_of (sent_view (shown app link.host panel message keep values) link))
-  paints_first lu panel message keep values at n =
+      → IsDecided app link.host (Act.Show panel message keep values) → Kept app (view_of (sent_view (shown app link.host panel message keep values) link))
+  paints_first lu panel message keep values at n choice =
       let sending : Sending = shown app link.host panel message keep values in
       let wants : WantedScreen = wants_of app link.host panel message keep values in
       let same : Sends link sending = record { talk = refl; shadow = refl } in
@@ -198,11 +198,11 @@ module _ (given : Given) (app : Application) (is : IsApplication app) (link : Li
         closed = none_open link.host.shadow n.shadow;
         paintable = paintable given app is link panel message keep values;
       })
-      (asked_for app link.host panel message keep values)
+      (wants_its app link.host panel message keep values choice)
 
   paints : (lu : List ℕ) (panel : ℕ) (message : Message) (keep : Bool) (values : Values) → NothingIsOpen link.host.shadow → IsAt (view_of link) k.wanted (Moment.Serves lu Serving.Deciding) → Decides (scene_of (view_of link)) link.host.shadow
-      → Kept app (view_of (sent_view (shown app link.host panel message keep values) link))
-  paints lu panel message keep values closed at f =
+      → IsDecided app link.host (Act.Show panel message keep values) → Kept app (view_of (sent_view (shown app link.host panel message keep values) link))
+  paints lu panel message keep values closed at f choice =
       let sending : Sending = shown app link.host panel message keep values in
       let wants : WantedScreen = wants_of app link.host panel message keep values in
       let same : Sends link sending = record { talk = refl; shadow = refl } in
@@ -217,7 +217,7 @@ module _ (given : Given) (app : Application) (is : IsApplication app) (link : Li
         closed = closed;
         paintable = paintable given app is link panel message keep values;
       })
-      (asked_for app link.host panel message keep values)
+      (wants_its app link.host panel message keep values choice)
 
   asks : (lu : List ℕ) → link.term.display.shape ≡ link.host.shape → (link.term.display.screen.aid ≡ ClearAid → ⊥) → IsAt (view_of link) k.wanted (Moment.Serves lu Serving.Deciding) → Decides (scene_of (view_of link)) link.host.shadow
       → ShownIn app link.host link.term.display.last_restored Serving.Deciding → Kept app (view_of (sent_view (done app link.host Act.Read) link))
@@ -236,7 +236,7 @@ module _ (given : Given) (app : Application) (is : IsApplication app) (link : Li
       asks lu steady (reads_uncleared app link.host link.host.turn_reason link.term.display.screen.aid f.turn_reason e) at f showing
   acts_at lu (Decision.Do (Act.Show panel message keep values)) steady e at f showing =
       paints lu panel message keep values
-      (decided_closed app link.host link.host.turn_reason link.host.shadow (shows_unread (decision_on app link.host link.host.turn_reason) panel message keep values e) f.closed) at f
+      (decided_closed app link.host link.host.turn_reason link.host.shadow (shows_unread (decision_on app link.host link.host.turn_reason) panel message keep values e) f.closed) at f (IsDecided.by_host e)
   acts_at lu Decision.Asks steady e at f showing = k
 
   -- at agreement the first panel is shown
@@ -244,20 +244,24 @@ module _ (given : Given) (app : Application) (is : IsApplication app) (link : Li
       → Kept app (view_of (host_sent (decided app link.host (decision_on app link.host link.host.turn_reason)) link))
   acts_new lu at n =
       subst (λ o. Kept app (view_of (host_sent (decided app link.host (decision_on app link.host o)) link))) (sym n.turn_reason)
-      (paints_first lu app.start Fresh false link.host.values at n)
+      (paints_first lu app.start Fresh false link.host.values at n (IsDecided.by_host (ap (λ (o : TurnReason). decision_on app link.host o) n.turn_reason)))
 
   -- what is answered is shown
-  answers_at : (lu : List ℕ) (said : Said) (panel : Option ℕ) → is_ask (decision_on app link.host link.host.turn_reason) ≡ true → IsAt (view_of link) k.wanted (Moment.Serves lu Serving.Deciding)
+  answers_at : (lu : List ℕ) (said : Said) (panel : Option ℕ) → said.panel ≡ panel → is_ask (decision_on app link.host link.host.turn_reason) ≡ true → IsAt (view_of link) k.wanted (Moment.Serves lu Serving.Deciding)
       → Decides (scene_of (view_of link)) link.host.shadow → Kept app (view_of (sent_view (done app link.host (act_by app link.host said panel)) link))
-  answers_at lu said panel is_asked at f = by_panel panel
+  answers_at lu said panel is_panel is_asked at f = by_panel panel is_panel
     where
       closed : NothingIsOpen link.host.shadow
       closed = decided_closed app link.host link.host.turn_reason link.host.shadow (asks_unread (decision_on app link.host link.host.turn_reason) is_asked) f.closed
 
-      by_panel : (panel : Option ℕ) → Kept app (view_of (sent_view (done app link.host (act_by app link.host said panel)) link))
-      by_panel None =
-          paints lu link.host.panel (Told said.message said.cursor) (not (has_value_of (app.fields link.host.panel) said.values)) (values_for app link.host said None) closed at f
-      by_panel (Some shown_next) = paints lu shown_next (Told said.message said.cursor) false (values_for app link.host said (Some shown_next)) closed at f
+      choice : (panel : Option ℕ) → said.panel ≡ panel → IsDecided app link.host (act_by app link.host said panel)
+      choice panel is_panel = IsDecided.by_application said is_asked (ap (λ (p : Option ℕ). act_by app link.host said p) (sym is_panel))
+
+      by_panel : (panel : Option ℕ) → said.panel ≡ panel → Kept app (view_of (sent_view (done app link.host (act_by app link.host said panel)) link))
+      by_panel None is_panel =
+          paints lu link.host.panel (Told said.message said.cursor) (not (has_value_of (app.fields link.host.panel) said.values)) (values_for app link.host said None) closed at f (choice None is_panel)
+      by_panel (Some shown_next) is_panel =
+          paints lu shown_next (Told said.message said.cursor) false (values_for app link.host said (Some shown_next)) closed at f (choice (Some shown_next) is_panel)
 
   -- The host may act at two moments alone: at agreement, and when it decides on a key.
   data MayAct : Type 0 where
@@ -326,7 +330,7 @@ module _ (given : Given) (app : Application) (is : IsApplication app) (link : Li
 
   answers_then : (said : Said) → is_ask (decision_on app link.host link.host.turn_reason) ≡ true → MayAct → Kept app (view_of (sent_view (done app link.host (act_by app link.host said said.panel)) link))
   answers_then said is_asked (MayAct.agreeing lu at n) = absurd (agreed_unasked app link.host n.turn_reason is_asked)
-  answers_then said is_asked (MayAct.deciding lu s at f showing) = answers_at lu said said.panel is_asked at f
+  answers_then said is_asked (MayAct.deciding lu s at f showing) = answers_at lu said said.panel refl is_asked at f
 
   answers_by : (said : Said) (turn : Turn) (pending : Pending) (agreed is_asked has : Bool) → link.host.turn ≡ turn → link.host.pending ≡ pending → is_agreed link.host.talk.state ≡ agreed
       → is_ask (decision_on app link.host link.host.turn_reason) ≡ is_asked

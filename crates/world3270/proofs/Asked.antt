@@ -39,14 +39,14 @@ use Rattle.world3270.specs.Given.{Given}
 use Rattle.world3270.specs.Happens.{run}
 use Rattle.world3270.specs.Link.{Link}
 use Rattle.world3270.specs.Seen.{TerminalSeen, end_seen}
-use Rattle.world3270.specs.Showing.{IsTextKnown, IsKnownIfRead, ShowsItsPanel}
-use Rattle.world3270.specs.Stages.{Kept}
+use Rattle.world3270.specs.Showing.{ShowsItsPanel}
+use Rattle.world3270.specs.Stages.{Kept, IsTextKnown, IsKnownIfRead}
 use Rattle.world3270.specs.Terminal.{bound_to}
 use Rattle.world3270.specs.TurnReasons.{IsCursorFor, IsOccasion}
 use Rattle.world3270.specs.Unreturned.{SamePlaces}
 use Rattle.world3270.specs.View.{view_of}
 use Rattle.world3270.specs.World.{World, new_world}
-use Rattle.world3270.proofs.Acting.{agreed_unasked, asks_deciding}
+use Rattle.world3270.proofs.Acting.{agreed_unasked, asks_deciding, wanted_in_a_way}
 use Rattle.world3270.proofs.Headline.{terminal_attached}
 use Rattle.world3270.proofs.OnScreen.{IsAmong, among_listed, among_painted, among_same, listed-length}
 use Rattle.world3270.proofs.Worlds.{new_good, run_good}
@@ -261,8 +261,9 @@ shown_among : (app : Application) → IsApplication app → ShowsItsFields app �
     → slice_get (app.fields host.panel) index ≡ Some field → IsAmong now.cells field.extent
 shown_among app is shows host left now index field shown same at =
     let wanted : WantedScreen = shown.wanted in
-    let keep : Bool = shown.wanted_for.keep in
-    let wanted_is : wanted ≡ app.screen host.panel host.values host.message keep = shown.wanted_for.is in
+    let way = wanted_in_a_way app shown.wanted_for.conn host.panel host.message shown.wanted_for.keep host.values in
+    let keep : Bool = way.0 in
+    let wanted_is : wanted ≡ app.screen host.panel host.values host.message keep = shown.wanted_for.wanted_is ∙ way.1 in
     let sized : length wanted.cells ≡ cells_in wanted.size =
     subst (λ (w : WantedScreen). length w.cells ≡ cells_in w.size) (sym wanted_is) (is.showable host.panel host.values host.message keep).cells in
     let on : IsFieldOn wanted field.extent =

@@ -53,12 +53,12 @@ use Rattle.world3270.specs.Always.{is_negative}
 use Rattle.world3270.specs.Given.{Given}
 use Rattle.world3270.specs.Happens.{verdict_in}
 use Rattle.world3270.specs.Headline.{SentFields}
-use Rattle.world3270.specs.Showing.{WantsItsPanel, IsKnownIfRead, ShownAt}
+use Rattle.world3270.specs.Showing.{WantsItsPanel}
 use Rattle.world3270.specs.Unreturned.{UnmodifiedIsKept}
 use Rattle.world3270.specs.Link.{Link, sent}
 use Rattle.world3270.specs.Moments.{Kind, Talking, Serving, Moment, UnderWay, IsAt, host_talk_at, term_state_at, turn_at, pending_at, down_at, up_at}
 use Rattle.world3270.specs.TurnReasons.{IsOccasion, IsCursorFor, IsOpenBy, IsOpenFor, IsCleared}
-use Rattle.world3270.specs.Stages.{scene_of, once_taken, FactsAreExact, Suits, IsPainted, Operates, Sees, IsRead, Fact, Kept, Sizes, may_differ_at}
+use Rattle.world3270.specs.Stages.{scene_of, once_taken, FactsAreExact, Suits, IsPainted, Operates, Sees, IsRead, Fact, Kept, Sizes, may_differ_at, IsKnownIfRead, ShownAt}
 use Rattle.world3270.specs.Terminal.{TermStep, with_talk, is_bound, bound_to, once_bound, paint_came, note_came, read_came, talked, took}
 use Rattle.world3270.specs.View.{view_of}
 use Rattle.world3270.proofs.Queues.{more, front, nothing}
@@ -214,7 +214,7 @@ serves link step rest wanted lu from to model at l same left = leads link step r
 -- ---- a paint
 
 takes_paint : Given → (app : Application) → IsApplication app → (link : Link) (rest : List ToTerminal) (k : Kept app (view_of link)) (lu : List ℕ) (number : ℕ) (command : CommandParts) (wants : WantedScreen) (over : Shadow)
-    → IsAt (view_of link) k.wanted (Moment.Serves lu (Serving.Painting number command wants over)) → IsPainted (scene_of (view_of link)) command wants over → WantsItsPanel app link.host wants
+    → IsAt (view_of link) k.wanted (Moment.Serves lu (Serving.Painting number command wants over)) → IsPainted (scene_of (view_of link)) command wants over → WantsItsPanel app link.host over wants
     → UnderWay link.lost rest [] → Obeyed app link rest (took link.term (ToTerminal.Paint number wants over))
 takes_paint given app is link rest k lu number command wants over at f asked left =
     let screen : Screen = link.term.display.screen in
@@ -256,7 +256,7 @@ takes_paint given app is link rest k lu number command wants over at f asked lef
           messages = given.notes.painted_takes link.host.shape over wants screen f.paintable;
           noted = record { places = record { size = refl; kinds = λ place. refl }; each = λ place. inr refl };
         };
-        shown = record { wanted = wants; wanted_for = asked; before = screen; over = over; meets = f.meets; fits = fits; is = refl };
+        shown = record { wanted = wants; over = over; wanted_for = asked; before = screen; meets = f.meets; fits = fits; is = refl };
       };
       open_end = refl;
       positive = refl;

@@ -2,7 +2,10 @@
 use Rattle.std.proofs.Common.{◌≡◌, ℕ, suc, zero, Bool, true, false, List, [], ◌∷◌, length, Option, Some, None, refl, ap, sym, ◌∙◌, if◌then◌else◌, ◌&&◌, ◌<◌, ◌+◌, lit≤, lit<, inl, inr}
 use Rattle.codes3270.specs.declared.size.Model.TheVariants.{M2, M3, M4, M5}
 use Rattle.codes3270.specs.declared.size.Model.{Model}
-use Rattle.std.specs.Prelude.{slice_get, bytes_eq, IsTrue, nat_lt}
+use Rattle.std.specs.Map.{values_of}
+use Rattle.std.proofs.lemmas.List.Elements.{All-nil, All-cons}
+use Rattle.panels.specs.Characters.{AreCharacters, is_character}
+use Rattle.std.specs.Prelude.{All, slice_get, bytes_eq, IsTrue, nat_lt}
 use Rattle.std.specs.List.{list_all}
 use Rattle.std.specs.Option.{option_map_or}
 use Rattle.std.proofs.lemmas.Bool.{and_parts, ltb-true}
@@ -94,7 +97,7 @@ is_well_noted text = nat_lt (length text) (longest_note + 1) && list_all is_grap
 -- an event that may happen
 unfoldable pub is_well_formed : Event → Bool
 is_well_formed (Event.Connect terminal wanted) = option_map_or is_lu wanted true
-is_well_formed (Event.Answer number said) = false
+is_well_formed (Event.Answer number said) = list_all (list_all is_character) (values_of said.values)
 is_well_formed (Event.Note number text) = is_well_noted text
 is_well_formed _ = true
 
@@ -105,6 +108,12 @@ is_note text well =
     let short : length text < longest_note + 1 = ltb-true (length text) (longest_note + 1) both.0 in
     record { short = omega arith; graphic = AllPass-from_list_all is_graphic text both.1 }
 
+are_texts : (texts : List (List ℕ)) → list_all (list_all is_character) texts ≡ true → All AreCharacters texts
+are_texts [] well = All-nil AreCharacters
+are_texts (text ∷ texts) well =
+    let both = and_parts (list_all is_character text) (list_all (list_all is_character) texts) well in
+    All-cons AreCharacters text texts (AllPass-from_list_all is_character text both.0) (are_texts texts both.1)
+
 is_event : (event : Event) → is_well_formed event ≡ true → IsEvent event
 unfolding is_well_formed
 is_event (Event.Connect terminal None) well = tt
@@ -113,7 +122,7 @@ is_event (Event.Press terminal key) well = tt
 is_event (Event.Up number) well = tt
 is_event (Event.Down number) well = tt
 is_event (Event.Act number) well = tt
-is_event (Event.Answer number said) well = absurd (cc)
+is_event (Event.Answer number said) well = are_texts (values_of said.values) well
 is_event (Event.Note number text) well = is_note text well
 is_event (Event.Lose number) well = tt
 is_event (Event.HostSees number) well = tt

@@ -40,9 +40,8 @@ use Rattle.host_core.specs.NoteLaws.{HasMessageRow, TakesNotes}
 use Rattle.world3270.specs.Given.{Given}
 use Rattle.world3270.specs.Link.{Link, sent, term_stepped}
 use Rattle.world3270.specs.Moments.{Serving, Moment, UnderWay, IsAt, turn_at, pending_at, served_down, served_up}
-use Rattle.world3270.specs.Showing.{ShownAt}
 use Rattle.world3270.specs.TurnReasons.{IsCleared, IsOpenBy}
-use Rattle.world3270.specs.Stages.{Scene, scene_of, once_taken, FactsAreExact, Operates, Sees, IsPressed, WillSee, Fact, Kept, Sizes}
+use Rattle.world3270.specs.Stages.{Scene, scene_of, once_taken, FactsAreExact, Operates, Sees, IsPressed, WillSee, Fact, Kept, Sizes, ShownAt}
 use Rattle.world3270.specs.Terminal.{Display, is_bound, bound_to, data_of, erases_if, outcome_of, key_came}
 use Rattle.world3270.specs.View.{View, view_of}
 use Rattle.world3270.proofs.Down.{ok_map}

@@ -20,6 +20,7 @@ pub mod RunsOfReads
 pub mod RunsOfRestarts
 pub mod RunsOfNotes
 pub mod RunsOfTargets
+pub mod RunsOfQuestions
 pub mod RunsOfLosses
 pub mod Runs
 pub mod StandsFits

@@ -7,6 +7,7 @@ use Rattle.world3270.proofs.RunsOfNotes.{notes_run}
 use Rattle.world3270.proofs.RunsOfReads.{reading_run, doubting_run}
 use Rattle.world3270.proofs.RunsOfRestarts.{restarting_run}
 use Rattle.world3270.proofs.RunsOfTargets.{leading_run}
+use Rattle.world3270.proofs.RunsOfQuestions.{asking_run}
 
 pub the_runs : TheRunsEndSo
 the_runs = record {
@@ -19,5 +20,6 @@ the_runs = record {
   restarting = restarting_run;
   notes = notes_run;
   leading = leading_run;
+  asking = asking_run;
   losing = losing_run;
 }

@@ -13,9 +13,9 @@ use Rattle.world3270.specs.Link.{Link}
 use Rattle.world3270.specs.Moments.{Serving, Moment, turn_at, pending_at}
 use Rattle.world3270.specs.Refines.{Begin, after}
 use Rattle.world3270.specs.Seen.{SeenLink, TerminalSeen}
-use Rattle.world3270.specs.Showing.{ShowsItsPanel, ShownAt}
+use Rattle.world3270.specs.Showing.{ShowsItsPanel}
 use Rattle.world3270.specs.Shown.{HasShown, PanelIsShown, PanelIsShownOverBytes, is_painting}
-use Rattle.world3270.specs.Stages.{Fact, Kept, Scene, scene_of}
+use Rattle.world3270.specs.Stages.{Fact, Kept, Scene, scene_of, ShownAt}
 use Rattle.world3270.specs.Standing.{conn_of, link_of}
 use Rattle.world3270.specs.Stands.{LinkStands}
 use Rattle.world3270.specs.View.{view_of}

@@ -8,6 +8,7 @@ use Rattle.world3270.specs.ExampleReads.{ReadingRun, DoubtingRun}
 use Rattle.world3270.specs.ExampleRestarts.{RestartingRun}
 use Rattle.world3270.specs.ExampleRuns.{StoredRun, ReconnectingRun}
 use Rattle.world3270.specs.ExampleTargets.{LeadingRun}
+use Rattle.world3270.specs.ExampleQuestions.{AskingRun}
 
 pub record TheRunsEndSo : Type 0 where
   pub application : IsApplication example
@@ -19,4 +20,5 @@ pub record TheRunsEndSo : Type 0 where
   pub restarting : RestartingRun
   pub notes : NotesRun
   pub leading : LeadingRun
+  pub asking : AskingRun
   pub losing : LosingRun

@@ -17,7 +17,7 @@ use Rattle.lu_pool.specs.declared.entry.Entry.{Entry}
 use Rattle.panels.specs.Screen.{Values, autoskip_attr, coded, field_attr, field_content, is_fresh, item_cell, kept_cell, message_text, shown}
 use Rattle.panels.specs.declared.message.Message.{Message}
 use Rattle.panels.specs.declared.next.Next.{Next}
-use Rattle.panels.specs.declared.next.Next.TheVariants.{Go, Again}
+use Rattle.panels.specs.declared.next.Next.TheVariants.{Go, Ask, Again}
 use Rattle.panels.specs.declared.panel.Content.TheVariants.{Show}
 use Rattle.panels.specs.declared.panel.Field.{Field}
 use Rattle.host_core.specs.Application.{Application}
@@ -133,10 +133,11 @@ screen_of (suc (suc panel)) values message keep = greeting values message
 
 -- ---- the application, and the pool
 
--- Enter and PF5 lead from the sign-on to the second panel, Clear from there back to the sign-on, and no other key leads anywhere
+-- Enter and PF5 lead from the sign-on to the second panel, Clear from there back to the sign-on; on PF6 the application decides; and no
+-- other key leads anywhere
 abbrev pub led_to : ℕ → Aid → Next
 led_to zero Enter = Go 1
-led_to zero (Pf number) = if number == 5 then Go 1 else Again
+led_to zero (Pf number) = if number == 5 then Go 1 else if number == 6 then Ask else Again
 led_to (suc panel) Clear = Go 0
 led_to _ _ = Again
 

@@ -22,6 +22,7 @@ pub mod ExampleReads
 pub mod ExampleRestarts
 pub mod ExampleNotes
 pub mod ExampleTargets
+pub mod ExampleQuestions
 pub mod ExampleLosses
 pub mod Example
 pub mod TrackedTerminals

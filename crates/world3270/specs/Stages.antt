@@ -1,5 +1,5 @@
 -- What is known of a connection at each of its moments, for proofs (our profile): the headline's invariant.
-use Rattle.std.specs.Prelude.{◌≡◌, ◌<◌, ⊤, ℕ, Bool, false, List, [], length, Option, Some, None, IsTrue, IsOkAnd, true}
+use Rattle.std.specs.Prelude.{◌≡◌, ◌<◌, ⊤, ℕ, Bool, false, List, [], length, Option, Some, None, IsTrue, IsOkAnd, true, All}
 use Rattle.codes3270.specs.Aid.{is_short_aid}
 use Rattle.codes3270.specs.Size.{Shape, cells_in}
 use Rattle.codes3270.specs.declared.attention.Aid.TheVariants.{NoAid, Clear}
@@ -13,7 +13,7 @@ use Rattle.datastream.specs.Wanted.{WantedScreen}
 use Rattle.datastream.specs.declared.inbound_part.Form.TheVariants.{Modified}
 use Rattle.keyboard.specs.declared.key.Lock.{Lock}
 use Rattle.keyboard.specs.declared.key.Lock.TheVariants.{Wait}
-use Rattle.shadow.specs.Belief.{Shadow}
+use Rattle.shadow.specs.Belief.{Belief, Shadow, fields_of}
 use Rattle.shadow.specs.Exactness.{KnownIsExact, ProtectedIsExact}
 use Rattle.shadow.specs.Heard.{heard}
 use Rattle.shadow.specs.Meets.{Meets, Knows, ListsFields, IsTold}
@@ -22,14 +22,16 @@ use Rattle.shadow.specs.Paint.{paint}
 use Rattle.shadow.specs.Taken.{taken}
 use Rattle.tn3270e_msg.specs.Lu.{is_lu}
 use Rattle.tn3270e_msg.specs.Talk.{IsLuIfSome}
+use Rattle.host_core.specs.Acts.{is_settled_fact}
 use Rattle.host_core.specs.Application.{Application, IsSizeOf}
+use Rattle.host_core.specs.Session.{Conn}
 use Rattle.host_core.specs.Laws.{IsPaintable}
 use Rattle.host_core.specs.NoteLaws.{HasMessageRow, TakesNotes, IsNoteOf}
 use Rattle.host_core.specs.declared.turn_reason.TurnReason.{TurnReason}
 use Rattle.host_core.specs.declared.turn_reason.TurnReason.TheVariants as turn_reasons
 use Rattle.world3270.specs.Headline.{SentFields}
 use Rattle.world3270.specs.Moments.{Talking, Serving, Moment, IsAt}
-use Rattle.world3270.specs.Showing.{ShownAt}
+use Rattle.world3270.specs.Showing.{WantsItsPanel, ShowsItsPanel}
 use Rattle.world3270.specs.TurnReasons.{IsOccasion, IsCursorFor, IsOpenBy, IsOpenFor, IsCleared}
 use Rattle.world3270.specs.Unreturned.{NotedSince, UnmodifiedIsKept}
 use Rattle.world3270.specs.View.{View}
@@ -185,6 +187,47 @@ abbrev pub Fact : Option (List ℕ) → Scene → Moment → Type 0
 Fact wanted s (Moment.Talks talking) = IsNew s × TalkFact wanted talking
 Fact wanted s (Moment.Begins lu number command paints over) = IsPainted s command paints over
 Fact wanted s (Moment.Serves lu serving) = ServingFact s serving
+
+-- ---- what is shown at each moment
+
+-- in the host's turn the connection's panel is shown, unless nothing was shown yet
+abbrev pub HasShownItsPanel : Application → Conn → Screen → Type 0
+HasShownItsPanel app host screen = (host.turn_reason ≡ turn_reasons.Agreement → ⊥) → ShowsItsPanel app host screen
+
+-- the screen wasn't read since the key was pressed
+abbrev pub IsUnread : TurnReason → Type 0
+IsUnread turn_reasons.Agreement = ⊤
+IsUnread (turn_reasons.Key aid true) = ⊥
+IsUnread (turn_reasons.Key aid false) = ⊤
+IsUnread turn_reasons.Refusal = ⊤
+
+-- the text of a field is known, or is known but for nulls
+abbrev pub IsTextKnown : Belief → Type 0
+IsTextKnown belief = is_settled_fact belief.fact ≡ true
+
+-- once the screen was read, that of each field is
+abbrev pub IsKnownIfRead : TurnReason → Shadow → Type 0
+IsKnownIfRead turn_reasons.Agreement shadow = ⊤
+IsKnownIfRead (turn_reasons.Key aid true) shadow = All IsTextKnown (fields_of shadow)
+IsKnownIfRead (turn_reasons.Key aid false) shadow = ⊤
+IsKnownIfRead turn_reasons.Refusal shadow = ⊤
+
+-- `left`: the screen that the host's last restoring write left
+abbrev pub ShownIn : Application → Conn → Screen → Serving → Type 0
+ShownIn app host left Serving.Deciding = HasShownItsPanel app host left × IsKnownIfRead host.turn_reason host.shadow
+ShownIn app host left (Serving.Reading number) = HasShownItsPanel app host left
+ShownIn app host left (Serving.Reported number parts) = HasShownItsPanel app host left
+ShownIn app host left (Serving.NotedLate number command) = ShowsItsPanel app host left × IsUnread host.turn_reason
+ShownIn app host left (Serving.AnsweredLate number command) = ShowsItsPanel app host left × IsUnread host.turn_reason
+ShownIn app host left (Serving.Painting number command wanted over) = WantsItsPanel app host over wanted
+ShownIn app host left _ = ShowsItsPanel app host left
+
+abbrev pub ShownAt : Application → Conn → Screen → Moment → Type 0
+ShownAt app host left (Moment.Talks talking) = ⊤
+ShownAt app host left (Moment.Begins lu number command wanted over) = WantsItsPanel app host over wanted
+ShownAt app host left (Moment.Serves lu serving) = ShownIn app host left serving
+
+-- ---- sizes
 
 -- a paint is under way: until the terminal takes it its screen may have another size than the host's
 abbrev pub may_differ_in : Serving → Bool

@@ -112,9 +112,9 @@ pub fn what_is_asked_is_seen()
 
 /// Law: what is answered is shown. Over the same lists of messages, on each connection with both ends
 /// attached, if a panel was shown there and its paint is answered: the screen that the host's last
-/// restoring write left is one that the connection's panel asks for, with the connection's values and
-/// message, painted on a screen that it fitted. And so it is of each world over bytes that represents
-/// one over messages.
+/// restoring write left is the one that the host decided on, or the application by its answer: of the
+/// connection's panel, with the connection's values and message, painted on a screen that was as the
+/// host believed then. And so it is of each world over bytes that represents one over messages.
 pub fn what_is_answered_is_shown()
     ensures messages { AlwaysOf PanelIsShown }
     ensures bytes { PanelIsShownOverBytes }
@@ -207,9 +207,10 @@ pub fn a_lost_connection_takes_nothing()
 /// Law: an example, runs of a small host that are computed to their ends. A required field is left
 /// out, asked for and filled in; a connection is lost, and the LU refused until the host sees that;
 /// the screen is read after PA1, and if a field is in doubt; Clear, a terminal that restarts, and a
-/// host that restarts; notes, two of which cross a key; a PF key and Clear that lead on; what a
-/// loss leaves under way. The second panel has more rows than the first, so the size of the screen
-/// changes on the way there and back. When the host decides it knows what was typed.
+/// host that restarts; notes, two of which cross a key; a PF key and Clear that lead on; an
+/// application that is asked, and answers twice; what a loss leaves under way. The second panel has
+/// more rows than the first, so the size of the screen changes on the way there and back. When the
+/// host decides it knows what was typed.
 pub fn the_runs_end_so()
     ensures { TheRunsEndSo }
 {}

@@ -1,0 +1,37 @@
+-- The run of the example in which the application is asked, computed.
+use Rattle.std.proofs.Common.{◌≡◌, List, [], ◌∷◌, ◌++◌, Some, refl}
+use Rattle.keyboard.specs.Places.{onward, backward}
+use Rattle.keyboard.specs.declared.key.Key.TheVariants as key
+use Rattle.tn3270e_msg.specs.Device.{device_of}
+use Rattle.world3270.specs.ExampleApplication.{small, tall}
+use Rattle.world3270.specs.ExampleEnds.{settle, presses, after, end_on, bound_and_shows}
+use Rattle.world3270.specs.ExampleQuestions.{asked_entry, again, answered_again, renamed, answered_on, asked_in, question, kept_sign_on, AskingRun}
+use Rattle.world3270.specs.ExampleScreens.{greeting_seen}
+use Rattle.world3270.specs.World.{Event}
+use Rattle.world3270.proofs.ExampleGiven.{is_well_formed, is_well_noted, are_events}
+use Rattle.world3270.proofs.SignedOn.{request_taken, agreement_taken, acted_on, agree, start, asks, signed, once_signed}
+
+abbrev enters : List Event
+enters = presses (key.Char 0x41 ∷ key.Pf 6 ∷ []) ++ settle 0
+
+abbrev keeps : List Event
+keeps = enters ++ (Event.Answer 0 again ∷ settle 0)
+
+abbrev renames : List Event
+renames = keeps ++ (presses (key.Pf 6 ∷ []) ++ (settle 0 ++ (Event.Answer 0 renamed ∷ settle 0)))
+
+asks_it : asked_in 7 (after asked_entry) ≡ Some question
+unfolding start asks signed acted_on agree request_taken agreement_taken device_of onward backward
+asks_it = once_signed (asked_in 7) enters (Some question) refl
+
+keeps_it : end_on 0 (after answered_again) ≡ bound_and_shows small kept_sign_on
+unfolding start asks signed acted_on agree request_taken agreement_taken device_of onward backward
+keeps_it = once_signed (end_on 0) keeps (bound_and_shows small kept_sign_on) refl
+
+shows_it : end_on 0 (after answered_on) ≡ bound_and_shows tall (greeting_seen (0xC2 ∷ 0 ∷ 0 ∷ []))
+unfolding start asks signed acted_on agree request_taken agreement_taken device_of onward backward
+shows_it = once_signed (end_on 0) renames (bound_and_shows tall (greeting_seen (0xC2 ∷ 0 ∷ 0 ∷ []))) refl
+
+pub asking_run : AskingRun
+unfolding is_well_formed is_well_noted
+asking_run = record { are_events = are_events answered_on refl; asked = asks_it; kept = keeps_it; answered = shows_it }

@@ -1,0 +1,62 @@
+-- A run of the example in which the application is asked, and answers: readers and proofs need it, and nothing rests on it (our profile).
+use Rattle.std.specs.Prelude.{◌≡◌, codes, true, false, List, [], ◌∷◌, ◌++◌, ℕ, Option, Some, None, replicate}
+use Rattle.codes3270.specs.declared.attention.Aid.TheVariants.{Pf}
+use Rattle.datastream.specs.Screen.{Screen}
+use Rattle.keyboard.specs.declared.key.Key.TheVariants as key
+use Rattle.panels.specs.MessageText.{message_of}
+use Rattle.host_core.specs.declared.question.Answer.{Answer}
+use Rattle.host_core.specs.declared.question.Question.{Question}
+use Rattle.world3270.specs.Asked.{asked_by}
+use Rattle.world3270.specs.ExampleApplication.{example, l1, name_field, letter_field, small, tall}
+use Rattle.world3270.specs.ExampleEnds.{settle, presses, connected, after, end_on, bound_and_shows}
+use Rattle.world3270.specs.ExampleScreens.{sign_on_seen, typed_into, greeting_seen}
+use Rattle.world3270.specs.World.{World, Event, AreEvents}
+
+-- `A` in the first field, then PF6, on which the application decides
+abbrev pub asked_entry : List Event
+asked_entry = connected ++ presses (key.Char 0x41 ∷ key.Pf 6 ∷ []) ++ settle 0
+
+-- the same panel again, with a message
+abbrev pub again : Answer
+again = record { panel = None; values = []; message = record { characters = message_of (codes "OK") }; cursor = None }
+
+abbrev pub answered_again : List Event
+answered_again = asked_entry ++ Event.Answer 0 again ∷ settle 0
+
+-- the second panel, with another name
+abbrev pub renamed : Answer
+renamed = record { panel = Some 1; values = (name_field.number, 0xC2 ∷ []) ∷ []; message = record { characters = message_of [] }; cursor = None }
+
+abbrev pub answered_on : List Event
+answered_on = answered_again ++ presses (key.Pf 6 ∷ []) ++ settle 0 ++ Event.Answer 0 renamed ∷ settle 0
+
+-- what is asked on connection 0, in a session with this number
+abbrev pub asked_in : ℕ → World → Option Question
+asked_in session world = asked_by example session (world.link 0)
+
+-- the question: both fields have the texts that the screen shows, and the cursor is behind the letter. The second field wasn't returned, so
+-- the host has read the screen.
+abbrev pub question : Question
+question = record {
+  ticket = record { session = 7; turn = 2 };
+  lu = l1;
+  panel = 0;
+  aid = Pf 6;
+  cursor = 7;
+  values = (name_field.number, 0xC1 ∷ []) ∷ (letter_field.number, 0xE8 ∷ []) ∷ [];
+}
+
+-- `OK`
+abbrev pub ok_seen : List ℕ
+ok_seen = 0xD6 ∷ 0xD2 ∷ replicate 13 0
+
+-- the fields keep what they had, and the message is told
+abbrev pub kept_sign_on : Screen
+kept_sign_on = sign_on_seen (typed_into true (0xC1 ∷ 0 ∷ 0 ∷ [])) (typed_into false (0xE8 ∷ [])) ok_seen
+
+-- The application is asked what the screen shows; the same panel keeps that; and another panel shows what was answered.
+pub record AskingRun : Type 0 where
+  pub are_events : AreEvents answered_on
+  pub asked : asked_in 7 (after asked_entry) ≡ Some question
+  pub kept : end_on 0 (after answered_again) ≡ bound_and_shows small kept_sign_on
+  pub answered : end_on 0 (after answered_on) ≡ bound_and_shows tall (greeting_seen (0xC2 ∷ 0 ∷ 0 ∷ []))
