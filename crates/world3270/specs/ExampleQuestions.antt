@@ -50,7 +50,7 @@ question = record {
 abbrev pub ok_seen : List ℕ
 ok_seen = 0xD6 ∷ 0xD2 ∷ replicate 13 0
 
--- the fields keep what they had, and the message is told
+-- the fields keep what they had, and the message is shown
 abbrev pub kept_sign_on : Screen
 kept_sign_on = sign_on_seen (typed_into true (0xC1 ∷ 0 ∷ 0 ∷ [])) (typed_into false (0xE8 ∷ [])) ok_seen
 
