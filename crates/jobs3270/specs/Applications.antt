@@ -138,9 +138,9 @@ is_reply_late began now most = nat_le most (now - began)
 
 -- ---- what the operator sees of a failure
 
-abbrev pub message_text : FailureMessage → List ℕ
-message_text failure.NotAvailable = codes "APPLICATION NOT AVAILABLE"
-message_text failure.Error = codes "APPLICATION ERROR"
+abbrev pub failure_text : FailureMessage → List ℕ
+failure_text failure.NotAvailable = codes "APPLICATION NOT AVAILABLE"
+failure_text failure.Error = codes "APPLICATION ERROR"
 
 -- A reply that breaks off means that the application isn't there; every other fault is in the reply.
 abbrev pub message_for_reply : ReplyFault → FailureMessage

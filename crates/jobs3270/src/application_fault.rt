@@ -1,6 +1,6 @@
 //! Why a question to an application has no answer: what the operator sees, and what the log says.
 ghost use Rattle.std.specs.Prelude.{◌≡◌};
-ghost use Rattle.jobs3270.specs.Applications.{message_for, message_for_answer, message_for_reply, message_text};
+ghost use Rattle.jobs3270.specs.Applications.{message_for, message_for_answer, message_for_reply, failure_text};
 
 use crate::application_reply::AnswerFault;
 use crate::notice::{Client, put_client};
@@ -48,7 +48,7 @@ pub enum FailureMessage {
 impl FailureMessage {
     /// Its text.
     pub fn text(self) -> &'static str
-        ensures { result.now ≡ message_text self }
+        ensures { result.now ≡ failure_text self }
     {
         match self {
             FailureMessage::NotAvailable => "APPLICATION NOT AVAILABLE",
