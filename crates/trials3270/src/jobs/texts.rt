@@ -1,8 +1,8 @@
 //! The commands of lines and of words, as texts: what a script would spell, with all defaults filled in.
 use codes3270::Model;
 use jobs3270::{
-    FileName, Job, LiveOptions, Port, ScriptCommand, Service, TerminalCommand, Topic, TtySize,
-    WordFault, typed_text,
+    ApplicationChoice, FileName, Job, LiveOptions, Port, ScriptCommand, Service, TerminalCommand,
+    Topic, TtySize, WordFault, typed_text,
 };
 use std::fmt;
 use std::fmt::{Display, Formatter, Write};
@@ -140,6 +140,18 @@ fn write_service<W: Write>(f: &mut Formatter<W>, service: &Service) -> fmt::Resu
     }
 }
 
+/// The application's URL and the time for a reply, if there is an application.
+fn write_application<W: Write>(
+    f: &mut Formatter<W>,
+    application: &ApplicationChoice<'_>,
+) -> fmt::Result {
+    let seconds = application.reply_time.get();
+    match &application.url {
+        Some(url) => write!(f, ", application [{}] in {seconds} seconds", url.as_str()),
+        None => Ok(()),
+    }
+}
+
 /// The host's port, the LU that the terminal asks for, if one, and its model.
 fn write_term<W: Write>(
     f: &mut Formatter<W>,
@@ -178,8 +190,15 @@ impl Display for CommandLine<'_> {
                 f.write_str("check")?;
                 write_file(f, file)
             }
-            Ok(Job::Serve { service, panels }) => {
+            Ok(
+                Job::Serve {
+                    service,
+                    panels,
+                    application,
+                },
+            ) => {
                 write_service(f, service)?;
+                write_application(f, application)?;
                 write_file(f, panels)
             }
             Ok(Job::Term { port, lu, model }) => write_term(f, *port, lu, *model),
