@@ -1,5 +1,5 @@
 -- The question that is open on a connection, and how a script prints it (our profile).
-use Rattle.std.specs.Prelude.{ℕ, ◌+◌, ◌/◌, ◌%◌, nat_lt, List, [], ◌∷◌, ◌++◌, Option, Some, None, if◌then◌else◌, codes, slice_get, unwrap_or}
+use Rattle.std.specs.Prelude.{ℕ, ◌+◌, ◌/◌, ◌%◌, nat_lt, List, [], ◌++◌, Option, Some, None, if◌then◌else◌, codes, slice_get, unwrap_or}
 use Rattle.std.specs.Char.{encode_utf8}
 use Rattle.std.specs.Fmt.{decimal}
 use Rattle.std.specs.List.{flat_map}
@@ -14,7 +14,6 @@ use Rattle.panels.specs.Panel.{PanelParts, Panels, shape_of}
 use Rattle.panels.specs.Screen.{Values}
 use Rattle.panels.specs.Values.{value_of}
 use Rattle.panels.specs.declared.panel.Field.{Field}
-use Rattle.term_core.specs.ScreenText.{newline}
 use Rattle.tn3270e_msg.specs.Words.{lu_text}
 use Rattle.jobs3270.specs.Applications.{key_name, shown_character}
 

@@ -313,9 +313,10 @@ fn selfrun<N: Net, I: Source, O: Sink>(
 }
 
 /// Plays a script like [`run_script`](crate::run_script), but with loopback sockets between the host and the terminals. The script may
-/// have the commands `connect`, `type`, `key`, `lose`, `answer`, `question`, `settle`, `show` and `status`. `lose` closes the terminal's socket, which the
-/// host sees in a later turn. `settle` takes turns, each with one turn of the host and one read and one write of each terminal, until
-/// one in which no byte is read or written and the host doesn't act. Writes a fault that ends the run to `faults` as one line.
+/// have the commands `connect`, `type`, `key`, `lose`, `answer`, `question`, `settle`, `show` and `status`. `lose` closes the
+/// terminal's socket, which the host sees in a later turn. `settle` takes turns, each with one turn of the host and one read and one
+/// write of each terminal, until one in which no byte is read or written and the host doesn't act. Writes a fault that ends the run to
+/// `faults` as one line.
 ///
 /// Returns the exit status: 0 if the whole page was printed; 1, 3 and 6 as `run_script` does; 4 if the system refuses a socket; 5 if
 /// the turns are used up, after the output up to there.

@@ -1,7 +1,7 @@
-use Rattle.std.proofs.Common.{◌≡◌, ◌∙◌, sym, ap, Bool, None, Some}
+use Rattle.std.proofs.Common.{◌∙◌, sym, ap, Bool, Some}
 use Rattle.host_core.specs.declared.question.Answer.{Answer}
 use Rattle.jobs3270.specs.AnswerDrafts.{said_in}
-use Rattle.jobs3270.specs.AnswerLines.{Said, nothing_said, taken_as, with_words, words_after}
+use Rattle.jobs3270.specs.AnswerLines.{Said, taken_as, with_words, words_after}
 use Rattle.jobs3270.proofs.AnswerWords.{has_no_panel, is_not_said, is_said}
 use Rattle.jobs3270.proofs.answer_line.answer_in.Goals as goal
 

@@ -1,4 +1,4 @@
-use Rattle.std.proofs.Common.{rules, ◌≡◌, ◌∙◌, sym, ap, arith, ℕ, Bool, List, None, Some}
+use Rattle.std.proofs.Common.{rules, ◌∙◌, sym, ap, arith, ℕ, Bool, List, None, Some}
 use Rattle.std.proofs.lemmas.Str.Pattern.{strip_prefix_char}
 use Rattle.jobs3270.specs.AnswerDrafts.{said_in}
 use Rattle.jobs3270.specs.AnswerLines.{taken_as, with_words, words_after}
