@@ -53,7 +53,7 @@ text_in None value = Some value
 text_in (Some ([], quoted)) value = text_between (cut_at quote quoted)
 text_in (Some (char ∷ others, quoted)) value = None
 
--- the text that a value stands for: it is between two quotes, or has none
+-- the text of a value: it is between two quotes, or has none
 abbrev pub value_text : List ℕ → Option (List ℕ)
 value_text value = text_in (cut_at quote value) value
 

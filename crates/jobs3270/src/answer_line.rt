@@ -50,7 +50,7 @@ fn cut_at(mark: char, text: &str) -> Option<(&str, &str)>
     text.split_once(mark)
 }
 
-/// The text that a value stands for: it is between two quotes, or has none.
+/// The text of a value: it is between two quotes, or has none.
 fn value_text(value: &str) -> Option<&str>
     ensures { option_map (λ text. text.now) result ≡ value_text value.now }
 {
