@@ -26,3 +26,4 @@ pub mod ScrapeLemmas
 pub mod LiveLemmas
 pub mod LiveReads
 mod Replies
+pub mod AnswerWords

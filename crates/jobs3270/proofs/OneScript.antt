@@ -115,16 +115,19 @@ module _ (steps_are_one : StepsAreOne) where
 
   -- ---- lines
 
-  one_command : (command : ScriptCommand) (line : List ℕ) (happenings rival : List Happening) (old new other : ByteWorld) → AreHappeningsOf command line happenings → AreHappeningsOf command line rival
+  one_command : (command : ScriptCommand) (line : List ℕ) (happenings rival : List Happening) (old new other : ByteWorld) → AreHappeningsOf command line old happenings → AreHappeningsOf command line old rival
       → TakePlace happenings old new → TakePlace rival old other → Alike happenings rival new other
   one_command command.Nothing line happenings rival old new other is also takes other_takes = one_nothing happenings rival old new other is also takes other_takes
   one_command (command.Happen event) line happenings rival old new other is also takes other_takes =
       one_run happenings rival old new other (is ∙ sym also) takes other_takes
   one_command (command.TypeText terminal) line happenings rival old new other is also takes other_takes =
       one_typing terminal (chars (typed_text line)) happenings rival old new other is also takes other_takes
+  one_command (command.Answer conn) line happenings rival old new other is also takes other_takes =
+      one_run happenings rival old new other (is ∙ sym also) takes other_takes
   one_command command.Settle line happenings rival old new other is also takes other_takes = one_idling most_rounds happenings rival old new other is also takes other_takes
   one_command (command.Show terminal) line happenings rival old new other is also takes other_takes = one_nothing happenings rival old new other is also takes other_takes
   one_command (command.Status terminal) line happenings rival old new other is also takes other_takes = one_nothing happenings rival old new other is also takes other_takes
+  one_command (command.Question conn) line happenings rival old new other is also takes other_takes = one_nothing happenings rival old new other is also takes other_takes
 
   one_line : (command : ScriptCommand) (line : List ℕ) (old new other : ByteWorld) (happenings rival : List Happening) (said told : List ℕ)
       → PlaysLine command line old happenings said new → PlaysLine command line old rival told other → (said ≡ told) × (new ≡ other)
@@ -150,7 +153,7 @@ module _ (steps_are_one : StepsAreOne) where
       → Plays number lines old happenings printed m new → Plays number lines old rival text n other → (printed ≡ text) × (m ≡ n)
   one_playing [] number old new other happenings rival printed text m n is also = (is.1 ∙ sym also.1, is.2 ∙ sym also.2)
   one_playing (line ∷ lines) number old new other happenings rival printed text m n is also =
-      one_next (playable_command (length old.slots) line) number line lines old new other happenings rival printed text m n
+      one_next (playable_command old.host.panels (length old.slots) line) number line lines old new other happenings rival printed text m n
       (λ mid back rest behind after here there. one_playing lines (number + 1) mid new other back rest behind after m n here there) is also
 
 -- ---- the world that a script begins with

@@ -2,6 +2,9 @@ pub mod ScreenText
 pub mod HexLines
 pub mod Pages
 pub mod ScriptLines
+pub mod AnswerLines
+pub mod AnswerDrafts
+pub mod QuestionLines
 pub mod TermLines
 pub mod Operating
 pub mod Waits

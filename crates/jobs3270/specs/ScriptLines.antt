@@ -13,7 +13,7 @@ use Rattle.world3270.specs.NoteTexts.{note_text}
 use Rattle.world3270.specs.declared.event.Event.TheVariants.{Key, Up, Down, Act, Note, Lose, HostSees, TermSees, Connect, RestartTerm, RestartHost}
 use Rattle.jobs3270.specs.HexLines.{words_of}
 use Rattle.jobs3270.specs.declared.script_line.ScriptCommand.{ScriptCommand}
-use Rattle.jobs3270.specs.declared.script_line.ScriptCommand.TheVariants.{Nothing, Happen, TypeText, Settle, Show, Status}
+use Rattle.jobs3270.specs.declared.script_line.ScriptCommand.TheVariants.{Nothing, Happen, TypeText, Answer, Settle, Show, Status, Question}
 
 -- ---- parts of a line
 
@@ -75,6 +75,7 @@ command_of_number verb number =
     if bytes_eq verb (codes "restartterm") then Some (Happen (RestartTerm number)) else
     if bytes_eq verb (codes "show") then Some (Show number) else
     if bytes_eq verb (codes "status") then Some (Status number) else
+    if bytes_eq verb (codes "question") then Some (Question number) else
     None
 
 -- a verb, a number, and the text after the second blank
@@ -86,6 +87,7 @@ command_of_text verb number text =
     if bytes_eq verb (codes "up") then option_map (λ count. Happen (Up number count)) (number_of text) else
     if bytes_eq verb (codes "down") then option_map (λ count. Happen (Down number count)) (number_of text) else
     if bytes_eq verb (codes "note") then option_map (λ note. Happen (Note number note)) (note_of text) else
+    if bytes_eq verb (codes "answer") then Some (Answer number) else
     None
 
 -- ---- lines

@@ -6,6 +6,7 @@ ghost use Rattle.std.specs.Prelude.{◌≡◌, [], IfErr, IfOk, OnOk, chars, fal
 ghost use Rattle.application_http.specs.Replies.{field_text};
 ghost use Rattle.panels.specs.Characters.{codes_of};
 ghost use Rattle.jobs3270.specs.Applications.{IsAnswerFor, IsGoodText, IsMessageFault, IsNumberOf, IsTextFault, IsUnknown, field_number, key_name, lacks_code, most_characters, panel_number, shown_character, value_by, with_text, with_texts};
+ghost use Rattle.jobs3270.specs.QuestionLines.{column_of, row_of, unicode_of};
 ghost use Rattle.jobs3270.specs.declared.application_reply.AnswerFault.TheVariants as flaw;
 
 use application_http::{FieldText, Reply};
@@ -38,6 +39,7 @@ pub enum AnswerFault {
 }
 
 impl From<AllocError> for AnswerFault {
+    ghost use Rattle.jobs3270.specs.QuestionLines.{column_of, row_of, unicode_of};
     ghost use Rattle.jobs3270.specs.declared.application_reply.AnswerFault.TheVariants.{Memory};
 
     ghost from_gives = { λ _ fault. fault ≡ Memory };
@@ -57,7 +59,9 @@ fn shown_character(byte: u8) -> char
 }
 
 /// A text in the host's code, in Unicode.
-pub(crate) fn unicode_of(alloc: Global, bytes: &[u8]) -> Result<String, AllocError> {
+pub(crate) fn unicode_of(alloc: Global, bytes: &[u8]) -> Result<String, AllocError>
+    ensures { IfOk result (λ text. string_bytes text ≡ unicode_of bytes.now) }
+{
     let mut text = String::new(alloc);
     for byte in bytes {
         text.push(shown_character(*byte))?;
@@ -85,7 +89,10 @@ pub(crate) fn key_name(alloc: Global, aid: Aid) -> Result<String, AllocError>
 }
 
 /// The row and the column of an address on a screen of a size, each from 1 on.
-pub(crate) fn place_of(address: Addr, size: Size) -> (u16, u16) {
+pub(crate) fn place_of(address: Addr, size: Size) -> (u16, u16)
+    ensures row { result.0 ≡ row_of address size }
+    ensures column { result.1 ≡ column_of address size }
+{
     let (place, columns) = (address.get(), size.cols());
     (place / columns + 1, place % columns + 1)
 }
@@ -115,7 +122,7 @@ pub(crate) fn field_texts(
 // ---- what becomes of its reply
 
 /// Whether some character of a text has no code in the host's code.
-fn lacks_code(text: &str) -> bool
+pub(crate) fn lacks_code(text: &str) -> bool
     ensures { result ≡ lacks_code text.now }
 {
     text.chars()
@@ -143,7 +150,7 @@ fn cut(codes: &[u8]) -> &[u8]
 }
 
 /// Sets the value of a field to a text, whose characters have codes.
-fn set_text(
+pub(crate) fn set_text(
     alloc: Global,
     field: usize,
     text: &str,
@@ -179,11 +186,7 @@ fn set_value(
 }
 
 /// The values of fields.
-fn values_of(
-    alloc: Global,
-    panels: &PanelSet,
-    fields: &[FieldText],
-) -> Result<Values, AnswerFault>
+fn values_of(alloc: Global, panels: &PanelSet, fields: &[FieldText]) -> Result<Values, AnswerFault>
     ensures set { IfOk result (λ values. values ≡ with_texts panels.now fields.now []) }
 {
     let mut values = Values::new(alloc);

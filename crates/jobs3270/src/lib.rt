@@ -19,6 +19,7 @@
 //! proved of the bytes on a socket.
 #![tactic(auto)]
 
+mod answer_line;
 mod application;
 mod application_fault;
 mod application_reply;
@@ -47,6 +48,7 @@ mod notice;
 mod operator;
 mod page;
 mod player;
+mod question_line;
 mod raw;
 mod refusal;
 mod scrape;

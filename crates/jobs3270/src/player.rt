@@ -1,14 +1,17 @@
 //! Plays the lines of a script in a world, and adds what they print to a text.
-ghost use Rattle.std.specs.Prelude.{◌≡◌, ◌<◌, ◌++◌, ℕ, List, None, Some, IfOk, OnOk, chars, length, string_bytes};
+ghost use Rattle.std.specs.Prelude.{◌≡◌, ◌<◌, ◌++◌, ℕ, List, None, Some, IfOk, OnOk, chars, length, string_bytes, true};
 ghost use Rattle.term_core.specs.ScreenText.{screen_text};
 ghost use Rattle.term_core.specs.State.{phase_of};
 ghost use Rattle.world3270.specs.ByteRuns.{refused_at};
 ghost use Rattle.world3270.specs.ByteSteps.{Steps};
 ghost use Rattle.jobs3270.specs.Happenings.{AreTyped, Happening, TakePlace, answer_text, answers_text, is_refused};
 ghost use Rattle.jobs3270.specs.Operating.{phase_line};
-ghost use Rattle.jobs3270.specs.Plays.{IsPlayed, PrintsLine, is_in_range, playable_command, terminal_count, terminal_of};
+ghost use Rattle.jobs3270.specs.Plays.{GivesAnswer, IsPlayed, PrintsIf, command_in_range, is_in_range, terminal_count, terminal_of};
+ghost use Rattle.jobs3270.specs.QuestionLines.{question_on, question_text};
 
+use crate::answer_line::answer_in;
 use crate::idle::{run_until_idle, step_whole};
+use crate::question_line::{put_question, question_on, ticket_on};
 use crate::script_line::{ScriptCommand, typed_text};
 use codes3270::Model;
 use keyboard::Key;
@@ -87,6 +90,33 @@ fn status(world: &World, terminal: usize, text: &mut String) -> Result<(), Alloc
     write!(text, "{phase}\n")
 }
 
+/// Answers the question that is open on a connection by what a text says, and adds the line of the event's answer. False if the text
+/// isn't understood: then nothing happens.
+fn give_answer(
+    alloc: Global,
+    world: &mut World,
+    conn: usize,
+    said: &str,
+    text: &mut String,
+) -> Result<bool, AllocError>
+    ensures { IfOk result (λ given. GivesAnswer given conn said.now world.old world.new (string_bytes text.old) (string_bytes text.new)) }
+{
+    let Some(answer) = answer_in(alloc, world.host().panels(), said)? else {
+        return Ok(false);
+    };
+    let ticket = ticket_on(world.host(), conn)?;
+    happen(world, Event::Answer(conn, ticket, answer), text)?;
+    Ok(true)
+}
+
+/// Adds the lines of the question that is open on a connection.
+fn ask(alloc: Global, world: &World, conn: usize, text: &mut String) -> Result<(), AllocError>
+    ensures { OnOk result (string_bytes text.new ≡ string_bytes text.old ++ question_text world.now.host.panels (question_on conn world.now.host)) }
+{
+    let question = question_on(world.host(), conn)?;
+    put_question(alloc, text, world.host().panels(), &question)
+}
+
 /// Whether the world has the terminal of a `show` or `status`.
 fn is_in_range(command: &ScriptCommand) -> bool
     ensures { result ≡ is_in_range terminal_count command.now }
@@ -95,16 +125,18 @@ fn is_in_range(command: &ScriptCommand) -> bool
         ScriptCommand::Nothing
         | ScriptCommand::Happen(_)
         | ScriptCommand::TypeText(_)
-        | ScriptCommand::Settle => true,
+        | ScriptCommand::Answer(_)
+        | ScriptCommand::Settle
+        | ScriptCommand::Question(_) => true,
         ScriptCommand::Show(terminal) | ScriptCommand::Status(terminal) => {
             *terminal < MODELS.len()
         }
     }
 }
 
-/// The command of a line; None if the line isn't understood.
-pub(crate) fn playable_command(line: &str) -> Option<ScriptCommand>
-    ensures { result ≡ playable_command terminal_count line.now }
+/// The command of a line; None if the line isn't understood. What an `answer` says isn't read yet.
+pub(crate) fn command_in_range(line: &str) -> Option<ScriptCommand>
+    ensures { result ≡ command_in_range terminal_count line.now }
 {
     let command = ScriptCommand::read(line)?;
     if is_in_range(&command) {
@@ -114,29 +146,33 @@ pub(crate) fn playable_command(line: &str) -> Option<ScriptCommand>
     }
 }
 
-/// Does a command, and adds its output.
+/// Does a command, and adds its output. False if its line isn't understood: then nothing happens.
 fn play_line(
     alloc: Global,
     world: &mut World,
     command: ScriptCommand,
     line: &str,
     text: &mut String,
-) -> Result<(), AllocError>
+) -> Result<bool, AllocError>
     requires terminals { length world.old.slots ≡ terminal_count }
-    requires in_range { playable_command terminal_count line.now ≡ Some command }
-    ensures { OnOk result (PrintsLine command line.now world.old world.new (string_bytes text.old) (string_bytes text.new)) }
+    requires in_range { is_in_range terminal_count command ≡ true }
+    ensures { IfOk result (λ understood. PrintsIf understood command line.now world.old world.new (string_bytes text.old) (string_bytes text.new)) }
 {
     match command {
-        ScriptCommand::Nothing => Ok(()),
+        ScriptCommand::Nothing => {}
         ScriptCommand::Happen(event) => {
             happen(world, event, text)?;
-            Ok(())
         }
-        ScriptCommand::TypeText(terminal) => type_text(world, terminal, typed_text(line), text),
-        ScriptCommand::Settle => run_until_idle(world),
-        ScriptCommand::Show(terminal) => show(alloc, world, terminal, text),
-        ScriptCommand::Status(terminal) => status(world, terminal, text),
+        ScriptCommand::TypeText(terminal) => type_text(world, terminal, typed_text(line), text)?,
+        ScriptCommand::Answer(conn) => {
+            return give_answer(alloc, world, conn, typed_text(line), text);
+        }
+        ScriptCommand::Settle => run_until_idle(world)?,
+        ScriptCommand::Show(terminal) => show(alloc, world, terminal, text)?,
+        ScriptCommand::Status(terminal) => status(world, terminal, text)?,
+        ScriptCommand::Question(conn) => ask(alloc, world, conn, text)?,
     }
+    Ok(true)
 }
 
 /// Plays a script, one command a line, and adds its output. Ends at the first line that isn't understood, and answers its
@@ -154,10 +190,12 @@ pub(crate) fn play(
         × (string_bytes text.new ≡ string_bytes text.old ++ printed)) }
 {
     for (index, line) in script.split_terminator('\n').enumerate() {
-        let Some(command) = playable_command(line) else {
+        let Some(command) = command_in_range(line) else {
             return Ok(Some(index + 1));
         };
-        play_line(alloc, world, command, line, text)?;
+        if !play_line(alloc, world, command, line, text)? {
+            return Ok(Some(index + 1));
+        }
     }
     Ok(None)
 }

@@ -16,12 +16,16 @@ pub enum ScriptCommand {
     Happen(Event),
     /// The operator of the terminal with this number types the line's text.
     TypeText(usize),
+    /// The question that is open on the connection with this number is answered by what the line's text says.
+    Answer(usize),
     /// The world runs until no event can happen.
     Settle,
     /// The screen of the terminal with this number is printed.
     Show(usize),
     /// The phase of the terminal with this number is printed.
     Status(usize),
+    /// The question that is open on the connection with this number is printed.
+    Question(usize),
 }
 
 /// The most characters of a note.
@@ -110,6 +114,7 @@ fn command_of_number(verb: &str, number: usize) -> Option<ScriptCommand>
         "restartterm" => Some(ScriptCommand::Happen(Event::RestartTerm(number))),
         "show" => Some(ScriptCommand::Show(number)),
         "status" => Some(ScriptCommand::Status(number)),
+        "question" => Some(ScriptCommand::Question(number)),
         _ => None,
     }
 }
@@ -121,6 +126,7 @@ fn command_of_text(verb: &str, number: usize, text: &str) -> Option<ScriptComman
     let event = match verb {
         "connect" => Event::Connect(number, Some(Lu::read(text.as_bytes())?)),
         "type" => return Some(ScriptCommand::TypeText(number)),
+        "answer" => return Some(ScriptCommand::Answer(number)),
         "key" => Event::Key(number, Key::named(text)?),
         "up" => Event::Up(number, number_of(text)?),
         "down" => Event::Down(number, number_of(text)?),

@@ -2,10 +2,12 @@
 ghost use Rattle.std.specs.Prelude.{◌≡◌};
 ghost use Rattle.jobs3270.specs.Selfruns.{is_socket_command};
 
+use crate::answer_line::answer_in;
 use crate::fault::Fault;
 use crate::input::read_whole;
 use crate::job::Turns;
-use crate::player::{MODELS, playable_command, put_answer};
+use crate::player::{MODELS, command_in_range, put_answer};
+use crate::question_line::{put_question, question_on, ticket_on};
 use crate::script::parted;
 use crate::script_line::{ScriptCommand, typed_text};
 use crate::server::{Server, Unwatched, patience};
@@ -14,7 +16,7 @@ use crate::socket_terminal::SocketTerminal;
 use crate::streams::{Sink, Source};
 use crate::task::end_by;
 use crate::term;
-use host_core::MOST_CONNECTIONS;
+use host_core::{Acted, Answer, MOST_CONNECTIONS};
 use keyboard::Key;
 use mio::net::TcpStream;
 use std::alloc::{AllocError, Global};
@@ -30,6 +32,7 @@ fn is_socket_command(command: &ScriptCommand) -> bool
     match command {
         ScriptCommand::Nothing | ScriptCommand::TypeText(_) | ScriptCommand::Settle => true,
         ScriptCommand::Show(_) | ScriptCommand::Status(_) => true,
+        ScriptCommand::Answer(_) | ScriptCommand::Question(_) => true,
         ScriptCommand::Happen(event) => match event {
             Event::Connect(_, _) | Event::Key(_, _) | Event::Lose(_) => true,
             Event::Up(_, _) | Event::Down(_, _) | Event::Act(_) | Event::Note(_, _) => false,
@@ -41,7 +44,7 @@ fn is_socket_command(command: &ScriptCommand) -> bool
 
 /// The command of a line; None if the line isn't understood, or isn't for a script over sockets.
 fn socket_command(line: &str) -> Option<ScriptCommand> {
-    let command = playable_command(line)?;
+    let command = command_in_range(line)?;
     if is_socket_command(&command) {
         Some(command)
     } else {
@@ -191,7 +194,43 @@ impl LoopbackRun {
         Ok(())
     }
 
-    /// Does a command, and adds its output.
+    /// Hands the host an answer to the question that is open on a connection.
+    fn answer(&mut self, conn: usize, answer: &Answer) -> Result<Stepped, Fault> {
+        if conn >= MOST_CONNECTIONS {
+            return Ok(Stepped::Skipped);
+        }
+        let ticket = ticket_on(self.server.host(), conn)?;
+        match self.server.answer(conn, ticket, answer, &mut Unwatched)? {
+            Acted::Sent => Ok(Stepped::Done),
+            Acted::Nothing => Ok(Stepped::Skipped),
+            Acted::Memory => Err(Fault::NoMemory),
+        }
+    }
+
+    /// Answers the question that is open on a connection by what a text says. False if the text isn't understood.
+    fn give_answer(
+        &mut self,
+        alloc: Global,
+        conn: usize,
+        said: &str,
+        text: &mut String,
+    ) -> Result<bool, Fault> {
+        let Some(answer) = answer_in(alloc, self.server.panels(), said)? else {
+            return Ok(false);
+        };
+        let stepped = self.answer(conn, &answer)?;
+        put_answer(text, stepped)?;
+        Ok(true)
+    }
+
+    /// Adds the lines of the question that is open on a connection.
+    fn ask(&self, alloc: Global, conn: usize, text: &mut String) -> Result<(), Fault> {
+        let question = question_on(self.server.host(), conn)?;
+        put_question(alloc, text, self.server.panels(), &question)?;
+        Ok(())
+    }
+
+    /// Does a command, and adds its output. False if its line isn't understood.
     fn play_line(
         &mut self,
         net: &impl Net,
@@ -199,19 +238,25 @@ impl LoopbackRun {
         command: ScriptCommand,
         line: &str,
         text: &mut String,
-    ) -> Result<(), Fault> {
+    ) -> Result<bool, Fault> {
         match command {
-            ScriptCommand::Nothing => Ok(()),
+            ScriptCommand::Nothing => {}
             ScriptCommand::Happen(event) => {
                 let answer = self.happen(net, &event)?;
                 put_answer(text, answer)?;
-                Ok(())
             }
-            ScriptCommand::TypeText(terminal) => self.type_text(terminal, typed_text(line), text),
-            ScriptCommand::Settle => self.run_until_idle(),
-            ScriptCommand::Show(terminal) => self.show(alloc, terminal, text),
-            ScriptCommand::Status(terminal) => self.status(terminal, text),
+            ScriptCommand::TypeText(terminal) => {
+                self.type_text(terminal, typed_text(line), text)?;
+            }
+            ScriptCommand::Answer(conn) => {
+                return self.give_answer(alloc, conn, typed_text(line), text);
+            }
+            ScriptCommand::Settle => self.run_until_idle()?,
+            ScriptCommand::Show(terminal) => self.show(alloc, terminal, text)?,
+            ScriptCommand::Status(terminal) => self.status(terminal, text)?,
+            ScriptCommand::Question(conn) => self.ask(alloc, conn, text)?,
         }
+        Ok(true)
     }
 
     /// Does the commands of a script, one a line, and adds their output.
@@ -226,7 +271,9 @@ impl LoopbackRun {
             let Some(command) = socket_command(line) else {
                 return Err(Fault::NotUnderstood(index + 1));
             };
-            self.play_line(net, alloc, command, line, text)?;
+            if !self.play_line(net, alloc, command, line, text)? {
+                return Err(Fault::NotUnderstood(index + 1));
+            }
         }
         Ok(())
     }
@@ -266,7 +313,7 @@ fn selfrun<N: Net, I: Source, O: Sink>(
 }
 
 /// Plays a script like [`run_script`](crate::run_script), but with loopback sockets between the host and the terminals. The script may
-/// have the commands `connect`, `type`, `key`, `lose`, `settle`, `show` and `status`. `lose` closes the terminal's socket, which the
+/// have the commands `connect`, `type`, `key`, `lose`, `answer`, `question`, `settle`, `show` and `status`. `lose` closes the terminal's socket, which the
 /// host sees in a later turn. `settle` takes turns, each with one turn of the host and one read and one write of each terminal, until
 /// one in which no byte is read or written and the host doesn't act. Writes a fault that ends the run to `faults` as one line.
 ///

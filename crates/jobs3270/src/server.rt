@@ -236,6 +236,11 @@ impl Server {
         self.now
     }
 
+    /// The host.
+    pub(crate) fn host(&self) -> &Host {
+        &self.host
+    }
+
     /// What the host serves.
     pub(crate) fn panels(&self) -> &PanelSet {
         self.host.panels()

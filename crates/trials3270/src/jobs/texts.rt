@@ -68,9 +68,13 @@ impl Display for ScriptLine<'_> {
             Some(ScriptCommand::TypeText(terminal)) => {
                 write!(f, "type {terminal} [{}]", typed_text(self.line))
             }
+            Some(ScriptCommand::Answer(conn)) => {
+                write!(f, "answer {conn} [{}]", typed_text(self.line))
+            }
             Some(ScriptCommand::Settle) => f.write_str("settle"),
             Some(ScriptCommand::Show(terminal)) => write!(f, "show {terminal}"),
             Some(ScriptCommand::Status(terminal)) => write!(f, "status {terminal}"),
+            Some(ScriptCommand::Question(conn)) => write!(f, "question {conn}"),
         }
     }
 }

@@ -2,7 +2,7 @@ use Rattle.std.proofs.Common.{rules, ◌≡◌, ◌∙◌, ◌+◌, ap, sym, ℕ
 use Rattle.std.specs.Iterator.Adapters.{enumerate_source, enumerate_count}
 use Rattle.jobs3270.specs.HexLines.{lines_of}
 use Rattle.jobs3270.proofs.Pieces.{lines_left, lines_left_some, lines_left_none}
-use Rattle.jobs3270.proofs.Playing.{all_played, is_no_command, nothing_played, played_more}
+use Rattle.jobs3270.proofs.Playing.{all_played, is_no_command, is_not_understood, nothing_played, played_more}
 use Rattle.jobs3270.proofs.player.play.Goals as goal
 
 pub loop-index-init : goal.loop-index-init
@@ -25,7 +25,19 @@ returns-in_default c =
     let next = enumerate_source c.next.new.self in
     let is = lines_left_some it next before.pattern c.in-Some.line step.0 in
     rw step.1 (is_no_command c.args.script.now (enumerate_count c.loop-index.index-iterator + 1) (lines_left it) c.args.world.now c.loop-index.world
-    (string_bytes c.args.text.now) (string_bytes c.loop-index.text) before.so_far c.in-Some.line.now (lines_left next) is (sym c.playable_command.ensures ∙ c.in_default.is))
+    (string_bytes c.args.text.now) (string_bytes c.loop-index.text) before.so_far c.in-Some.line.now (lines_left next) is (sym c.command_in_range.ensures ∙ c.in_default.is))
+
+pub returns-then-not-branch : goal.returns-then-not-branch
+returns-then-not-branch c =
+    let before = c.loop-index.invariant in
+    let step = c.in-Some.ensures.steps in
+    let it = enumerate_source c.loop-index.index-iterator in
+    let next = enumerate_source c.next.new.self in
+    let is = lines_left_some it next before.pattern c.in-Some.line step.0 in
+    rw step.1 (is_not_understood c.args.script.now (enumerate_count c.loop-index.index-iterator + 1) (lines_left it) c.args.world.now c.loop-index.world
+    (string_bytes c.args.text.now) (string_bytes c.loop-index.text) before.so_far c.in-Some.line.now (lines_left next) is c.in_ok-play_line.field-0
+    c.in-Some-command_in_range.command c.play_line.new.world (string_bytes c.play_line.new.text)
+    (sym c.command_in_range.ensures ∙ c.in-Some-command_in_range.is) c.in_ok-play_line.ensures c.if-not-branch.true)
 
 pub loop-index-preserved : goal.loop-index-preserved
 loop-index-preserved c =
@@ -39,9 +51,9 @@ loop-index-preserved c =
       is_finite = tt;
       pattern = step.0.1 ∙ before.pattern;
       so_far = played_more c.args.script.now (enumerate_count c.loop-index.index-iterator + 1) (lines_left it) c.args.world.now c.loop-index.world
-          (string_bytes c.args.text.now) (string_bytes c.loop-index.text) before.so_far c.in-Some.line.now (lines_left next) is c.in-Some-playable_command.command
-          c.play_line.new.world (string_bytes c.play_line.new.text) (enumerate_count c.next.new.self + 1) (sym c.playable_command.ensures ∙ c.in-Some-playable_command.is)
-          c.in_ok-play_line.ensures (ap (λ (n : ℕ). n + 1) step.2);
+          (string_bytes c.args.text.now) (string_bytes c.loop-index.text) before.so_far c.in-Some.line.now (lines_left next) is c.in_ok-play_line.field-0 c.in-Some-command_in_range.command
+          c.play_line.new.world (string_bytes c.play_line.new.text) (enumerate_count c.next.new.self + 1) (sym c.command_in_range.ensures ∙ c.in-Some-command_in_range.is)
+          c.in_ok-play_line.ensures c.if-not-branch.false (ap (λ (n : ℕ). n + 1) step.2);
     }
 
 pub returns : goal.returns
