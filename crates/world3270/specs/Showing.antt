@@ -1,4 +1,4 @@
--- The screen that is shown, once a host or an application decided to show a panel (our profile).
+-- The screen that shows a panel which a host, or an application by its answer, decided to show (our profile).
 use Rattle.std.specs.Prelude.{◌≡◌, ℕ, Bool, true}
 use Rattle.datastream.specs.Screen.{Screen}
 use Rattle.datastream.specs.Wanted.{WantedScreen}
@@ -18,13 +18,13 @@ use Rattle.host_core.specs.declared.question.Answer.{Answer as Said}
 
 -- ---- a panel on a screen
 
--- The host decided on what it does; or the application did, by its answer to an open question.
+-- A host decides on this act; or an application does, by some answer to the question that is open.
 pub data IsDecided (app : Application) (conn : Conn) (act : Act) : Type 0 where
   by_host : decision_on app conn conn.turn_reason ≡ Decision.Do act → IsDecided app conn act
   by_application : (said : Said) → is_ask (decision_on app conn conn.turn_reason) ≡ true → act ≡ act_by app conn said said.panel → IsDecided app conn act
 
--- The screen that is wanted once it was decided, in a session with this talk, to show a panel with these values and this message, over what
--- the host believed. `conn`: the connection as it was then; with `keep`, fields keep what the operator left in them, if that fits.
+-- A wanted screen of a panel with these values and this message, over a belief: on some connection with this talk and that belief it is
+-- decided to show it. With `keep`, fields keep what the operator left in them, if that fits.
 pub record IsWantedFor (app : Application) (talk : Talk HostState) (panel : ℕ) (values : Values) (message : Message) (over : Shadow) (wanted : WantedScreen) : Type 0 where
   pub conn : Conn
   pub same_talk : conn.talk ≡ talk
@@ -35,8 +35,8 @@ pub record IsWantedFor (app : Application) (talk : Talk HostState) (panel : ℕ)
   pub over_is : over ≡ conn.shadow
   pub wanted_is : wanted ≡ wanted_by app conn panel message keep values
 
--- Such a screen was painted on one that was as the host believed, and which it fits: so each field that is kept was there, with the same
--- attribute and length.
+-- Such a screen, painted on one that the belief allows, and which it fits: so each field that is kept was there, with the same attribute and
+-- length.
 pub record IsPaintedFor (app : Application) (talk : Talk HostState) (panel : ℕ) (values : Values) (message : Message) (screen : Screen) : Type 0 where
   pub wanted : WantedScreen
   pub over : Shadow
