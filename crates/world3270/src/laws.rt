@@ -113,8 +113,7 @@ pub fn what_is_asked_is_seen()
 /// Law: what is answered is shown. Over the same lists of messages, on each connection with both ends
 /// attached, if a panel was shown there and its paint is answered: the screen that the host's last
 /// restoring write left is a wanted screen of the connection's panel, with the connection's values and
-/// message, painted on a screen that a belief allows. A host decides on this wanted screen, or an
-/// application by an answer, on some connection with the same talk and that belief. And so it is of
+/// message, painted on a screen that a belief allows; `Showing` says what is wanted. And so it is of
 /// each world over bytes that represents one over messages.
 pub fn what_is_answered_is_shown()
     ensures messages { AlwaysOf PanelIsShown }

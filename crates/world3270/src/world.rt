@@ -132,7 +132,8 @@ impl World {
 
     /// Law: what is answered is shown, whatever happened to this world. If a panel was shown on a
     /// connection and its paint is answered, the screen that the host left on the terminal is a wanted
-    /// screen of the connection's panel, with the connection's values and message.
+    /// screen of the connection's panel, with the connection's values and message; `Showing` says what
+    /// is wanted.
     pub fn what_is_answered_is_shown(&self)
         ensures { WhatIsAnsweredIsShown self.now }
     {
