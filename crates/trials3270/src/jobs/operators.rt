@@ -15,14 +15,6 @@ struct Pipe<'a> {
     sent: Vec<u8>,
 }
 
-/// Copies a piece to the front of a buffer, as far as there is room, and answers how much.
-fn lend(piece: &[u8], buffer: &mut [u8]) -> usize {
-    let count = piece.len().min(buffer.len());
-    let (front, _) = piece.split_at(count);
-    buffer[..count].copy_from_slice(front);
-    count
-}
-
 impl Read for Pipe<'_> {
     fn read(&mut self, buffer: &mut [u8]) -> io::Result<usize> {
         let [piece, others @ ..] = self.pieces else {
@@ -32,7 +24,10 @@ impl Read for Pipe<'_> {
         if piece.is_empty() {
             return Err(io::Error::from(ErrorKind::WouldBlock));
         }
-        Ok(lend(piece, buffer))
+        let count = piece.len().min(buffer.len());
+        let (front, _) = piece.split_at(count);
+        buffer[..count].copy_from_slice(front);
+        Ok(count)
     }
 }
 
@@ -59,7 +54,10 @@ impl Read for Keys<'_> {
             return Ok(0);
         };
         self.pieces = others;
-        Ok(lend(piece, buffer))
+        let count = piece.len().min(buffer.len());
+        let (front, _) = piece.split_at(count);
+        buffer[..count].copy_from_slice(front);
+        Ok(count)
     }
 }
 
