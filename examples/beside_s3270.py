@@ -1,8 +1,8 @@
 #!/usr/bin/env python3
 """Prints how fast `panel3270 term` and s3270 take screens from a host, and the processor time of each, in one run.
 
-usage: beside_s3270.py [--records N] [--rounds N] PROGRAM. Linux; s3270 is in Debian's package s3270. The script is the host, on 127.0.0.1, of
-one client at a time. It agrees with the client on TN3270E with RESPONSES, and sends N Erase/Writes of all 1,920 cells, two screens by turns,
+usage: beside_s3270.py [--records N] [--rounds N] [--instructions] PROGRAM. Linux; s3270 is in Debian's package s3270. The script is the host,
+on 127.0.0.1, of one client at a time. It agrees with the client on TN3270E with RESPONSES, and sends N Erase/Writes of all 1,920 cells, two screens by turns,
 in large writes. All but the last have NO-RESPONSE, and leave the keyboard locked, so that a `wait` of term goes on; a `wait` ends after 1,000
 reads, so term is given many. The last one has ALWAYS-RESPONSE, and restores the keyboard. Then the client prints its screen, which must be
 that of the last record.
@@ -12,12 +12,17 @@ run with few records: for receiving, Telnet, the headers of records, and the dat
 the client's start, the negotiation and the printed screen, which are in both runs; keys, inbound data and responses; TLS and a display,
 which neither client has here. The system divides processor time into user and system by samples, so that these two need runs of a second or
 more; their sum is exact. The host shares the machine with the client. Figures and ratios are medians of the rounds.
+
+With --instructions (Debian's package valgrind) each client also runs twice in callgrind, which counts its instructions, those of libraries among
+them, and not the system's.
 """
 import argparse, collections, os, re, socket, statistics, subprocess, sys, time
 
 CELLS, COLUMNS, SCREENS = 1920, 80, (24, 96, 960)  # screens by their numbers of fields
 CONNECTS, PATIENCE = 10, 60  # seconds: until a client connects, and for anything else
 FEW, BLOCK = 100, 256  # records of the run whose time is subtracted; records in a write
+COUNTED = 500  # records of the longer run whose instructions are counted
+CALLGRIND = ["valgrind", "--tool=callgrind", "--callgrind-out-file=/dev/null"]
 DO, WILL = bytes.fromhex("FF FD 28"), bytes.fromhex("FF FB 28")
 SEND_TYPE, TYPE_IS = bytes.fromhex("FF FA 28 08 02 FF F0"), bytes.fromhex("FF FA 28 02 04")
 FUNCTIONS_REQUEST, FUNCTIONS_IS = (bytes.fromhex(f"FF FA 28 03 {it} 02 FF F0") for it in ("07", "04"))  # of RESPONSES alone
@@ -84,13 +89,17 @@ class Host:
         return time.monotonic() - begun
 
 
-def run(client, program, fields, records):
-    """Starts a client, sends it records, and returns its user and system time and how many seconds the records took."""
+Run = collections.namedtuple("Run", "user system seconds instructions")
+
+
+def run(client, program, fields, records, counter=()):
+    """Starts a client, in a program that counts if one is given, and sends it records. Returns its user and system time, how many seconds the
+    records took, and its instructions, if they were counted."""
     with socket.create_server(("127.0.0.1", 0)) as listener:
         listener.settimeout(CONNECTS)
         port = listener.getsockname()[1]
         words = ["term", "--port", str(port)] if client == TERM else ["-model", "3278-2", f"127.0.0.1:{port}"]
-        process = subprocess.Popen([program, *words], stdin=subprocess.PIPE, stdout=subprocess.PIPE)
+        process = subprocess.Popen([*counter, program, *words], stdin=subprocess.PIPE, stdout=subprocess.PIPE, stderr=subprocess.PIPE)
         try:
             if client == TERM:  # enough for 60 reads a record
                 process.stdin.write(b"wait\n" * (10 + records // 16) + b"show\n")
@@ -101,7 +110,7 @@ def run(client, program, fields, records):
             if client == S3270:
                 process.stdin.write(b"Ascii()\nQuit()\n")
                 process.stdin.close()
-            printed = process.stdout.read().decode()
+            printed, complaints = process.stdout.read().decode(), process.stderr.read().decode()
             _, status, used = os.wait4(process.pid, 0)
             process.returncode = os.waitstatus_to_exitcode(status)
         finally:
@@ -110,15 +119,22 @@ def run(client, program, fields, records):
         host.socket.close()
     rows = (printed.split("\n") if client == TERM else re.findall("data: (.*)", printed))[: CELLS // COLUMNS]
     if process.returncode or "".join(it.ljust(COLUMNS) for it in rows) != "".join(fields_of(fields, 1)):
-        sys.exit(f"{client} ends with status {process.returncode}, and doesn't show the last screen sent:\n{printed}")
-    return used.ru_utime, used.ru_stime, took
+        sys.exit(f"{client} ends with status {process.returncode}, and doesn't show the last screen sent:\n{printed}{complaints}")
+    counted = re.search(r"Collected : (\d+)", complaints)
+    return Run(used.ru_utime, used.ru_stime, took, int(counted[1]) if counted else None)
 
 
 def measure(client, program, fields, records):
     """Records a second, and microseconds of processor time a record: user, system, and both."""
     few, many = (run(client, program, fields, it) for it in (FEW, records))
     user, system = ((many[it] - few[it]) * 1e6 / (records - FEW) for it in range(2))
-    return records / many[2], user, system, user + system
+    return records / many.seconds, user, system, user + system
+
+
+def count(client, program, fields):
+    """Instructions a record."""
+    few, many = (run(client, program, fields, it, CALLGRIND).instructions for it in (FEW, COUNTED))
+    return (many - few) // (COUNTED - FEW)
 
 
 def ratio(ours, theirs):
@@ -132,12 +148,13 @@ def main():
     words.add_argument("program", help="the path of panel3270")
     words.add_argument("--records", type=int, default=50000, help=f"how many records a client is sent, more than {FEW} [default: 50000]")
     words.add_argument("--rounds", type=int, default=7, help="how often each client is measured [default: 7]")
+    words.add_argument("--instructions", action="store_true", help="also count the instructions of a record, by valgrind")
     given = words.parse_args()
     if given.records <= FEW or given.rounds < 1:
         words.error(f"it takes more than {FEW} records, and a round")
     programs, rounds = {TERM: given.program, S3270: "s3270"}, collections.defaultdict(list)
     try:
-        for said in ([given.program, "--version"], ["s3270", "-v"]):
+        for said in ([given.program, "--version"], ["s3270", "-v"], *[["valgrind", "--version"]] * given.instructions):
             said = subprocess.run(said, stdin=subprocess.DEVNULL, stdout=subprocess.PIPE, stderr=subprocess.STDOUT, check=False)
             print(said.stdout.decode().partition("\n")[0], flush=True)
         for number in range(given.rounds):
@@ -146,12 +163,14 @@ def main():
                     rounds[fields, client].append(measure(client, programs[client], fields, given.records))
     except OSError as fault:
         sys.exit(f"a client can't be measured: {fault}")
-    rows, ratios = [["fields", "bytes", "client", "records a second", "user", "system", "both"]], []
+    titles, ratios = ["fields", "bytes", "client", "records a second", "user", "system", "both"], []
+    rows = [titles + ["instructions"] if given.instructions else titles]
     for fields in SCREENS:
         ours, theirs = columns = [list(zip(*rounds[fields, it])) for it in CLIENTS]
         for client, (rate, *times) in zip(CLIENTS, columns):
             times = [f"{statistics.median(it):.1f}" for it in times]
-            rows.append([str(fields), str(len(data_stream(fields, 0, LOCKED))), client, f"{statistics.median(rate):.0f}", *times])
+            row = [str(fields), str(len(data_stream(fields, 0, LOCKED))), client, f"{statistics.median(rate):.0f}", *times]
+            rows.append([*row, str(count(client, programs[client], fields))] if given.instructions else row)
         ratios.append(f"{fields} fields, term to s3270: user and system {ratio(ours[3], theirs[3])}, user alone {ratio(ours[1], theirs[1])}")
     widths = [max(map(len, column)) for column in zip(*rows)]
     for row in rows:

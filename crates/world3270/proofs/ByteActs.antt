@@ -19,7 +19,7 @@ use Rattle.telnet_wire.specs.Items.{sent_bytes}
 use Rattle.host_core.specs.Acts.{Act, Decision, Sent, acted, decided, decision_on, done as done_act, may_act}
 use Rattle.host_core.specs.Answering.{number_in}
 use Rattle.host_core.specs.Application.{Application, application_of}
-use Rattle.host_core.specs.Does.{acted_by, noted_by, with_conn, sent_on, DoesAnswer}
+use Rattle.host_core.specs.Does.{Does as HostDoes, acted_by, noted_by, with_conn, sent_on, DoesAnswer}
 use Rattle.host_core.specs.KeepAlive.{is_bound, may_keep_alive, no_operation, with_nop}
 use Rattle.host_core.specs.Laws.{PaintsWhatFits}
 use Rattle.host_core.specs.Messages.{ToTerminal}
@@ -32,7 +32,7 @@ use Rattle.host_core.specs.declared.acted.Acted.{Acted}
 use Rattle.host_core.specs.declared.acted.Acted.TheVariants as acted_as
 use Rattle.panels.specs.Panel.{Panels}
 use Rattle.world3270.specs.Known.{Known}
-use Rattle.world3270.specs.ByteSteps.{ActsHost, answer_acted, is_link, AnswersHost}
+use Rattle.world3270.specs.ByteSteps.{OnConnection, answer_acted, is_link}
 use Rattle.world3270.specs.ByteWorld.{ByteWorld, Transits, is_there, transits_at, with_host, host_there, host_out, out_of}
 use Rattle.world3270.specs.Given.{Given}
 use Rattle.world3270.specs.Happens.{done}
@@ -396,7 +396,7 @@ module _ (known : Known) (skips : SkipsAreThose) (given : Given) (stands_for : P
       let parts = and_parts (is_link number) (is_some (acted_by (application_of old.host.panels) (service_at number old.host))) place in
       by_does (acted_by (application_of old.host.panels) (service_at number old.host)) refl parts.1 happens
     where
-      by_does : (does : Option Sent) → acted_by (application_of old.host.panels) (service_at number old.host) ≡ does → is_some does ≡ true → ActsHost does number old answer new
+      by_does : (does : Option Sent) → acted_by (application_of old.host.panels) (service_at number old.host) ≡ does → is_some does ≡ true → OnConnection (HostDoes does) number old answer new
           → GoesOn begin events (event.Act number) old answer new
       by_does None e some acts = absurd (cc)
       by_does (Some sending) e some acts =
@@ -438,7 +438,7 @@ module _ (known : Known) (skips : SkipsAreThose) (given : Given) (stands_for : P
       by_does (answered_by (application_of old.host.panels) session ticket said (service_at number old.host)) refl parts.0 parts.1 happens
     where
       by_does : (does : Option Sent) → answered_by (application_of old.host.panels) (session_at number old.host) ticket said (service_at number old.host) ≡ does → is_link number ≡ true → is_some does ≡ true
-          → AnswersHost does number old answer new → GoesOn begin events (event.Answer number ticket said) old answer new
+          → OnConnection (DoesAnswer does) number old answer new → GoesOn begin events (event.Answer number ticket said) old answer new
       by_does None e linked some acts = absurd (cc)
       by_does (Some sending) e linked some acts =
           let app : Application = application_of begin.panels in
@@ -465,7 +465,7 @@ module _ (known : Known) (skips : SkipsAreThose) (given : Given) (stands_for : P
       let parts = and_parts (is_link number) (is_some (noted_by text (service_at number old.host))) place in
       by_does (noted_by text (service_at number old.host)) refl parts.1 happens
     where
-      by_does : (does : Option Sent) → noted_by text (service_at number old.host) ≡ does → is_some does ≡ true → ActsHost does number old answer new
+      by_does : (does : Option Sent) → noted_by text (service_at number old.host) ≡ does → is_some does ≡ true → OnConnection (HostDoes does) number old answer new
           → GoesOn begin events (event.Note number text) old answer new
       by_does None e some acts = absurd (cc)
       by_does (Some sending) e some acts =

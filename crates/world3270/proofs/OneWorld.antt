@@ -24,7 +24,7 @@ use Rattle.term_core.specs.State.{Link, Terminal, Detached, Closed}
 use Rattle.host_core.specs.Questions.{answered_by}
 use Rattle.world3270.proofs.Answered.{as_answer}
 use Rattle.world3270.specs.ByteRuns.{AllHappen, Runs, StopsAt, refused_at}
-use Rattle.world3270.specs.ByteSteps.{ActsHost, ComesDown, ComesUp, Connects, ConnectsIf, GoesDown, Happens, HappensIf, Is, Presses, TrackedFeeds, answer_acted, answer_fed, down_came, free_number, has_place, host_gone_if, terminal_gone_if, up_came, AnswersHost}
+use Rattle.world3270.specs.ByteSteps.{OnConnection, ComesDown, ComesUp, Connects, ConnectsIf, GoesDown, Happens, HappensIf, Is, Presses, TrackedFeeds, answer_acted, answer_fed, down_came, free_number, has_place, host_gone_if, terminal_gone_if, up_came}
 use Rattle.world3270.specs.ByteWorld.{ByteWorld, down_of, slot_at, terminal_at, up_of, with_host, with_slot}
 use Rattle.world3270.specs.OneOutcome.{EventsAreOne, RunsAreOne, StepsAreOne}
 use Rattle.world3270.specs.TrackedTerminals.{History, TrackedTerminal, TrackedTakes, TrackedTakesByte, marked}
@@ -290,23 +290,27 @@ one_doing : (does : Option Sent) (old one other : Connection) (act reply : Acted
     → HostDoes does old reply other → refused_at (answer_acted reply) ≡ None → (act ≡ reply) × (one ≡ other)
 one_doing does old one other act reply is none also other_none = one_answering does old one other act reply (as_answer does old act one is) none (as_answer does old reply other also) other_none
 
-one_act : (does : Option Sent) (number : ℕ) (old new other : ByteWorld) (answer reply : Stepped) → ActsHost does number old answer new → refused_at answer ≡ None
-    → ActsHost does number old reply other → refused_at reply ≡ None → Alike answer reply new other
-one_act does number old new other answer reply is none also other_none =
+one_call : (becomes : Connection → Acted → Connection → Type 0) (number : ℕ) (old new other : ByteWorld) (answer reply : Stepped)
+    → ((one two : Connection) (act again : Acted) → becomes (connection_at number old.host) act one → refused_at (answer_acted act) ≡ None
+        → becomes (connection_at number old.host) again two → refused_at (answer_acted again) ≡ None → (act ≡ again) × (one ≡ two))
+    → OnConnection becomes number old answer new → refused_at answer ≡ None → OnConnection becomes number old reply other → refused_at reply ≡ None
+    → Alike answer reply new other
+one_call becomes number old new other answer reply alike is none also other_none =
     let same =
-    one_doing does (connection_at number old.host) (connection_at number is.host) (connection_at number also.host) is.act also.act is.acts (sym (ap refused_at is.answers) ∙ none)
+    alike (connection_at number is.host) (connection_at number also.host) is.act also.act is.acts (sym (ap refused_at is.answers) ∙ none)
     also.acts (sym (ap refused_at also.answers) ∙ other_none) in
     let host : is.host ≡ also.host = is.others ∙ ap (λ (connection : Connection). with_connection number connection old.host) same.1 ∙ sym also.others in
     (is.answers ∙ ap answer_acted same.0 ∙ sym also.answers, is.leaves ∙ ap (λ (h : Host). with_host h old) host ∙ sym also.leaves)
 
-one_answer : (does : Option Sent) (number : ℕ) (old new other : ByteWorld) (answer reply : Stepped) → AnswersHost does number old answer new → refused_at answer ≡ None
-    → AnswersHost does number old reply other → refused_at reply ≡ None → Alike answer reply new other
-one_answer does number old new other answer reply is none also other_none =
-    let same =
-    one_answering does (connection_at number old.host) (connection_at number is.host) (connection_at number also.host) is.act also.act is.acts (sym (ap refused_at is.answers) ∙ none)
-    also.acts (sym (ap refused_at also.answers) ∙ other_none) in
-    let host : is.host ≡ also.host = is.others ∙ ap (λ (connection : Connection). with_connection number connection old.host) same.1 ∙ sym also.others in
-    (is.answers ∙ ap answer_acted same.0 ∙ sym also.answers, is.leaves ∙ ap (λ (h : Host). with_host h old) host ∙ sym also.leaves)
+one_act : (does : Option Sent) (number : ℕ) (old new other : ByteWorld) (answer reply : Stepped) → OnConnection (HostDoes does) number old answer new → refused_at answer ≡ None
+    → OnConnection (HostDoes does) number old reply other → refused_at reply ≡ None → Alike answer reply new other
+one_act does number old new other answer reply =
+    one_call (HostDoes does) number old new other answer reply (one_doing does (connection_at number old.host))
+
+one_answer : (does : Option Sent) (number : ℕ) (old new other : ByteWorld) (answer reply : Stepped) → OnConnection (DoesAnswer does) number old answer new → refused_at answer ≡ None
+    → OnConnection (DoesAnswer does) number old reply other → refused_at reply ≡ None → Alike answer reply new other
+one_answer does number old new other answer reply =
+    one_call (DoesAnswer does) number old new other answer reply (one_answering does (connection_at number old.host))
 
 one_connection : (terminal : ℕ) (wanted : Option (List ℕ)) (number : ℕ) (old new other : ByteWorld) (answer reply : Stepped) → Connects terminal wanted number old answer new
     → refused_at answer ≡ None → Connects terminal wanted number old reply other → refused_at reply ≡ None → Alike answer reply new other

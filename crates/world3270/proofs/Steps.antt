@@ -10,7 +10,7 @@ use Rattle.host_core.specs.declared.phase.Phase.TheVariants as phase
 use Rattle.host_core.specs.declared.acted.Acted.{Acted}
 use Rattle.host_core.specs.declared.acted.Acted.TheVariants as acted
 use Rattle.world3270.specs.ByteWorld.{ByteWorld, host_there, is_there, terminal_there, with_host}
-use Rattle.world3270.specs.ByteSteps.{ActsHost, Steps, Happens, HappensIf, has_place, answer_acted, is_link, is_held, free_from, host_gone_below, host_gone_if_there, AnswersHost}
+use Rattle.world3270.specs.ByteSteps.{OnConnection, Steps, Happens, HappensIf, has_place, answer_acted, is_link, is_held, free_from, host_gone_below, host_gone_if_there}
 use Rattle.world3270.specs.declared.event.Event.{Event}
 use Rattle.world3270.specs.declared.event.Event.TheVariants as event
 use Rattle.world3270.specs.declared.event.Stepped.{Stepped}
@@ -40,7 +40,7 @@ same_host number old host connection others =
 pub host_acted : (event : Event) (does : Option Sent) (number : ℕ) (old : ByteWorld) (act : Acted) (answer : Stepped) (host : Host)
     → number < most_connections → HostDoes does (connection_at number old.host) act (connection_at number host) → host ≡ with_connection number (connection_at number host) old.host
     → answer ≡ answer_acted act → has_place event old ≡ (is_link number && is_some does)
-    → (ActsHost does number old answer (with_host host old) → Happens event old answer (with_host host old))
+    → (OnConnection (HostDoes does) number old answer (with_host host old) → Happens event old answer (with_host host old))
     → Steps event old answer (with_host host old)
 host_acted event None number old act answer host below acts others answers place happens =
     it_is_skipped event old answer (with_host host old) (place ∙ neither (is_link number)) (answers ∙ ap answer_acted acts.0)
@@ -52,7 +52,7 @@ host_acted event (Some sent) number old act answer host below acts others answer
 pub host_answered : (event : Event) (does : Option Sent) (number : ℕ) (old : ByteWorld) (act : Acted) (answer : Stepped) (host : Host)
     → number < most_connections → DoesAnswer does (connection_at number old.host) act (connection_at number host) → host ≡ with_connection number (connection_at number host) old.host
     → answer ≡ answer_acted act → has_place event old ≡ (is_link number && is_some does)
-    → (AnswersHost does number old answer (with_host host old) → Happens event old answer (with_host host old))
+    → (OnConnection (DoesAnswer does) number old answer (with_host host old) → Happens event old answer (with_host host old))
     → Steps event old answer (with_host host old)
 host_answered event None number old act answer host below acts others answers place happens =
     it_is_skipped event old answer (with_host host old) (place ∙ neither (is_link number)) (answers ∙ ap answer_acted acts.0)

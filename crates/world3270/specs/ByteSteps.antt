@@ -13,7 +13,7 @@ use Rattle.host_core.specs.Does.{Does as HostDoes, DoesAnswer, acted_by, noted_b
 use Rattle.host_core.specs.Feeds.{Feeds, counter_at, with_counter}
 use Rattle.host_core.specs.Questions.{answered_by}
 use Rattle.host_core.specs.KeepAlive.{kept_alive, may_keep_alive}
-use Rattle.host_core.specs.State.{Host, connection_at, service_at, with_connection, restarted, most_connections, given_up, session_at, with_opened}
+use Rattle.host_core.specs.State.{Connection, Host, connection_at, service_at, with_connection, restarted, most_connections, given_up, session_at, with_opened}
 use Rattle.host_core.specs.declared.acted.Acted.{Acted}
 use Rattle.host_core.specs.declared.acted.Acted.TheVariants as acted
 use Rattle.term_core.specs.Feeds.{StopsFor}
@@ -190,20 +190,11 @@ answer_acted acted.Sent = stepped.Done
 answer_acted acted.Nothing = stepped.Skipped
 answer_acted acted.Memory = stepped.Memory
 
--- the host does this, if something, on a connection; nobody else changes
-pub record ActsHost (does : Option Sent) (number : ℕ) (old : ByteWorld) (answer : Stepped) (new : ByteWorld) : Type 0 where
+-- a call of the host, which one connection answers and becomes another by; nobody else changes
+pub record OnConnection (becomes : Connection → Acted → Connection → Type 0) (number : ℕ) (old : ByteWorld) (answer : Stepped) (new : ByteWorld) : Type 0 where
   pub act : Acted
   pub host : Host
-  pub acts : HostDoes does (connection_at number old.host) act (connection_at number host)
-  pub others : host ≡ with_connection number (connection_at number host) old.host
-  pub answers : answer ≡ answer_acted act
-  pub leaves : new ≡ with_host host old
-
--- the same of what the application answers
-pub record AnswersHost (does : Option Sent) (number : ℕ) (old : ByteWorld) (answer : Stepped) (new : ByteWorld) : Type 0 where
-  pub act : Acted
-  pub host : Host
-  pub acts : DoesAnswer does (connection_at number old.host) act (connection_at number host)
+  pub acts : becomes (connection_at number old.host) act (connection_at number host)
   pub others : host ≡ with_connection number (connection_at number host) old.host
   pub answers : answer ≡ answer_acted act
   pub leaves : new ≡ with_host host old
@@ -254,10 +245,10 @@ abbrev pub Happens : Event → ByteWorld → Stepped → ByteWorld → Type 0
 Happens (event.Key terminal key) old answer new = Presses terminal key old answer new
 Happens (event.Up number count) old answer new = ComesUp number (take count (up_of number old)) old answer new
 Happens (event.Down number count) old answer new = GoesDown (terminal_at number old.slots) number (take count (down_of number old)) old answer new
-Happens (event.Act number) old answer new = ActsHost (acted_by (application_of old.host.panels) (service_at number old.host)) number old answer new
+Happens (event.Act number) old answer new = OnConnection (HostDoes (acted_by (application_of old.host.panels) (service_at number old.host))) number old answer new
 Happens (event.Answer number ticket said) old answer new =
-    AnswersHost (answered_by (application_of old.host.panels) (session_at number old.host) ticket said (service_at number old.host)) number old answer new
-Happens (event.Note number text) old answer new = ActsHost (noted_by text (service_at number old.host)) number old answer new
+    OnConnection (DoesAnswer (answered_by (application_of old.host.panels) (session_at number old.host) ticket said (service_at number old.host))) number old answer new
+Happens (event.Note number text) old answer new = OnConnection (HostDoes (noted_by text (service_at number old.host))) number old answer new
 Happens (event.KeepAlive number) old answer new = Is (nop_sent number old) answer new
 Happens (event.Lose number) old answer new = Is (with_transits number (lost_transits number old) old) answer new
 Happens (event.HostSees number) old answer new = Is (host_gone number old) answer new
