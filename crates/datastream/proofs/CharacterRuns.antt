@@ -1,6 +1,7 @@
 -- Characters one behind the other.
-use Rattle.std.proofs.Common.{◌≡◌, ℕ, ◌+◌, ◌*◌, ◌-◌, ◌/◌, ◌^◌, ◌<◌, ◌≤◌, suc, zero, true, false, List, [], ◌∷◌, ◌++◌, length, drop, get_or, refl, ap, sym, subst, take, Result, Ok, Err, ◌∙◌, arith, inl, inr}
-use Rattle.std.proofs.lemmas.List.{length-drop}
+use Rattle.std.proofs.Common.{◌≡◌, ℕ, ◌+◌, ◌*◌, ◌-◌, ◌/◌, ◌%◌, ◌^◌, ◌<◌, ◌≤◌, suc, zero, true, false, List, [], ◌∷◌, ◌++◌, length, drop, get_or, refl, ap, sym, subst, take, Result, Ok, Err, ◌∙◌, arith, inl, inr}
+use Rattle.std.proofs.lemmas.List.{length-drop, drop_more as drop_next}
+use Rattle.std.specs.Int.Count.{trailing_of_zero}
 use Rattle.std.proofs.lemmas.Nat.{or_lt, and_le_r, trailing_le}
 use Rattle.std.proofs.Math.Nat.{div-le_self}
 use Rattle.std.specs.Prelude.{min, bit_and, bit_or}
@@ -17,6 +18,7 @@ use Rattle.datastream.specs.Reading.{order_at, and_orders, orders_within, orders
 use Rattle.datastream.proofs.Front.{IsRead, order_read, order_again}
 use Rattle.datastream.proofs.Sequences.{IsReadTo, reads_on, reads_nothing, shorter, orders_in-next}
 use Rattle.datastream.specs.ByteWords.{word, IsWordOf}
+use Rattle.datastream.specs.Grammar.{start_field}
 
 -- ---- what is left behind characters
 
@@ -158,6 +160,34 @@ pub eight_storable : (text : List ℕ) (count : ℕ) → ((place : ℕ) → get_
 eight_storable text count small few high place less =
     let same : get_or (eight_of text) place 0 ≡ get_or text place 0 = eight_at text place (omega (arith, few, less)) in
     storable_high (get_or text place 0) (omega (arith, same, high place less)) (small place)
+
+-- the two lowest bytes of a word
+two_lowest : (n others a b : ℕ) → a < 256 → b < 256 → n ≡ (others * 256 + b) * 256 + a → (n % 256 ≡ a) × (n % 65536 / 256 ≡ b)
+two_lowest n others a b first second is = (omega arith, omega arith)
+
+-- one character, and Start Field behind it
+pub one_character : (text : List ℕ) (n : ℕ) → 8 ≤ length text → ((place : ℕ) → get_or text place 0 < 256) → n ≡ word (eight_of text)
+    → (64 ≤ n % 256) × (n % 65536 / 256 ≡ start_field) → behind text ≡ drop 1 text
+one_character text n long small is found =
+    let a : ℕ = get_or text 0 0 in
+    let b : ℕ = get_or text 1 0 in
+    let others : ℕ = word (get_or text 2 0 ∷ get_or text 3 0 ∷ get_or text 4 0 ∷ get_or text 5 0 ∷ get_or text 6 0 ∷ get_or text 7 0 ∷ []) in
+    let two = two_lowest n others a b (small 0) (small 1) is in
+    let high : 64 ≤ a = omega (arith, two.0, found.0) in
+    let field : b ≡ start_field = sym two.1 ∙ found.1 in
+    let other : is_storable b ≡ false = ap is_storable field in
+    let split : drop 1 text ≡ b ∷ drop 2 text = drop_next text 1 0 (omega (arith, long)) in
+    sym (behind_count 1 text (λ place less. ap (λ (k : ℕ). is_storable (get_or text k 0)) (first_place place less) ∙ storable_high a high (small 0)) (omega (arith, long)))
+    ∙ ap behind split ∙ behind_none b (drop 2 text) other ∙ sym split
+  where
+    first_place : (place : ℕ) → place < 1 → place ≡ 0
+    first_place place less = omega (arith, less)
+
+-- no byte of a word is low if no bit says so
+pub all_high : (n : ℕ) → low_bits n ≡ 0 → (place : ℕ) → place < 8 → place < high_count n
+all_high n none place less =
+    let whole : high_count n ≡ 8 = ap (λ (m : ℕ). trailing_zeros w64 m / 8) none ∙ ap (λ (m : ℕ). m / 8) (trailing_of_zero 64) in
+    omega (arith, whole, less)
 
 -- ---- the orders of a text that begins with characters
 

@@ -1,12 +1,13 @@
 -- Bits of a row, word by word.
-use Rattle.std.proofs.Common.{◌≡◌, ℕ, ◌+◌, ◌-◌, ◌*◌, ◌^◌, ◌/◌, ◌%◌, ◌<◌, ◌≤◌, Bool, true, false, not, ◌&&◌, List, length, set, get_or, refl, ap, sym, arith, ◌∙◌, inl, inr, if◌then◌else◌}
+use Rattle.std.proofs.Common.{◌≡◌, ℕ, suc, ◌+◌, ◌-◌, ◌*◌, ◌^◌, ◌/◌, ◌%◌, ◌<◌, ◌≤◌, Bool, true, false, not, ◌&&◌, List, length, set, get_or, refl, ap, sym, arith, ◌∙◌, inl, inr, if◌then◌else◌}
 use Rattle.std.specs.Prelude.{nat_eq, nat_lt, min, max, bit_and, bit_or}
 use Rattle.std.specs.Int.{bit_at, bit_not, w64, trailing_zeros}
-use Rattle.std.proofs.Math.Nat.{div-le_self}
+use Rattle.std.proofs.Math.Nat.{div-le_self, div-eq_of_lt-le}
 use Rattle.std.proofs.lemmas.Bool.{cases_lt, lt-ltb, le-ltb}
 use Rattle.std.proofs.lemmas.Bool.Decides.{nat_tests}
 use Rattle.std.proofs.lemmas.List.{get_or-set_same, get_or-set_other}
-use Rattle.std.proofs.lemmas.Nat.{shr-shr}
+use Rattle.std.proofs.lemmas.Nat.{shr-shr, leading_top}
+use Rattle.std.specs.Int.Count.{count_leading_zeros}
 use Rattle.std.proofs.lemmas.Nat.Bits.{bit_at-zero, bit_at-lt, bit_at_and, bit_at_or, bit_at_not, bit_at_ones, bit_at_ones_above, bit_at-trailing_zeros, bit_at_above}
 use Rattle.datastream.specs.CellBits.{bit_of, has_bit, is_within}
 
@@ -38,6 +39,27 @@ lowest_from n from few some =
       is,
       λ place later before. at_shifted n from place later ∙ low.2 (place - from) (omega arith),
     )
+
+-- ---- the highest bit of a word
+
+abbrev pub IsHighest : ℕ → ℕ → Type 0
+IsHighest n last = (last < 64) × (bit_at n last ≡ 1) × ((place : ℕ) → last < place → place < 64 → bit_at n place ≡ 0)
+
+pub highest : (n : ℕ) → n < 2 ^ 64 → 0 < n → IsHighest n (63 - count_leading_zeros 64 n)
+highest n few some =
+    let top = leading_top 64 n some few in
+    let last : ℕ = 63 - count_leading_zeros 64 n in
+    let same : last ≡ top.0 = omega (arith, top.1) in
+    let double : 2 ^ suc top.0 ≡ 2 ^ top.0 * 2 = pow_suc top.0 in
+    let once : n / 2 ^ top.0 ≡ 1 = div-eq_of_lt-le (2 ^ top.0) (omega (arith, top.2)) (omega (arith, top.3, double)) in
+    let is : bit_at n top.0 ≡ 1 = ap (λ (q : ℕ). q % 2) once in (
+      omega (arith, same, top.1),
+      ap (bit_at n) same ∙ is,
+      λ place later low. bit_at_above n (suc top.0) place top.3 (omega (arith, same, later)),
+    )
+  where
+    pow_suc : (k : ℕ) → 2 ^ suc k ≡ 2 ^ k * 2
+    pow_suc k = omega arith
 
 -- ---- runs of bits
 
@@ -128,3 +150,24 @@ outside from to other b c apart = cases (is_within from to other) apart
 
 pub not_within : (from to other : ℕ) → (from ≤ other → other < to → ⊥) → is_within from to other ≡ false
 not_within from to other apart = grind (arith, nat_tests)
+
+-- a word of which the bits up to a place are kept
+pub word_up_to : (word ones place : ℕ) → ((other : ℕ) → other < 64 → bit_at ones other ≡ bit_of (nat_lt other (place + 1)))
+    → ((other : ℕ) → other < 64 → other ≤ place → bit_at (bit_and word ones) other ≡ bit_at word other)
+    × ((other : ℕ) → other < 64 → place < other → bit_at (bit_and word ones) other ≡ 0)
+word_up_to word ones place are = (
+  λ other low before.
+      bit_at_and word ones other
+      ∙ ap (min (bit_at word other)) (are other low ∙ ap bit_of (lt-ltb other (place + 1) (omega (arith, before))))
+      ∙ with_one (bit_at word other) (bit_at-lt word other),
+  λ other low behind.
+      bit_at_and word ones other
+      ∙ ap (min (bit_at word other)) (are other low ∙ ap bit_of (le-ltb other (place + 1) (omega (arith, behind))))
+      ∙ with_none (bit_at word other),
+)
+  where
+    with_one : (x : ℕ) → x < 2 → min x 1 ≡ x
+    with_one x few = omega (arith, few)
+
+    with_none : (x : ℕ) → min x 0 ≡ 0
+    with_none x = omega arith

@@ -1,8 +1,9 @@
 //! Characters one behind the other, looked at eight at a time.
-ghost use Rattle.std.specs.Prelude.{◌≡◌, ◌≤◌, ◌<◌, ℕ, true, List, length, drop, slice_index_or};
+ghost use Rattle.std.specs.Prelude.{◌≡◌, ◌≤◌, ◌<◌, ◌%◌, ◌/◌, ℕ, true, IsTrue, List, length, drop, slice_index_or};
 ghost use Rattle.std.specs.List.{prefix_len};
 ghost use Rattle.codes3270.specs.Storable.{is_storable};
 ghost use Rattle.datastream.specs.ByteWords.{word, IsWordOf};
+ghost use Rattle.datastream.specs.Grammar.{start_field};
 
 use crate::order_codes::START_FIELD;
 use codes3270::storable;
@@ -32,7 +33,11 @@ fn count_high(word: u64) -> usize
     ensures high { (bytes : List ℕ) → IsWordOf bytes word → (place : ℕ) → place < result → 0x40 ≤ slice_index_or bytes place 0 }
 {
     let low = !(word | word >> 1) & BITS_40;
-    low.trailing_zeros() as usize / 8
+    if low == 0 {
+        8
+    } else {
+        low.trailing_zeros() as usize / 8
+    }
 }
 
 /// How many of the first eight bytes are 40 or above before the first that isn't; none if there are fewer bytes.
@@ -78,9 +83,43 @@ fn is_character(byte: u8) -> bool
     byte != START_FIELD && storable(byte)
 }
 
-/// What is left of a text behind its first characters.
+/// Whether the first byte of a word is 40 or above, and the second is Start Field.
+#[inline(always)]
+fn is_high_before_field(word: u64) -> bool
+    ensures { IsTrue result → (0x40 ≤ word % 0x100) × (word % 0x1_0000 / 0x100 ≡ start_field) }
+{
+    word % 0x1_0000 / 0x100 == u64::from(START_FIELD) && word % 0x100 >= 0x40
+}
+
+/// Whether a text of eight bytes or more begins with one character and Start Field behind it.
+#[inline(always)]
+fn has_one_character(text: &[u8]) -> bool
+    ensures some { IsTrue result → 1 ≤ length text.now }
+    ensures one { IsTrue result → drop (prefix_len is_storable text.now) text.now ≡ drop 1 text.now }
+{
+    match text {
+        [a, b, c, d, e, f, g, h, ..] => {
+            is_high_before_field(word_of([*a, *b, *c, *d, *e, *f, *g, *h]))
+        }
+        _ => false,
+    }
+}
+
+/// What is left of a text behind its first characters. Fields of one character are frequent where fields are many.
 #[inline(always)]
 pub(crate) fn behind_characters(text: &[u8]) -> &[u8]
+    ensures { result.now ≡ drop (prefix_len is_storable text.now) text.now }
+{
+    if has_one_character(text) {
+        bytes_from(text, 1)
+    } else {
+        behind_run(text)
+    }
+}
+
+/// The same, at any number of characters.
+#[inline(always)]
+fn behind_run(text: &[u8]) -> &[u8]
     ensures { result.now ≡ drop (prefix_len is_storable text.now) text.now }
 {
     let mut rest = behind_words(text);

@@ -6,7 +6,9 @@ pub mod FieldLists
 pub mod Sent
 pub mod Sized
 pub mod AttributePlaces
-pub mod Nearest
-pub mod FieldLengths
+pub mod KeptCells
+pub mod Governing
+pub mod Steps
+pub mod Changes
 pub mod Printing
 pub mod CellRuns

@@ -1,6 +1,6 @@
 -- What keeps a screen's cells those of its size.
-use Rattle.std.proofs.Common.{◌≡◌, ℕ, ◌<◌, ◌≤◌, true, List, ◌++◌, length, take, replicate, ◌∙◌, ap, sym, subst, arith}
-use Rattle.std.proofs.lemmas.List.{length-replicate, take-replicate, take_at}
+use Rattle.std.proofs.Common.{◌≡◌, ℕ, ◌<◌, ◌≤◌, true, List, length, replicate, ◌∙◌, sym, subst, arith}
+use Rattle.std.proofs.lemmas.List.{length-replicate}
 use Rattle.std.proofs.lemmas.List.Elements.{All-replicate}
 use Rattle.codes3270.specs.Size.{Shape, cells_in, most_cells}
 use Rattle.codes3270.specs.declared.size.Model.{Model}
@@ -21,22 +21,13 @@ sized model size cursor aid cells = record { model = model; size = size; screen 
 pub sized_with : (old : SizedScreen) (screen : Screen) → length screen.cells ≡ length old.screen.cells → IsSendable screen → IsSized old → IsSized (record old { screen = screen })
 sized_with old screen same sendable whole = record { cells = same ∙ whole.cells; size = whole.size; sendable = sendable }
 
--- what is written in front of the cells that the screen doesn't have
-pub front_sized : (old : SizedScreen) (cells new rest : List Cell) (cursor : ℕ) → new ≡ cells → length cells ≡ length old.screen.cells
+-- the same with other cells and another cursor, of which a function says what they are
+pub changed_sized : (old : SizedScreen) (cells new : List Cell) (cursor : ℕ) → new ≡ cells → length cells ≡ length old.screen.cells
     → IsSendable (record { cells = cells; cursor = cursor; aid = old.screen.aid }) → IsSized old
-    → IsSized (sized old.model old.size cursor old.screen.aid (take (cells_in old.size) (new ++ rest)))
-front_sized old cells new rest cursor is same sendable whole =
-    let count : length new ≡ cells_in old.size = ap length is ∙ same ∙ whole.cells in
-    let seen : take (cells_in old.size) (new ++ rest) ≡ cells = take_at new rest (cells_in old.size) count ∙ is in
-    subst (λ (all : List Cell). IsSized (sized old.model old.size cursor old.screen.aid all)) (sym seen)
+    → IsSized (sized old.model old.size cursor old.screen.aid new)
+changed_sized old cells new cursor is same sendable whole =
+    subst (λ (all : List Cell). IsSized (sized old.model old.size cursor old.screen.aid all)) (sym is)
     (sized_with old (record { cells = cells; cursor = cursor; aid = old.screen.aid }) same sendable whole)
-
--- the first of all the cells that there is room for, in a size
-pub blank_is : (model : Model) (size : Shape) (most cursor : ℕ) (cells : List Cell) → cells ≡ replicate most (Char 0) → cursor ≡ 0 → cells_in size ≤ most
-    → sized model size cursor NoAid (take (cells_in size) cells) ≡ sized model size 0 NoAid (replicate (cells_in size) (Char 0))
-blank_is model size most cursor cells null first few =
-    let seen : take (cells_in size) cells ≡ replicate (cells_in size) (Char 0) = ap (take (cells_in size)) null ∙ take-replicate (cells_in size) most (Char 0) few in
-    ap (λ (all : List Cell). sized model size cursor NoAid all) seen ∙ ap (λ (at : ℕ). sized model size at NoAid (replicate (cells_in size) (Char 0))) first
 
 pub blank_sized : (model : Model) (size : Shape) → HasSize model size → 0 < cells_in size → cells_in size ≤ most_cells
     → IsSized (sized model size 0 NoAid (replicate (cells_in size) (Char 0)))

@@ -8,9 +8,27 @@ use Rattle.codes3270.specs.declared.attribute.Cell.TheVariants.{Char, Attr}
 use Rattle.datastream.specs.Screen.{text_before_attribute, is_char, is_char_at, ring, field_text, places_from}
 use Rattle.datastream.specs.Inbound.{is_modified, without_nulls}
 
--- the first cell, and the rest
-pub text_more : (byte : ℕ) (cell : Cell) (cells : List Cell) → cell ≡ Char byte → without_nulls (text_before_attribute (cell ∷ cells)) ≡ without_nulls (byte ∷ []) ++ without_nulls (text_before_attribute cells)
-text_more byte cell cells is = rw is (filter-append (λ (b : ℕ). not (b == 0)) (byte ∷ []) (text_before_attribute cells))
+-- the bytes before the first null, and those behind it
+pub nulls_split : (bytes : List ℕ) → (let k = prefix_len (λ (byte : ℕ). not (byte == 0)) bytes in without_nulls bytes ≡ take k bytes ++ without_nulls (drop 1 (drop k bytes)))
+nulls_split [] = refl
+nulls_split (byte ∷ bytes) = by_test (byte == 0) (nulls_split bytes)
+  where
+    by_test : (null : Bool) → (let k = prefix_len (λ (b : ℕ). not (b == 0)) bytes in without_nulls bytes ≡ take k bytes ++ without_nulls (drop 1 (drop k bytes)))
+        → (let k = cond (not null) (1 + prefix_len (λ (b : ℕ). not (b == 0)) bytes) 0 in
+        cond (not null) (byte ∷ without_nulls bytes) (without_nulls bytes) ≡ take k (byte ∷ bytes) ++ without_nulls (drop 1 (drop k (byte ∷ bytes))))
+    by_test true more = refl
+    by_test false more =
+        let k : ℕ = prefix_len (λ (b : ℕ). not (b == 0)) bytes in
+        let next : 1 + k ≡ suc k = omega arith in
+        ap (λ (text : List ℕ). byte ∷ text) more ∙ sym (ap (λ (n : ℕ). take n (byte ∷ bytes) ++ without_nulls (drop 1 (drop n (byte ∷ bytes)))) next)
+
+pub nulls_split_at : (bytes front behind : List ℕ) (count : ℕ) → count ≡ prefix_len (λ (byte : ℕ). not (byte == 0)) bytes → front ≡ take count bytes → behind ≡ drop count bytes
+    → without_nulls bytes ≡ front ++ without_nulls (drop 1 behind)
+nulls_split_at bytes front behind count is at_front at_back =
+    nulls_split bytes
+    ∙ ap (λ (n : ℕ). take n bytes ++ without_nulls (drop 1 (drop n bytes))) (sym is)
+    ∙ ap (λ (text : List ℕ). text ++ without_nulls (drop 1 (drop count bytes))) (sym at_front)
+    ∙ ap (λ (rest : List ℕ). front ++ without_nulls (drop 1 rest)) (sym at_back)
 
 pub text_ends : (cells : List Cell) (place : ℕ) (d : Cell) → place < length cells → is_char (get_or cells place d) ≡ false → text_before_attribute (drop place cells) ≡ []
 text_ends cells place d below test = rw (drop_more cells place d below) (at_attribute (get_or cells place d) (drop (place + 1) cells) test)

@@ -1,48 +1,45 @@
 //! What is read off cells, and what is changed in them.
-ghost use Rattle.std.specs.Prelude.{◌≡◌, ◌<◌, ◌≤◌, ◌+◌, ◌-◌, take, drop, map, zip, length, position, replicate, IfSome, if◌then◌else◌};
+ghost use Rattle.std.specs.Prelude.{false, ◌≡◌, ◌<◌, ◌≤◌, ◌+◌, ◌-◌, take, drop, map, zip, length, position, replicate, IfSome, if◌then◌else◌};
 ghost use Rattle.codes3270.specs.Size.{cells_in, most_cells};
 ghost use Rattle.codes3270.specs.declared.attribute.Cell.TheVariants.{Char};
 ghost use Rattle.std.specs.List.{list_all, prefix_len};
 ghost use Rattle.datastream.specs.Span.{distance};
-ghost use Rattle.datastream.specs.Screen.{last_attribute, is_char, is_open_attribute, ring, protects};
+ghost use Rattle.datastream.specs.Screen.{attribute_over, field_text, is_char_at, last_attribute, is_char, is_open_attribute, ring, protects};
 ghost use Rattle.presentation.specs.Runs.{placed};
 ghost use Rattle.datastream.specs.Meaning.{filled, opened, erased, unmodified, modified, open_unmodified, tab_stop, home, is_start};
 
+use crate::screen_cells::ScreenCells;
 use codes3270::{Addr, Attr, Cell, Size};
-use datastream::PackedCell;
 
-/// A null in each cell.
-pub(crate) fn clear(cells: &mut [PackedCell])
-    ensures { cells.new ≡ replicate (length cells.old) (Char 0) }
-{
-    cells.fill(PackedCell::character(0));
-}
 
 /// Turns MDT off in each attribute.
-pub(crate) fn reset_mdt(cells: &mut [PackedCell])
+pub(crate) fn reset_mdt(cells: &mut ScreenCells)
     ensures { cells.new ≡ map unmodified cells.old }
 {
-    for cell in cells.iter_mut() {
-        *cell = without_mdt(*cell);
+    let count = cells.len();
+    let mut at = cells.attribute_from(0);
+    while at < count {
+        cells.set(at, without_mdt(cells.get(at)));
+        at = cells.attribute_from(at + 1);
     }
 }
 
-fn without_mdt(cell: PackedCell) -> PackedCell
+fn without_mdt(cell: Cell) -> Cell
     ensures { result ≡ unmodified cell }
 {
-    match cell.get() {
+    match cell {
         Cell::Char(_) => cell,
-        Cell::Attr(attr) => PackedCell::new(Cell::Attr(attr.with_mdt(false))),
+        Cell::Attr(attr) => Cell::Attr(attr.with_mdt(false)),
     }
 }
 
 /// MDT on, where the cell holds an attribute.
-pub(crate) fn with_mdt(cell: PackedCell) -> PackedCell
+pub(crate) fn with_mdt(cell: Cell) -> Cell
     ensures { result ≡ modified cell }
 {
-    match cell.get() {
+    match cell {
         Cell::Char(_) => cell,
-        Cell::Attr(attr) => PackedCell::new(Cell::Attr(attr.with_mdt(true))),
+        Cell::Attr(attr) => Cell::Attr(attr.with_mdt(true)),
     }
 }
 
@@ -64,7 +61,7 @@ pub(crate) fn distance_to(from: Addr, stop: Addr, size: Size) -> u16
 }
 
 /// Writes a character into `count` places from `from` on, round the end.
-pub(crate) fn fill(cells: &mut [PackedCell], from: Addr, count: u16, code: u8, size: Size)
+pub(crate) fn fill(cells: &mut ScreenCells, from: Addr, count: u16, code: u8, size: Size)
     requires size { length cells.old ≡ cells_in size }
     requires from { from < cells_in size }
     requires count { count ≤ cells_in size }
@@ -72,104 +69,27 @@ pub(crate) fn fill(cells: &mut [PackedCell], from: Addr, count: u16, code: u8, s
 {
     let mut place = from;
     for _step in 0..count {
-        cells[place.get() as usize] = PackedCell::character(code);
+        cells.set(place.get() as usize, Cell::Char(code));
         place = place.next(size);
     }
 }
 
-/// The first eight bytes of a text.
-#[inline(always)]
-fn first_eight(text: &[u8]) -> [u8; 8]
-    requires { 8 ≤ length text.now }
-    ensures { result ≡ take 8 text.now }
+/// The attribute that governs a cell: its own, or the nearest before it, round the end.
+pub(crate) fn attribute_over(cells: &ScreenCells, at: Addr) -> Option<Attr>
+    requires { at < length cells.now }
+    ensures { result ≡ attribute_over cells.now at }
 {
-    [
-        text[0], text[1], text[2], text[3], text[4], text[5], text[6], text[7],
-    ]
-}
-
-/// Puts the first eight characters of a text in eight cells.
-#[inline(always)]
-fn put_in_eight(cells: &mut [PackedCell], text: &[u8])
-    requires eight { length cells.old ≡ 8 }
-    requires long { 8 ≤ length text.now }
-    ensures { cells.new ≡ map Char (take 8 text.now) }
-{
-    let [a, b, c, d, e, f, g, h] = first_eight(text);
-    cells[0] = PackedCell::character(a);
-    cells[1] = PackedCell::character(b);
-    cells[2] = PackedCell::character(c);
-    cells[3] = PackedCell::character(d);
-    cells[4] = PackedCell::character(e);
-    cells[5] = PackedCell::character(f);
-    cells[6] = PackedCell::character(g);
-    cells[7] = PackedCell::character(h);
-}
-
-/// Puts the first eight characters of a text in the cells from a place on.
-#[inline(always)]
-fn put_eight(cells: &mut [PackedCell], from: usize, text: &[u8])
-    requires room { from + 8 ≤ length cells.old }
-    requires long { 8 ≤ length text.now }
-    ensures { cells.new ≡ placed from (take 8 text.now) cells.old }
-{
-    put_in_eight(&mut cells[from..from + 8], text);
-}
-
-/// The bytes behind the first eight.
-#[inline(always)]
-fn behind_eight(text: &[u8]) -> &[u8]
-    requires { 8 ≤ length text.now }
-    ensures { result.now ≡ drop 8 text.now }
-{
-    &text[8..]
-}
-
-/// Puts characters in the cells from a place on, one by one.
-#[inline(always)]
-fn put_each(cells: &mut [PackedCell], from: usize, text: &[u8])
-    requires { from + length text.now ≤ length cells.old }
-    ensures { cells.new ≡ placed from text.now cells.old }
-{
-    for (behind, code) in text.iter().enumerate() {
-        cells[from + behind] = PackedCell::character(*code);
-    }
-}
-
-/// Puts characters in the cells from a place on, eight at a time.
-#[inline(always)]
-pub(crate) fn put_characters(cells: &mut [PackedCell], from: usize, text: &[u8])
-    requires { from + length text.now ≤ length cells.old }
-    ensures { cells.new ≡ placed from text.now cells.old }
-{
-    let mut at = from;
-    let mut rest = text;
-    while rest.len() >= 8 {
-        put_eight(cells, at, rest);
-        at += 8;
-        rest = behind_eight(rest);
-    }
-    put_each(cells, at, rest);
-}
-
-/// The last attribute in a list of cells.
-pub(crate) fn last_attribute_in(cells: &[PackedCell]) -> Option<Attr>
-    ensures { result ≡ last_attribute cells.now }
-{
-    let mut last = None;
-    for cell in cells {
-        last = cell.attribute().or(last);
-    }
-    last
+    let attr = cells.governing(at.get() as usize)?;
+    cells.get(attr).attribute()
 }
 
 /// The attribute that governs a cell at `at`, unless that cell holds one.
-pub(crate) fn attribute_before(cells: &[PackedCell], at: Addr) -> Option<Attr>
-    requires { at < length cells.now }
+pub(crate) fn attribute_before(cells: &ScreenCells, at: Addr, size: Size) -> Option<Attr>
+    requires size { length cells.now ≡ cells_in size }
+    requires address { at < length cells.now }
     ensures { result ≡ last_attribute (ring at cells.now) }
 {
-    let (front, back) = cells.split_at(at.get() as usize);
-    last_attribute_in(front).or(last_attribute_in(back))
+    attribute_over(cells, at.backward(1, size))
 }
 
 fn protects_cells(over: Option<Attr>) -> bool
@@ -182,17 +102,17 @@ fn protects_cells(over: Option<Attr>) -> bool
 }
 
 /// A null in place of a character.
-fn without_character(cell: PackedCell) -> PackedCell
+fn without_character(cell: Cell) -> Cell
     ensures { result ≡ erased cell }
 {
-    match cell.get() {
-        Cell::Char(_) => PackedCell::character(0),
+    match cell {
+        Cell::Char(_) => Cell::Char(0),
         Cell::Attr(_) => cell,
     }
 }
 
 /// A null in place of a character that isn't protected.
-fn opened_under(over: Option<Attr>, cell: PackedCell) -> PackedCell
+fn opened_under(over: Option<Attr>, cell: Cell) -> Cell
     ensures { result ≡ (if protects over then cell else erased cell) }
 {
     if protects_cells(over) {
@@ -203,91 +123,79 @@ fn opened_under(over: Option<Attr>, cell: PackedCell) -> PackedCell
 }
 
 /// Nulls the unprotected cells among `count` places from `from` on, round the end.
-pub(crate) fn erase_unprotected_in(cells: &mut [PackedCell], from: Addr, count: u16, size: Size)
+pub(crate) fn erase_unprotected_in(cells: &mut ScreenCells, from: Addr, count: u16, size: Size)
     requires size { length cells.old ≡ cells_in size }
     requires from { from < cells_in size }
     requires count { count ≤ cells_in size }
     ensures { cells.new ≡ opened from count cells.old }
 {
-    let mut over = attribute_before(cells, from);
+    let mut over = attribute_before(cells, from, size);
     let mut at = from;
     for _step in 0..count {
         let place = at.get() as usize;
-        let cell = cells[place];
+        let cell = cells.get(place);
         over = cell.attribute().or(over);
-        cells[place] = opened_under(over, cell);
+        cells.set(place, opened_under(over, cell));
         at = at.next(size);
     }
 }
 
-/// How many characters come before the first attribute.
-fn characters_before_attribute(cells: &[PackedCell]) -> usize
-    ensures value { result ≡ prefix_len is_char cells.now }
-    ensures bound { result ≤ length cells.now }
-{
-    cells.iter().take_while(|cell| cell.is_character()).count()
-}
-
-/// Where the first attribute of an unprotected field stands.
-fn first_open(cells: &[PackedCell]) -> Option<usize>
-    ensures place { result ≡ position is_open_attribute cells.now }
-    ensures in_range { IfSome result (λ place. place < length cells.now) }
-{
-    cells
-        .iter()
-        .position(|cell| cell.is_unprotected_attribute())
-}
-
 /// Where a PT goes from `at`: behind the next unprotected attribute up to the last cell, else 0.
-pub(crate) fn tab_stop_from(cells: &[PackedCell], at: Addr, size: Size) -> Addr
+pub(crate) fn tab_stop_from(cells: &ScreenCells, at: Addr, size: Size) -> Addr
     requires size { length cells.now ≡ cells_in size }
     requires address { at < cells_in size }
     ensures value { result ≡ tab_stop cells.now at }
     ensures in_range { result < cells_in size }
 {
-    // For the contract: the screen has a first cell.
-    let _cells = size.cells();
-    match first_open(&cells[at.get() as usize..]) {
-        Some(distance) => at.forward(distance as u16 + 1, size),
-        None => Addr::first(),
+    let count = cells.len();
+    let mut attr = cells.attribute_from(at.get() as usize);
+    while attr < count {
+        if cells.get(attr).is_unprotected_attribute() {
+            return Addr::first().forward(attr as u16 + 1, size);
+        }
+        attr = cells.attribute_from(attr + 1);
     }
+    Addr::first()
 }
 
 /// Whether there is no attribute in a list of cells.
-pub(crate) fn has_only_characters(cells: &[PackedCell]) -> bool
+pub(crate) fn has_only_characters(cells: &ScreenCells) -> bool
     ensures { result ≡ list_all is_char cells.now }
 {
-    cells.iter().all(|cell| cell.is_character())
+    cells.attribute_from(0) == cells.len()
 }
 
 /// Whether no attribute stands from `at` through the last cell.
-pub(crate) fn has_only_characters_from(cells: &[PackedCell], at: Addr) -> bool
+pub(crate) fn has_only_characters_from(cells: &ScreenCells, at: Addr) -> bool
     requires { at < length cells.now }
     ensures { result ≡ list_all is_char (drop at cells.now) }
 {
-    has_only_characters(&cells[at.get() as usize..])
+    cells.attribute_from(at.get() as usize) == cells.len()
 }
 
 /// How many characters come from `at` on, before an attribute or the end.
-pub(crate) fn characters_ahead(cells: &[PackedCell], at: Addr) -> u16
+pub(crate) fn characters_ahead(cells: &ScreenCells, at: Addr) -> u16
     requires address { at < length cells.now }
     requires few { length cells.now ≤ most_cells }
     ensures value { result ≡ prefix_len is_char (drop at cells.now) }
     ensures bound { result ≤ length cells.now }
 {
-    characters_before_attribute(&cells[at.get() as usize..]) as u16
+    cells.attribute_from(at.get() as usize) as u16 - at.get()
 }
 
 /// Turns MDT off in the attribute of each unprotected field.
-pub(crate) fn reset_open_mdt(cells: &mut [PackedCell])
+pub(crate) fn reset_open_mdt(cells: &mut ScreenCells)
     ensures { cells.new ≡ map open_unmodified cells.old }
 {
-    for cell in cells.iter_mut() {
-        *cell = without_open_mdt(*cell);
+    let count = cells.len();
+    let mut at = cells.attribute_from(0);
+    while at < count {
+        cells.set(at, without_open_mdt(cells.get(at)));
+        at = cells.attribute_from(at + 1);
     }
 }
 
-fn without_open_mdt(cell: PackedCell) -> PackedCell
+fn without_open_mdt(cell: Cell) -> Cell
     ensures { result ≡ open_unmodified cell }
 {
     if cell.is_unprotected_attribute() {
@@ -298,7 +206,7 @@ fn without_open_mdt(cell: PackedCell) -> PackedCell
 }
 
 /// The least start: a character behind the attribute of an unprotected field, round the end; else 0.
-pub(crate) fn home_of(cells: &[PackedCell], size: Size) -> Addr
+pub(crate) fn home_of(cells: &ScreenCells, size: Size) -> Addr
     requires { length cells.now ≡ cells_in size }
     ensures value { result ≡ home cells.now }
     ensures in_range { result < cells_in size }
@@ -311,24 +219,42 @@ pub(crate) fn home_of(cells: &[PackedCell], size: Size) -> Addr
     }
 }
 
-fn first_start(cells: &[PackedCell]) -> Option<usize>
+fn first_start(cells: &ScreenCells) -> Option<usize>
     requires { 0 < length cells.now }
     ensures place { let before = ring (length cells.now - 1) cells.now in
         result ≡ position is_start (zip before cells.now) }
     ensures in_range { IfSome result (λ place. place < length cells.now) }
 {
-    let mut before = cells[cells.len() - 1];
-    for (place, cell) in cells.iter().enumerate() {
-        if is_start_behind(before, *cell) {
+    let count = cells.len();
+    let mut before = cells.get(count - 1);
+    for place in 0..count {
+        let cell = cells.get(place);
+        if is_start_behind(before, cell) {
             return Some(place);
         }
-        before = *cell;
+        before = cell;
     }
     None
 }
 
-fn is_start_behind(before: PackedCell, cell: PackedCell) -> bool
+fn is_start_behind(before: Cell, cell: Cell) -> bool
     ensures { result ≡ is_start (before, cell) }
 {
     before.is_unprotected_attribute() && cell.is_character()
+}
+
+/// How many cells the field has whose attribute is at an address.
+pub(crate) fn field_length(cells: &ScreenCells, attr: usize) -> usize
+    requires placed { attr < length cells.now }
+    requires attribute { is_char_at cells.now attr ≡ false }
+    ensures length { result ≡ length (field_text cells.now attr) }
+    ensures few { result ≤ most_cells }
+{
+    let count = cells.len();
+    let next = cells.attribute_from(attr + 1);
+    if next < count {
+        next - attr - 1
+    } else {
+        count - attr - 1 + cells.attribute_from(0)
+    }
 }

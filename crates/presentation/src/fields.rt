@@ -3,12 +3,12 @@ ghost use Rattle.std.specs.Prelude.{◌≡◌, ◌-◌, ◌<◌, ◌≤◌, ◌%
 ghost use Rattle.codes3270.specs.Size.{cells_in, most_cells};
 ghost use Rattle.std.specs.List.{list_all};
 ghost use Rattle.codes3270.specs.declared.attribute.Cell.TheVariants.{Char};
-ghost use Rattle.datastream.specs.Screen.{field_text, is_char, attribute_in, attribute_over, IsGoverned};
+ghost use Rattle.datastream.specs.Screen.{field_text, is_char_at, is_char, attribute_in, attribute_over, IsGoverned};
 ghost use Rattle.presentation.specs.Places.{attribute_places};
-ghost use Rattle.presentation.specs.Index.{AreAscending, IsNearest, place_of};
 ghost use Rattle.presentation.specs.Fields.{field_of, listed_fields};
 
-use crate::{Screen, cells, index};
+use crate::screen_cells::ScreenCells;
+use crate::{Screen, cells};
 use codes3270::{Addr, Attr};
 use std::marker::Model;
 
@@ -21,7 +21,7 @@ pub struct Field {
     pub length: u16,
 }
 
-/// The fields of a screen that are left, by the addresses of their attributes. Contracts see their list.
+/// The fields of a screen that are left, by the addresses of their attributes: those from `next` on. Contracts see their list.
 #[derive(Drop)]
 pub struct Fields<'a> {
     screen: &'a Screen,
@@ -29,13 +29,15 @@ pub struct Fields<'a> {
 }
 
 impl<'a> Model for Fields<'a> {
-    ghost use Rattle.std.specs.Prelude.{List, drop};
+    ghost use Rattle.std.specs.Prelude.{◌≤◌, List, length};
     ghost use Rattle.presentation.specs.Fields.{fields_from};
     ghost use Rattle.presentation.specs.declared.fields.Field.{Field};
 
     ghost Value = { List Field };
 
-    ghost view = { λ fields. drop fields.next (fields_from fields.screen.now.screen.cells 0) };
+    ghost view = { λ fields. fields_from fields.screen.now.screen.cells fields.next };
+
+    ghost invariant = { λ fields. fields.next ≤ length fields.screen.now.screen.cells };
 }
 
 impl<'a> Iterator for Fields<'a> {
@@ -48,11 +50,11 @@ impl<'a> Iterator for Fields<'a> {
     ghost remaining = { item_count (λ fields. fields) };
 
     fn next(&mut self) -> Option<Field> {
-        let screen = self.screen;
-        if self.next < screen.field_count() {
-            let field = screen.field_number(self.next);
-            self.next += 1;
-            Some(field)
+        let cells = self.screen.cells();
+        let attr = cells.attribute_from(self.next);
+        if attr < cells.len() {
+            self.next = attr + 1;
+            Some(self.screen.field_of(attr))
         } else {
             None
         }
@@ -60,60 +62,27 @@ impl<'a> Iterator for Fields<'a> {
 }
 
 impl Screen {
-    /// The addresses of the attributes, ascending.
-    fn places(&self) -> &[u16]
-        ensures value { result.now ≡ attribute_places self.now.screen.cells 0 }
-        ensures ascending { AreAscending (cells_in self.now.size) result.now }
-        ensures bound { length result.now ≤ most_cells }
-        ensures size { length self.now.screen.cells ≡ cells_in self.now.size }
+    /// The cells.
+    fn cells(&self) -> &ScreenCells
+        ensures cells { result.now ≡ self.now.screen.cells }
+        ensures count { length result.now ≡ cells_in self.now.size }
     {
-        let buffer = &self.buffer;
-        // For the contract: the list of attributes agrees with the cells.
-        let _cells = &buffer.cells;
-        self.attributes.as_slice()
+        self.buffer.cells()
     }
 
-    /// How many fields there are.
-    fn field_count(&self) -> usize
-        ensures count { result ≡ length (attribute_places self.now.screen.cells 0) }
-        ensures bound { result ≤ most_cells }
-        ensures size { length self.now.screen.cells ≡ cells_in self.now.size }
+    /// The field whose attribute is at an address.
+    fn field_of(&self, attr: usize) -> Field
+        requires placed { attr < length self.now.screen.cells }
+        requires attribute { is_char_at self.now.screen.cells attr ≡ false }
+        ensures { result ≡ field_of self.now.screen.cells attr }
     {
-        self.places().len()
-    }
-
-    /// Where the attribute of a field stands, by the field's number in the list of fields, from 0 on.
-    fn field_place(&self, number: usize) -> Addr
-        requires { number < length (attribute_places self.now.screen.cells 0) }
-        ensures place { result ≡ place_of self.now.screen.cells number }
-        ensures in_range { result < cells_in self.now.size }
-    {
-        let place = self.places()[number];
-        Addr::new(place, self.size()).unwrap_or(Addr::first())
-    }
-
-    /// A field by its number.
-    fn field_number(&self, number: usize) -> Field
-        requires { number < length (attribute_places self.now.screen.cells 0) }
-        ensures { result ≡ field_of self.now.screen.cells (place_of self.now.screen.cells number) }
-    {
-        let count = self.field_count();
-        let attr = self.field_place(number);
-        let next = self.field_place((number + 1) % count);
+        let cells = self.cells();
+        // For the contract: two bytes hold each address.
+        let _count = cells.len();
         Field {
-            attr,
-            length: cells::distance_to(attr, next, self.size()) - 1,
+            attr: Addr::first().forward(attr as u16, self.size()),
+            length: cells::field_length(cells, attr) as u16,
         }
-    }
-
-    /// The number of the field that a cell lies in, or whose attribute it holds; None on an unformatted screen.
-    fn field_number_at(&self, at: Addr) -> Option<usize>
-        requires { at < cells_in self.now.size }
-        ensures none { IfNone result (attribute_places self.now.screen.cells 0 ≡ []) }
-        ensures nearest { IfSome result (λ number. IsNearest (cells_in self.now.size) (attribute_places self.now.screen.cells 0) at number) }
-        ensures size { length self.now.screen.cells ≡ cells_in self.now.size }
-    {
-        index::nearest_before(self.places(), at)
     }
 
     /// The attribute that governs a cell: its own, or the nearest before it, round the end; None on an unformatted screen.
@@ -121,8 +90,7 @@ impl Screen {
         requires { at < cells_in self.now.size }
         ensures { result ≡ attribute_over self.now.screen.cells at }
     {
-        let number = self.field_number_at(at)?;
-        self.cell(self.field_place(number)).attribute()
+        cells::attribute_over(self.cells(), at)
     }
 
     /// The fields, by the addresses of their attributes, each once. An unformatted screen has none.
@@ -149,7 +117,7 @@ impl Screen {
         // Its cells run to the next attribute, round the end.
         ensures length { IfSome result (λ field. field.length ≡ length (field_text self.now.screen.cells field.attr)) }
     {
-        let number = self.field_number_at(at)?;
-        Some(self.field_number(number))
+        let attr = self.cells().governing(at.get() as usize)?;
+        Some(self.field_of(attr))
     }
 }

@@ -4,8 +4,8 @@ ghost use Rattle.codes3270.specs.Size.{cells_in};
 ghost use Rattle.presentation.specs.Glyph.{glyph_at, glyph_of, glyph_of_code, is_hidden, hidden_from, shown, all_glyphs};
 
 use crate::Screen;
+use crate::screen_cells::ScreenCells;
 use codes3270::{Addr, Attr, Cell, Display, to_latin1};
-use datastream::PackedCell;
 use std::marker::Model;
 
 fn glyph_of_code(code: u8) -> char
@@ -57,18 +57,20 @@ fn shown_glyph(hidden: bool, glyph: char) -> char
 /// The characters that are printed for the cells that are left, by address. Contracts see their list.
 #[derive(Drop)]
 pub struct Glyphs<'a> {
-    cells: &'a [PackedCell],
+    cells: &'a ScreenCells,
+    /// The address of the first of them.
+    next: usize,
     /// Whether the cells up to the next attribute are hidden.
     hidden: bool,
 }
 
 impl<'a> Model for Glyphs<'a> {
-    ghost use Rattle.std.specs.Prelude.{List, ℕ};
+    ghost use Rattle.std.specs.Prelude.{List, ℕ, drop};
     ghost use Rattle.presentation.specs.Glyph.{glyphs_from};
 
     ghost Value = { List ℕ };
 
-    ghost view = { λ glyphs. glyphs_from glyphs.hidden glyphs.cells.now };
+    ghost view = { λ glyphs. glyphs_from glyphs.hidden (drop glyphs.next glyphs.cells.now) };
 }
 
 impl<'a> Iterator for Glyphs<'a> {
@@ -81,13 +83,13 @@ impl<'a> Iterator for Glyphs<'a> {
     ghost remaining = { item_count (λ glyphs. glyphs) };
 
     fn next(&mut self) -> Option<char> {
-        match self.cells {
-            [] => None,
-            [cell, rest @ ..] => {
-                self.cells = rest;
-                self.hidden = is_hidden_from(self.hidden, cell.get());
-                Some(shown_glyph(self.hidden, glyph_of(cell.get())))
-            }
+        if self.next < self.cells.len() {
+            let cell = self.cells.get(self.next);
+            self.next += 1;
+            self.hidden = is_hidden_from(self.hidden, cell);
+            Some(shown_glyph(self.hidden, glyph_of(cell)))
+        } else {
+            None
         }
     }
 }
@@ -102,6 +104,7 @@ impl Screen {
         let buffer = &self.buffer;
         Glyphs {
             cells: buffer.cells(),
+            next: 0,
             hidden,
         }
     }

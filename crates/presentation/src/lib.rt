@@ -16,9 +16,9 @@ mod buffer;
 mod cells;
 mod fields;
 mod glyph;
-mod index;
 mod read;
 mod screen;
+mod screen_cells;
 mod write;
 
 pub use fields::{Field, Fields};

@@ -1,11 +1,12 @@
 //! What reads answer.
-ghost use Rattle.std.specs.Prelude.{◌≡◌, ◌+◌, ◌%◌, ◌<◌, ◌∷◌, [], ◌++◌, length, take, drop, OnOk, OnErr, ◌&&◌, not, false};
+ghost use Rattle.std.specs.Prelude.{◌≡◌, ◌+◌, ◌-◌, ◌%◌, ◌<◌, ◌≤◌, ◌∷◌, slice_index_or, [], ◌++◌, length, take, drop, OnOk, OnErr, ◌&&◌, ◌==◌, not, false};
 ghost use Rattle.codes3270.specs.Size.{cells_in};
-ghost use Rattle.std.specs.List.{flat_map};
+ghost use Rattle.std.specs.List.{flat_map, prefix_len};
 ghost use Rattle.codes3270.specs.Address.{address_bytes};
 ghost use Rattle.codes3270.specs.Aid.{is_short_aid};
 ghost use Rattle.codes3270.specs.Appending.{Appends, AppendsSome};
-ghost use Rattle.datastream.specs.Screen.{is_char_at, text_before_attribute, places_from};
+ghost use Rattle.datastream.specs.Screen.{is_char, is_char_at, field_text, places_from};
+ghost use Rattle.datastream.specs.Grammar.{start_field};
 ghost use Rattle.datastream.specs.Inbound.{without_nulls, modified_field, modified_text, read_modified, is_modified, cell_bytes, read_buffer};
 ghost use Rattle.datastream.specs.InboundText.{IsInbound};
 ghost use Rattle.datastream.specs.InboundFields.{modified_data, buffer_data};
@@ -13,9 +14,10 @@ ghost use Rattle.presentation.specs.Answering.{form_of};
 ghost use Rattle.presentation.specs.Sizes.{IsSized};
 
 use crate::buffer::Buffer;
+use crate::screen_cells::ScreenCells;
 use crate::{Screen, cells};
-use codes3270::{Addr, Aid, Cell, addr_to_bytes, aid_byte, attr_code};
-use datastream::{Memory, PackedCell, Ring, SET_BUFFER_ADDRESS, START_FIELD};
+use codes3270::{Addr, Aid, Cell, Size, addr_to_bytes, aid_byte};
+use datastream::{Memory, SET_BUFFER_ADDRESS, START_FIELD};
 
 fn put_byte(out: &mut Vec<u8>, byte: u8) -> Result<(), Memory>
     ensures { AppendsSome out.old out.new result (byte ∷ []) }
@@ -30,71 +32,133 @@ fn put_bytes(out: &mut Vec<u8>, bytes: &[u8]) -> Result<(), Memory>
     out.extend_from_slice(bytes)
 }
 
-fn put_unless_null(out: &mut Vec<u8>, byte: u8) -> Result<(), Memory>
-    ensures { AppendsSome out.old out.new result (without_nulls (byte ∷ [])) }
+/// Bytes of which there often is one or none, which is then cheaper.
+fn put_few(out: &mut Vec<u8>, bytes: &[u8]) -> Result<(), Memory>
+    ensures { AppendsSome out.old out.new result bytes.now }
 {
-    if byte == 0 {
-        Ok(())
-    } else {
-        put_byte(out, byte)
+    match bytes {
+        [] => Ok(()),
+        [byte] => put_byte(out, *byte),
+        _ => put_bytes(out, bytes),
     }
 }
 
-/// The characters before the first attribute, without nulls.
-fn put_text(out: &mut Vec<u8>, cells: Ring<'_, Buffer>) -> Result<(), Memory>
-    ensures { AppendsSome out.old out.new result (without_nulls (text_before_attribute cells.entry)) }
+/// The bytes from a place to another.
+#[inline(always)]
+fn between(bytes: &[u8], from: usize, to: usize) -> &[u8]
+    requires order { from ≤ to }
+    requires few { to ≤ length bytes.now }
+    ensures { result.now ≡ take (to - from) (drop from bytes.now) }
 {
-    for cell in cells {
-        let Cell::Char(byte) = cell.get() else {
-            return Ok(());
-        };
-        put_unless_null(out, byte)?;
+    &bytes[from..to]
+}
+
+/// The byte at a place.
+#[inline(always)]
+fn byte_at(bytes: &[u8], at: usize) -> u8
+    requires { at < length bytes.now }
+    ensures { result ≡ slice_index_or bytes.now at 0 }
+{
+    bytes[at]
+}
+
+/// How many bytes come before the first null.
+fn count_before_null(bytes: &[u8]) -> usize
+    ensures value { result ≡ prefix_len (λ byte. not (byte == 0)) bytes.now }
+    ensures bound { result ≤ length bytes.now }
+{
+    bytes.iter().take_while(|byte| **byte != 0).count()
+}
+
+/// What is left of bytes behind the first, if there is one.
+fn behind_first(bytes: &[u8]) -> &[u8]
+    ensures { result.now ≡ drop 1 bytes.now }
+{
+    match bytes {
+        [] => bytes,
+        [_, rest @ ..] => rest,
+    }
+}
+
+/// Bytes without the nulls among them, in the pieces between nulls.
+fn put_without_nulls(out: &mut Vec<u8>, bytes: &[u8]) -> Result<(), Memory>
+    ensures { AppendsSome out.old out.new result (without_nulls bytes.now) }
+{
+    let mut rest = bytes;
+    while !rest.is_empty() {
+        let (piece, behind) = rest.split_at(count_before_null(rest));
+        put_few(out, piece)?;
+        rest = behind_first(behind);
     }
     Ok(())
 }
 
-/// SBA, the field's first address and its text, round the end, without nulls.
-fn put_field(out: &mut Vec<u8>, buffer: &Buffer, at: Addr) -> Result<(), Memory>
-    requires address { at < cells_in buffer.now.size }
-    requires attribute { is_char_at buffer.now.screen.cells at ≡ false }
-    ensures { AppendsSome out.old out.new result (modified_field buffer.now.screen.cells at) }
+/// The text of a field, round the end, without nulls. `next` is the first attribute behind its own, or the number of cells.
+fn put_field_text(out: &mut Vec<u8>, cells: &ScreenCells, attr: usize, next: usize) -> Result<(), Memory>
+    requires placed { attr < length cells.now }
+    requires attribute { is_char_at cells.now attr ≡ false }
+    requires next { next ≡ attr + 1 + prefix_len is_char (drop (attr + 1) cells.now) }
+    ensures { AppendsSome out.old out.new result (without_nulls (field_text cells.now attr)) }
 {
-    let [high, low] = addr_to_bytes(at.next(buffer.size));
-    put_bytes(out, &[SET_BUFFER_ADDRESS, high, low])?;
-    put_text(out, buffer.ahead(at))
+    let codes = cells.codes();
+    put_without_nulls(out, between(codes, attr + 1, next))?;
+    if next == codes.len() {
+        put_without_nulls(out, between(codes, 0, cells.attribute_from(0)))?;
+    }
+    Ok(())
 }
 
-fn is_modified_attribute(cell: PackedCell) -> bool
+/// SBA, the field's first address and its text.
+fn put_field(out: &mut Vec<u8>, cells: &ScreenCells, attr: usize, next: usize, size: Size) -> Result<(), Memory>
+    requires size { length cells.now ≡ cells_in size }
+    requires placed { attr < length cells.now }
+    requires attribute { is_char_at cells.now attr ≡ false }
+    requires next { next ≡ attr + 1 + prefix_len is_char (drop (attr + 1) cells.now) }
+    ensures { AppendsSome out.old out.new result (modified_field cells.now attr) }
+{
+    let first = Addr::first().forward(attr as u16 + 1, size);
+    let [high, low] = addr_to_bytes(first);
+    put_bytes(out, &[SET_BUFFER_ADDRESS, high, low])?;
+    put_field_text(out, cells, attr, next)
+}
+
+fn is_modified_attribute(cell: Cell) -> bool
     ensures { result ≡ is_modified cell }
 {
-    match cell.get() {
+    match cell {
         Cell::Char(_) => false,
         Cell::Attr(attr) => attr.mdt,
     }
 }
 
-#[inline(always)]
-fn put_field_if_modified(out: &mut Vec<u8>, buffer: &Buffer, place: u16) -> Result<(), Memory>
-    requires { place < cells_in buffer.now.size }
-    ensures { let cells = buffer.now.screen.cells in
-        let places = places_from is_modified place (take 1 (drop place cells)) in
-        AppendsSome out.old out.new result (flat_map (modified_field cells) places) }
+/// A field, if it is modified.
+fn put_field_if_modified(out: &mut Vec<u8>, cells: &ScreenCells, attr: usize, next: usize, size: Size) -> Result<(), Memory>
+    requires size { length cells.now ≡ cells_in size }
+    requires placed { attr < length cells.now }
+    requires attribute { is_char_at cells.now attr ≡ false }
+    requires next { next ≡ attr + 1 + prefix_len is_char (drop (attr + 1) cells.now) }
+    ensures { let places = places_from is_modified attr (take 1 (drop attr cells.now)) in
+        AppendsSome out.old out.new result (flat_map (modified_field cells.now) places) }
 {
-    let cells = buffer.cells();
-    if is_modified_attribute(cells[usize::from(place)]) {
-        put_field(out, buffer, Addr::first().forward(place, buffer.size))
+    if is_modified_attribute(cells.get(attr)) {
+        put_field(out, cells, attr, next, size)
     } else {
         Ok(())
     }
 }
 
 /// The modified fields, by the addresses of their attributes.
-fn put_modified_fields(out: &mut Vec<u8>, buffer: &Buffer) -> Result<(), Memory>
-    ensures { let places = places_from is_modified 0 buffer.now.screen.cells in
-        AppendsSome out.old out.new result (flat_map (modified_field buffer.now.screen.cells) places) }
+fn put_modified_fields(out: &mut Vec<u8>, cells: &ScreenCells, size: Size) -> Result<(), Memory>
+    requires { length cells.now ≡ cells_in size }
+    ensures { let places = places_from is_modified 0 cells.now in
+        AppendsSome out.old out.new result (flat_map (modified_field cells.now) places) }
 {
-    for place in 0..buffer.size.cells() {
-        put_field_if_modified(out, buffer, place)?;
+    let count = cells.len();
+    let mut attr = cells.attribute_from(0);
+    while attr < count {
+        let next = cells.attribute_from(attr + 1);
+        put_field_if_modified(out, cells, attr, next, size)?;
+        attr = next;
     }
     Ok(())
 }
@@ -102,10 +166,11 @@ fn put_modified_fields(out: &mut Vec<u8>, buffer: &Buffer) -> Result<(), Memory>
 fn put_modified_text(out: &mut Vec<u8>, buffer: &Buffer) -> Result<(), Memory>
     ensures { AppendsSome out.old out.new result (modified_text buffer.now.screen.cells) }
 {
-    if cells::has_only_characters(buffer.cells()) {
-        put_text(out, Ring::all(buffer))
+    let cells = buffer.cells();
+    if cells::has_only_characters(cells) {
+        put_without_nulls(out, cells.codes())
     } else {
-        put_modified_fields(out, buffer)
+        put_modified_fields(out, cells, buffer.size)
     }
 }
 
@@ -116,22 +181,27 @@ fn is_short_form(aid: Aid, all: bool) -> bool
     aid.is_short() && !all
 }
 
-fn put_cell(out: &mut Vec<u8>, cell: PackedCell) -> Result<(), Memory>
-    ensures { AppendsSome out.old out.new result (cell_bytes cell) }
+/// An attribute as SF and its code.
+fn put_attribute(out: &mut Vec<u8>, code: u8) -> Result<(), Memory>
+    ensures { AppendsSome out.old out.new result (start_field ∷ code ∷ []) }
 {
-    match cell.get() {
-        Cell::Char(byte) => put_byte(out, byte),
-        Cell::Attr(attr) => put_bytes(out, &[START_FIELD, attr_code(attr)]),
-    }
+    put_bytes(out, &[START_FIELD, code])
 }
 
-fn put_cells(out: &mut Vec<u8>, cells: &[PackedCell]) -> Result<(), Memory>
+/// All cells: the characters between attributes as they are, and the attributes.
+fn put_cells(out: &mut Vec<u8>, cells: &ScreenCells) -> Result<(), Memory>
     ensures { AppendsSome out.old out.new result (flat_map cell_bytes cells.now) }
 {
-    for cell in cells {
-        put_cell(out, *cell)?;
+    let codes = cells.codes();
+    let mut from = 0;
+    let mut attr = cells.attribute_from(0);
+    while attr < codes.len() {
+        put_few(out, between(codes, from, attr))?;
+        put_attribute(out, byte_at(codes, attr))?;
+        from = attr + 1;
+        attr = cells.attribute_from(from);
     }
-    Ok(())
+    put_few(out, between(codes, from, codes.len()))
 }
 
 impl Buffer {

@@ -11,10 +11,9 @@ ghost use Rattle.presentation.specs.Applied.{asked_by};
 ghost use Rattle.presentation.specs.Sizes.{HasSize, IsReadFor, applied, blank_of};
 
 use crate::buffer::{Buffer, with_real_key};
-use crate::{Applied, cells, index};
-use arrayvec::ArrayVec;
-use codes3270::{Addr, Aid, Cell, MOST_CELLS, Model, Size};
-use datastream::{Command, PackedCell};
+use crate::{Applied, cells};
+use codes3270::{Addr, Aid, Cell, Model, Size};
+use datastream::Command;
 use std::marker;
 
 /// The screen of a terminal of a model (GA23-0059-07 on the character buffer and on screen sizes): its size, its cells, the
@@ -25,20 +24,14 @@ use std::marker;
 #[derive(Clone, Debug, Drop)]
 pub struct Screen {
     pub(crate) buffer: Buffer,
-    /// The addresses of its attributes, ascending.
-    pub(crate) attributes: ArrayVec<u16, MOST_CELLS>,
 }
 
 impl marker::Model for Screen {
-    ghost use Rattle.std.specs.Prelude.{◌≡◌};
     ghost use Rattle.presentation.specs.Sizes.{SizedScreen};
-    ghost use Rattle.presentation.specs.Places.{attribute_places};
 
     ghost Value = { SizedScreen };
 
     ghost view = { λ s. s.buffer };
-
-    ghost invariant = { λ s. s.attributes.items ≡ attribute_places s.buffer.screen.cells 0 };
 }
 
 impl Screen {
@@ -49,7 +42,6 @@ impl Screen {
     {
         Screen {
             buffer: Buffer::blank(model),
-            attributes: ArrayVec::new(),
         }
     }
 
@@ -80,7 +72,7 @@ impl Screen {
         ensures storable { IsStorableCell result }
         ensures sendable { IsSendable self.now.screen }
     {
-        self.buffer.cell(at).get()
+        self.buffer.cell(at)
     }
 
     /// Where the cursor is.
@@ -112,7 +104,7 @@ impl Screen {
         requires storable { is_storable byte ≡ true }
         ensures { self.new ≡ record self.old { screen = record self.old.screen { cells = slice_set self.old.screen.cells at (Char byte) } } }
     {
-        self.buffer.set_cell(at, PackedCell::character(byte));
+        self.buffer.set_cell(at, Cell::Char(byte));
     }
 
     /// Turns MDT on in a cell that holds an attribute; `cell` tells.
@@ -158,7 +150,6 @@ impl Screen {
         ensures { self.new ≡ record self.old { screen = cleared (cells_in self.old.size) self.old.screen } }
     {
         self.buffer.clear();
-        self.attributes.clear();
     }
 
     /// What the Erase Input key does to the screen: the characters of unprotected fields null, MDT off in their attributes,
@@ -180,8 +171,6 @@ impl Screen {
         ensures screen { self.new ≡ applied command.now self.old }
         ensures applied { result ≡ asked_by command.now }
     {
-        let applied = self.buffer.apply(command);
-        index::list_attributes(self.buffer.cells(), &mut self.attributes);
-        applied
+        self.buffer.apply(command)
     }
 }

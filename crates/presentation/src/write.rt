@@ -15,7 +15,7 @@ ghost use Rattle.datastream.specs.InboundFields.{IsStorableCell};
 use crate::buffer::Buffer;
 use crate::cells;
 use codes3270::{Addr, Aid, Cell, Size, Wcc};
-use datastream::{Command, CommandCode, Order, Orders, PackedCell};
+use datastream::{Command, CommandCode, Order, Orders};
 
 /// What a command asks of the keyboard and the alarm (GA23-0059-07, "Write Control Character (WCC)").
 #[derive(Clone, Copy, Debug, PartialEq, Eq)]
@@ -67,14 +67,23 @@ impl WritePosition {
     }
 }
 
+/// How many cells there are from an address on.
+#[inline(always)]
+fn room_from(address: Addr, size: Size) -> usize
+    requires { address < cells_in size }
+    ensures room { result + address ≡ cells_in size }
+    ensures some { 0 < result }
+{
+    usize::from(size.cells() - address.get())
+}
+
 impl Buffer {
     /// All cells of a screen of a size null, the cursor at 0; the AID stays.
     pub(crate) fn erase(&mut self, size: Size)
         requires { HasSize self.old.model size }
         ensures { self.new ≡ record self.old { size = size; screen = cleared (cells_in size) self.old.screen } }
     {
-        let count = usize::from(size.cells());
-        cells::clear(&mut self.cells[..count]);
+        self.cells.clear(size);
         self.size = size;
         self.cursor = Addr::first();
     }
@@ -91,11 +100,9 @@ impl Buffer {
         ensures { self.new ≡ record self.old { screen = unprotected_erased self.old.screen } }
     {
         let size = self.size;
-        let count = size.cells();
-        let cells = &mut self.cells[..usize::from(count)];
-        self.cursor = cells::home_of(cells, size);
-        cells::erase_unprotected_in(cells, Addr::first(), count, size);
-        cells::reset_open_mdt(cells);
+        self.cursor = cells::home_of(&self.cells, size);
+        cells::erase_unprotected_in(&mut self.cells, Addr::first(), size.cells(), size);
+        cells::reset_open_mdt(&mut self.cells);
     }
 
     /// What a command says, and what it asks of the keyboard and the alarm.
@@ -146,8 +153,7 @@ impl Buffer {
         ensures { self.new ≡ record self.old { screen = prepared wcc self.old.screen } }
     {
         if wcc.reset {
-            let count = usize::from(self.size.cells());
-            cells::reset_mdt(&mut self.cells[..count]);
+            cells::reset_mdt(&mut self.cells);
         }
     }
 
@@ -165,18 +171,21 @@ impl Buffer {
         ensures { let start : WriteProgress = record { screen = self.old.screen; address = self.old.screen.cursor; after_data = false } in
             self.new ≡ record self.old { screen = (all_executed orders.entry start).screen } }
     {
+        // One value for all orders: it need not be read again behind each store.
+        let size = self.size;
         let mut orders = orders;
         let start = WritePosition::moved_to(self.cursor());
-        let mut position = self.put_characters(orders.characters(), start);
+        let mut position = self.put_characters(orders.characters(), start, size);
         while let Some(order) = orders.next() {
-            let moved = self.execute(order, position);
-            position = self.put_characters(orders.characters(), moved);
+            let moved = self.execute(order, position, size);
+            position = self.put_characters(orders.characters(), moved, size);
         }
     }
 
     /// The characters of a write that come one after another.
     #[inline(always)]
-    fn put_characters(&mut self, text: &[u8], position: WritePosition) -> WritePosition
+    fn put_characters(&mut self, text: &[u8], position: WritePosition, size: Size) -> WritePosition
+        requires same { size ≡ self.old.size }
         requires storable { All (λ byte. is_storable byte ≡ true) text.now }
         requires address { position.address < cells_in self.old.size }
         ensures write { let write : WriteProgress = record { screen = self.old.screen; address = position.address; after_data = position.nulls } in
@@ -188,15 +197,17 @@ impl Buffer {
             [] => position,
             [byte] => WritePosition::after_data(self.store(
                 position.address,
-                PackedCell::character(*byte),
+                Cell::Char(*byte),
+                size,
             )),
-            _ => self.put_run(text, position),
+            _ => self.put_run(text, position, size),
         }
     }
 
     /// The same of some characters. Mostly there are cells for all of them up to the last cell.
     #[inline(always)]
-    fn put_run(&mut self, text: &[u8], position: WritePosition) -> WritePosition
+    fn put_run(&mut self, text: &[u8], position: WritePosition, size: Size) -> WritePosition
+        requires same { size ≡ self.old.size }
         requires storable { All (λ byte. is_storable byte ≡ true) text.now }
         requires some { 0 < length text.now }
         requires address { position.address < cells_in self.old.size }
@@ -205,26 +216,17 @@ impl Buffer {
         ensures in_range { result.address < cells_in self.old.size }
         ensures size { self.new ≡ record self.old { screen = self.new.screen } }
     {
-        if text.len() <= self.room_from(position.address) {
-            self.put_front(text, position)
+        if text.len() <= room_from(position.address, size) {
+            self.put_front(text, position, size)
         } else {
-            self.put_round(text, position)
+            self.put_round(text, position, size)
         }
-    }
-
-    /// How many cells there are from an address on.
-    #[inline(always)]
-    fn room_from(&self, address: Addr) -> usize
-        requires { address < cells_in self.now.size }
-        ensures room { result + address ≡ cells_in self.now.size }
-        ensures some { 0 < result }
-    {
-        usize::from(self.size.cells() - address.get())
     }
 
     /// The same of characters that go on from the last cell at the first.
     #[inline(never)]
-    fn put_round(&mut self, text: &[u8], position: WritePosition) -> WritePosition
+    fn put_round(&mut self, text: &[u8], position: WritePosition, size: Size) -> WritePosition
+        requires same { size ≡ self.old.size }
         requires storable { All (λ byte. is_storable byte ≡ true) text.now }
         requires address { position.address < cells_in self.old.size }
         ensures write { let write : WriteProgress = record { screen = self.old.screen; address = position.address; after_data = position.nulls } in
@@ -235,9 +237,9 @@ impl Buffer {
         let mut position = position;
         let mut rest = text;
         while !rest.is_empty() {
-            let room = self.room_from(position.address);
+            let room = room_from(position.address, size);
             let (front, behind) = rest.split_at(room.min(rest.len()));
-            position = self.put_front(front, position);
+            position = self.put_front(front, position, size);
             rest = behind;
         }
         position
@@ -245,7 +247,8 @@ impl Buffer {
 
     /// The same of characters for which there are cells up to the last.
     #[inline(always)]
-    fn put_front(&mut self, text: &[u8], position: WritePosition) -> WritePosition
+    fn put_front(&mut self, text: &[u8], position: WritePosition, size: Size) -> WritePosition
+        requires same { size ≡ self.old.size }
         requires storable { All (λ byte. is_storable byte ≡ true) text.now }
         requires some { 0 < length text.now }
         requires room { position.address + length text.now ≤ cells_in self.old.size }
@@ -254,15 +257,15 @@ impl Buffer {
         ensures in_range { result.address < cells_in self.old.size }
         ensures size { self.new ≡ record self.old { screen = self.new.screen } }
     {
-        let size = self.size;
-        let count = usize::from(size.cells());
         let address = position.address;
-        cells::put_characters(&mut self.cells[..count], usize::from(address.get()), text);
+        self.cells
+            .put_characters(usize::from(address.get()), text);
         WritePosition::after_data(address.forward(text.len() as u16, size))
     }
 
     /// One order of a write.
-    fn execute(&mut self, order: Order, position: WritePosition) -> WritePosition
+    fn execute(&mut self, order: Order, position: WritePosition, size: Size) -> WritePosition
+        requires same { size ≡ self.old.size }
         requires proper { IsProper (cells_in self.old.size) order }
         requires address { position.address < cells_in self.old.size }
         ensures write { let write : WriteProgress = record { screen = self.old.screen; address = position.address; after_data = position.nulls } in
@@ -274,11 +277,13 @@ impl Buffer {
         match order {
             Order::Char(byte) => WritePosition::after_data(self.store(
                 address,
-                PackedCell::character(byte),
+                Cell::Char(byte),
+                size,
             )),
             Order::Sf(attr) => WritePosition::moved_to(self.store(
                 address,
-                PackedCell::new(Cell::Attr(attr)),
+                Cell::Attr(attr),
+                size,
             )),
             Order::Sba(address) => WritePosition::moved_to(address),
             Order::Ic => {
@@ -297,7 +302,8 @@ impl Buffer {
         }
     }
 
-    fn store(&mut self, address: Addr, cell: PackedCell) -> Addr
+    fn store(&mut self, address: Addr, cell: Cell, size: Size) -> Addr
+        requires same { size ≡ self.old.size }
         requires storable { IsStorableCell cell }
         requires address { address < cells_in self.old.size }
         ensures write { let write : WriteProgress = record { screen = self.old.screen; address = address; after_data = false } in
@@ -305,8 +311,10 @@ impl Buffer {
         ensures in_range { result < cells_in self.old.size }
         ensures size { self.new ≡ record self.old { screen = self.new.screen } }
     {
+        // For the contract: the cells are those of the size.
+        let _cells = self.cells();
         self.set_cell(address, cell);
-        address.next(self.size)
+        address.next(size)
     }
 
     fn place_cursor(&mut self, address: Addr)
@@ -328,8 +336,7 @@ impl Buffer {
     {
         let size = self.size;
         let count = cells::distance_to(address, stop, size);
-        let cells = usize::from(size.cells());
-        cells::fill(&mut self.cells[..cells], address, count, byte, size);
+        cells::fill(&mut self.cells, address, count, byte, size);
     }
 
     fn erase_up_to(&mut self, address: Addr, stop: Addr)
@@ -341,8 +348,7 @@ impl Buffer {
     {
         let size = self.size;
         let count = cells::distance_to(address, stop, size);
-        let cells = usize::from(size.cells());
-        cells::erase_unprotected_in(&mut self.cells[..cells], address, count, size);
+        cells::erase_unprotected_in(&mut self.cells, address, count, size);
     }
 
     fn tab(&mut self, position: WritePosition) -> WritePosition
@@ -370,10 +376,7 @@ impl Buffer {
         ensures { let old = self.old.screen.cells in
             self.new ≡ record self.old { screen = record self.old.screen { cells = filled address (prefix_len is_char (drop address old)) (Char 0) old } } }
     {
-        let size = self.size;
-        let count = usize::from(size.cells());
-        let cells = &mut self.cells[..count];
-        let ahead = cells::characters_ahead(cells, address);
-        cells::fill(cells, address, ahead, 0, size);
+        let ahead = cells::characters_ahead(&self.cells, address);
+        cells::fill(&mut self.cells, address, ahead, 0, self.size);
     }
 }

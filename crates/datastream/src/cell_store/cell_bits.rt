@@ -1,5 +1,5 @@
 //! A bit for each cell of a screen of any size, in words of 64.
-ghost use Rattle.std.specs.Prelude.{◌≡◌, ◌<◌, ◌≤◌, ◌+◌, ◌*◌, ◌/◌, ℕ, false, true, nat_eq, nat_lt, if◌then◌else◌, MatchOption};
+ghost use Rattle.std.specs.Prelude.{◌≡◌, ◌<◌, ◌≤◌, ◌+◌, ◌*◌, ◌/◌, ℕ, false, true, nat_eq, nat_lt, if◌then◌else◌, MatchOption, IfNone, IfSome};
 ghost use Rattle.codes3270.specs.Size.{most_cells};
 ghost use Rattle.std.specs.Int.{bit_at};
 ghost use Rattle.datastream.specs.CellBits.{bit_of, has_bit, is_within, word_count, AreBits};
@@ -83,6 +83,22 @@ impl CellBits {
             at = (index + 1) * BITS;
         }
         cells
+    }
+
+    /// The last cell up to one, itself included, whose bit is set.
+    pub fn last_to(&self, cell: usize) -> Option<usize>
+        requires { cell < most_cells }
+        ensures none { IfNone result ((other : ℕ) → other ≤ cell → has_bit self.now other ≡ false) }
+        ensures last { IfSome result (λ last. (last ≤ cell) × (has_bit self.now last ≡ true) × ((other : ℕ) → last < other → other ≤ cell → has_bit self.now other ≡ false)) }
+    {
+        let mut index = cell / BITS;
+        let mut word = self.words[index] & some_ones_below(cell % BITS + 1);
+        while word == 0 && index > 0 {
+            index -= 1;
+            word = self.words[index];
+        }
+        let place = last_in(word)?;
+        Some(index * BITS + place)
     }
 
     /// Sets the bits of the cells from one to another, or clears them.
@@ -205,6 +221,17 @@ fn first_in(word: u64, from: usize) -> Option<usize>
         None
     } else {
         Some(from + rest.trailing_zeros() as usize)
+    }
+}
+
+/// The last place at which a word's bit is set.
+fn last_in(word: u64) -> Option<usize>
+    ensures { MatchOption result (word ≡ 0) (λ last. (last < 64) × (bit_at word last ≡ 1) × ((place : ℕ) → last < place → place < 64 → bit_at word place ≡ 0)) }
+{
+    if word == 0 {
+        None
+    } else {
+        Some(BITS - 1 - word.leading_zeros() as usize)
     }
 }
 

@@ -1,8 +1,8 @@
 //! The cells of a screen, in a byte and a bit each.
-ghost use Rattle.std.specs.Prelude.{◌≡◌, ◌<◌, ◌≤◌, ◌+◌, ◌-◌, ◌++◌, ℕ, false, true, not, nat_eq, if◌then◌else◌, length, replicate, take, drop, slice_index_or, slice_set};
+ghost use Rattle.std.specs.Prelude.{◌≡◌, ◌<◌, ◌≤◌, ◌+◌, ◌-◌, ◌++◌, ℕ, false, true, not, nat_eq, if◌then◌else◌, length, replicate, take, drop, slice_index_or, slice_set, IfNone, IfSome};
 ghost use Rattle.codes3270.specs.Size.{cells_in, most_cells};
 ghost use Rattle.codes3270.specs.Attribute.{attr_of};
-ghost use Rattle.datastream.specs.CellBits.{has_bit, word_count, AreBits};
+ghost use Rattle.datastream.specs.CellBits.{has_bit, is_within, word_count, AreBits};
 ghost use Rattle.datastream.specs.CellCodes.{Packed, cell_of, code_in};
 ghost use Rattle.datastream.specs.Screen.{is_char};
 
@@ -150,6 +150,17 @@ impl PackedCells {
             .first_from(from, usize::from(self.size.cells()))
     }
 
+    /// The last attribute up to an address, itself included.
+    pub fn attribute_to(&self, at: usize) -> Option<usize>
+        requires { at < cells_in self.now.size }
+        ensures none { IfNone result ((other : ℕ) → other ≤ at → has_bit self.now.attributes other ≡ false) }
+        ensures last { IfSome result (λ last. (last ≤ at) × (has_bit self.now.attributes last ≡ true) × ((other : ℕ) → last < other → other ≤ at → has_bit self.now.attributes other ≡ false)) }
+    {
+        // For the contract: there is room for the screen.
+        let _cells = self.len();
+        self.attributes.last_to(at)
+    }
+
     /// The attribute at an address where one is.
     pub fn attribute_at(&self, at: usize) -> Attr
         requires placed { at < cells_in self.now.size }
@@ -166,6 +177,21 @@ impl PackedCells {
         ensures { self.new ≡ record self.old { codes = take from self.old.codes ++ (text.now ++ drop (from + length text.now) self.old.codes) } }
     {
         put_in(self.codes.as_mut_slice(), from, text);
+    }
+
+    /// Stores characters from an address on, whatever the cells had.
+    #[inline(always)]
+    pub fn store_characters(&mut self, from: usize, text: &[u8])
+        requires { from + length text.now ≤ cells_in self.old.size }
+        ensures size { self.new.size ≡ self.old.size }
+        ensures codes { self.new.codes ≡ take from self.old.codes ++ (text.now ++ drop (from + length text.now) self.old.codes) }
+        ensures attributes { (other : ℕ) → has_bit self.new.attributes other ≡ (if is_within from (from + length text.now) other then false else has_bit self.old.attributes other) }
+    {
+        // For the contract: there is room for the screen.
+        let _cells = self.len();
+        let to = from + text.len();
+        self.put_characters(from, text);
+        self.attributes.put_range(from, to, false);
     }
 
     /// Puts nulls in cells that have characters, from an address to another.

@@ -1,26 +1,23 @@
-use Rattle.std.proofs.Common.{ℕ, List, take}
+use Rattle.std.proofs.Common.{◌≡◌, ◌<◌, List, set, length, ap, arith}
+use Rattle.std.proofs.lemmas.List.{length-set}
 use Rattle.codes3270.specs.Size.{cells_in}
 use Rattle.codes3270.specs.declared.attribute.Cell.{Cell}
 use Rattle.presentation.specs.Sizes.{SizedScreen}
-use Rattle.presentation.proofs.Sized.{sized}
-use Rattle.std.proofs.Common.{set}
-use Rattle.std.proofs.lemmas.List.{length-set}
-use Rattle.datastream.proofs.Keeping.{take-set}
-use Rattle.presentation.proofs.Sized.{sized_with}
+use Rattle.presentation.proofs.Sized.{sized, changed_sized}
 use Rattle.presentation.proofs.Storable.{with_stored}
 use Rattle.presentation.proofs.buffer.Buffer.set_cell.Goals as goal
+
+pub set-requires : goal.set-requires
+set-requires c =
+    let same = ap (λ (s : SizedScreen). cells_in s.size) c.self.view_is in
+    omega (arith, same, c.get.ensures.value, c.requires.address, c.self.invariant.cells)
 
 pub invariant_of-self : goal.invariant_of-self
 invariant_of-self c =
     let i = c.self.inside in
-    let n : ℕ = cells_in i.size in
-    let seen : List Cell = take n i.cells in
-    let old : SizedScreen = sized i.model i.size i.cursor i.aid seen in
-    rw (take-set i.cells n c.get.result c.args.cell)
-    (sized_with old (record old.screen { cells = set seen c.get.result c.args.cell }) (length-set seen c.get.result c.args.cell)
-    (with_stored old.screen c.get.result c.args.cell c.requires.storable c.self.invariant.sendable) c.self.invariant)
+    let old : SizedScreen = sized i.model i.size i.cursor i.aid i.cells in
+    changed_sized old (set i.cells c.get.result c.args.cell) c.set.new.self i.cursor c.set.ensures (length-set i.cells c.get.result c.args.cell)
+    (with_stored old.screen c.get.result c.args.cell c.requires.storable c.self.invariant.sendable) c.self.invariant
 
 pub returns : goal.returns
-returns c =
-    let i = c.self.inside in
-    rw (take-set i.cells (cells_in i.size) c.get.result c.args.cell, c.get.ensures.value, ← c.self.view_is)
+returns c = rw (c.set.ensures, c.get.ensures.value, ← c.self.view_is)

@@ -1,0 +1,115 @@
+//! The cells of a screen.
+ghost use Rattle.std.specs.Prelude.{◌≡◌, ◌<◌, ◌≤◌, ◌+◌, ℕ, true, false, IfNone, IfSome, IsTrue, length, drop, map, replicate, slice_index_or, slice_set};
+ghost use Rattle.std.specs.List.{list_all, prefix_len};
+ghost use Rattle.codes3270.specs.Size.{cells_in, most_cells};
+ghost use Rattle.codes3270.specs.declared.attribute.Cell.TheVariants.{Char};
+ghost use Rattle.datastream.specs.CellCodes.{code_in};
+ghost use Rattle.datastream.specs.Screen.{IsGoverned, attribute_over, is_char, is_char_at};
+ghost use Rattle.presentation.specs.Runs.{placed};
+
+use codes3270::{Attr, Cell, Size};
+use datastream::{PackedCell, PackedCells};
+use std::marker::Model;
+
+/// The cells of a screen of any size, kept as a byte and a bit each. Contracts see their list.
+#[derive(Clone, Debug, Drop)]
+pub(crate) struct ScreenCells {
+    packed: PackedCells,
+}
+
+impl Model for ScreenCells {
+    ghost use Rattle.std.specs.Prelude.{◌≡◌, ◌≤◌, List, length};
+    ghost use Rattle.codes3270.specs.Size.{cells_in, most_cells};
+    ghost use Rattle.codes3270.specs.declared.attribute.Cell.{Cell};
+    ghost use Rattle.presentation.specs.Kept.{cells_of, AreCells};
+
+    ghost Value = { List Cell };
+
+    ghost view = { λ cells. cells_of cells.packed };
+
+    ghost invariant = { λ cells. AreCells cells.packed };
+}
+
+impl ScreenCells {
+    /// A null in each cell of a screen of this size.
+    pub(crate) fn nulls(size: Size) -> ScreenCells
+        ensures { result ≡ replicate (cells_in size) (Char 0) }
+    {
+        ScreenCells {
+            packed: PackedCells::filled(PackedCell::character(0), size),
+        }
+    }
+
+    /// A null in each cell of a screen of this size, which may be another than before.
+    pub(crate) fn clear(&mut self, size: Size)
+        ensures { self.new ≡ replicate (cells_in size) (Char 0) }
+    {
+        self.packed.clear(size);
+    }
+
+    /// How many cells there are.
+    pub(crate) fn len(&self) -> usize
+        ensures len { result ≡ length self.now }
+        ensures few { result ≤ most_cells }
+        ensures some { 0 < result }
+    {
+        self.packed.len()
+    }
+
+    /// What a cell holds.
+    #[inline(always)]
+    pub(crate) fn get(&self, at: usize) -> Cell
+        requires { at < length self.now }
+        ensures { result ≡ slice_index_or self.now at result }
+    {
+        self.packed.get(at)
+    }
+
+    /// Stores a cell.
+    #[inline(always)]
+    pub(crate) fn set(&mut self, at: usize, cell: Cell)
+        requires { at < length self.old }
+        ensures { self.new ≡ slice_set self.old at cell }
+    {
+        self.packed.set(at, PackedCell::new(cell));
+    }
+
+    /// Stores characters from an address on.
+    #[inline(always)]
+    pub(crate) fn put_characters(&mut self, from: usize, text: &[u8])
+        requires { from + length text.now ≤ length self.old }
+        ensures { self.new ≡ placed from text.now self.old }
+    {
+        self.packed.store_characters(from, text);
+    }
+
+    /// The codes of the characters, and those that attributes are written as.
+    pub(crate) fn codes(&self) -> &[u8]
+        ensures codes { result.now ≡ map code_in self.now }
+        ensures len { length result.now ≡ length self.now }
+    {
+        self.packed.codes()
+    }
+
+    /// The first attribute from an address on, or the number of cells.
+    pub(crate) fn attribute_from(&self, from: usize) -> usize
+        requires { from ≤ length self.now }
+        ensures place { result ≡ from + prefix_len is_char (drop from self.now) }
+        ensures within { result ≤ length self.now }
+    {
+        self.packed.attribute_from(from)
+    }
+
+    /// The attribute that governs a cell: the last up to it, itself included, or else the last of all. None if there is none.
+    pub(crate) fn governing(&self, at: usize) -> Option<usize>
+        requires { at < length self.now }
+        ensures none { IfNone result (IsTrue (list_all is_char self.now)) }
+        ensures governing { IfSome result (λ attr. IsGoverned self.now at attr) }
+        ensures within { IfSome result (λ attr. attr < length self.now) }
+    {
+        let last = self.packed.len() - 1;
+        self.packed
+            .attribute_to(at)
+            .or(self.packed.attribute_to(last))
+    }
+}
