@@ -47,5 +47,6 @@ pub mod Walks
 pub mod KeyWalks
 pub mod Ranges
 pub mod Settles
+pub mod Marks
 pub mod ShorterTexts
 pub mod Sizes

@@ -7,7 +7,9 @@ ghost use Rattle.shadow.specs.declared.known.Known.{Known as KnownCell};
 ghost use Rattle.shadow.specs.declared.cell_belief.CellBelief.{CellBelief as Held};
 ghost use Rattle.shadow.specs.declared.cell_belief.CellBelief.TheVariants.{Unknown, Known as KnownPlace};
 ghost use Rattle.shadow.specs.declared.cell_belief.BeforeWrite.{BeforeWrite as PriorCell};
+ghost use Rattle.shadow.specs.declared.mdt_state.MdtState.TheVariants.{Off as OffMark};
 ghost use Rattle.shadow.specs.InPlace.{cell_known, cells_known, beliefs_held, shadow_held, IsHeld};
+ghost use Rattle.shadow.specs.PackedBeliefs.{with_head};
 ghost use Rattle.shadow.specs.Since.{place_stored, place_off, knowledge_of, never, stored_past, cells_written, Since, is_touched, knowledge_after as telling_then, place_settled, settled};
 ghost use Rattle.shadow.specs.Stores.{is_plain, stores};
 ghost use Rattle.shadow.specs.Taken.{believed, known_after, known_stored, new_cell, resets as resets_marks, taken_erase};
@@ -140,14 +142,15 @@ fn store(places: &mut CellBeliefs, pasts: &mut [BeforeWrite], orders: Orders<'_>
     }
 }
 
-fn with_mark_off(place: CellBelief) -> CellBelief
-    ensures { result ≡ place_off place }
+/// What is known of the text of an attribute's field. Of a character it isn't looked at.
+fn knowledge_in(place: CellBelief) -> TextKnowledge
+    ensures { with_head OffMark result place ≡ place_off place }
 {
     match place {
-        CellBelief::Attr(attr, _, knowledge) => CellBelief::Attr(attr, MdtState::Off, knowledge),
-        CellBelief::Known(_) => place,
-        CellBelief::Told(_) => place,
-        CellBelief::Unknown => place,
+        CellBelief::Attr(_, _, knowledge) => knowledge,
+        CellBelief::Known(_) => TextKnowledge::Cells,
+        CellBelief::Told(_) => TextKnowledge::Cells,
+        CellBelief::Unknown => TextKnowledge::Cells,
     }
 }
 
@@ -156,9 +159,12 @@ fn marks_off(places: &mut CellBeliefs)
     ensures marks { places.new ≡ map place_off places.old }
     ensures size { length places.new ≡ length places.old }
 {
-    for index in 0..places.len() {
-        let place = places.get(index);
-        places.set(index, with_mark_off(place));
+    let cells = places.len();
+    let mut place = places.attribute_from(0);
+    while place < cells {
+        let knowledge = knowledge_in(places.attribute_at(place));
+        places.set_head(place, MdtState::Off, knowledge);
+        place = places.attribute_from(place + 1);
     }
 }
 
