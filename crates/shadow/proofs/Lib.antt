@@ -48,5 +48,7 @@ pub mod KeyWalks
 pub mod Ranges
 pub mod Settles
 pub mod Marks
+pub mod HeldRuns
+pub mod StoredRuns
 pub mod ShorterTexts
 pub mod Sizes

@@ -1,9 +1,10 @@
 //! Whether a screen that was read can be the one that is believed.
-ghost use Rattle.std.specs.Prelude.{◌≡◌, ◌<◌, ◌+◌, ◌++◌, ◌∷◌, [], MatchOption, length, drop, slice_index_or};
+ghost use Rattle.std.specs.Prelude.{◌≡◌, ◌<◌, ◌≤◌, ◌+◌, ◌++◌, ◌∷◌, [], MatchOption, length, drop, slice_index_or};
 ghost use Rattle.codes3270.specs.Size.{cells_in};
 ghost use Rattle.datastream.specs.Fields.{fields as fields_in};
 ghost use Rattle.shadow.specs.declared.cell_belief.CellBelief.TheVariants.{Unknown};
 ghost use Rattle.shadow.specs.InPlace.{chars_known, beliefs_held, known_text, misses_here, other_here, IsHeld};
+ghost use Rattle.shadow.specs.Runs.{placed, other_next};
 ghost use Rattle.shadow.specs.Since.{place_stored, places_stored};
 ghost use Rattle.shadow.specs.Seen.{differs, others, same_attr as are_same};
 
@@ -97,22 +98,52 @@ fn is_other(
     }
 }
 
+/// Whether the next cell that was read shows it; `place`: its address. At the end there is none.
+fn is_other_at(places: &CellBeliefs, place: usize, rest: &mut Cells<'_>, whole: &Cells<'_>) -> bool
+    requires { place + length rest.old ≡ length places.now }
+    ensures other { result ≡ other_next places.now place rest.old whole.now }
+    ensures left { rest.new ≡ drop 1 rest.old }
+{
+    match rest.next() {
+        Some(cell) => is_other(places, place, cell, rest, whole),
+        None => false,
+    }
+}
+
 /// Whether the fields that were read aren't those that are believed.
 pub(crate) fn any_other(places: &CellBeliefs, cells: Cells<'_>) -> bool
     requires held { IsHeld places.now }
     requires whole { length cells ≡ length places.now }
     ensures { result ≡ others (beliefs_held places.now 0 places.now) (fields_in cells.entry) }
 {
+    let count = places.len();
     let mut rest = cells.copy();
-    for place in 0..places.len() {
-        let Some(cell) = rest.next() else {
-            return false;
-        };
-        if is_other(places, place, cell, &rest, &cells) {
+    let mut from = 0;
+    while from < count {
+        let place = places.attribute_from(from);
+        if from + rest.characters().len() != place {
             return true;
         }
+        if is_other_at(places, place, &mut rest, &cells) {
+            return true;
+        }
+        from = place + 1;
     }
     false
+}
+
+/// Puts characters that were read from an address on, and answers the address behind them.
+#[inline(always)]
+fn put_run(places: &mut CellBeliefs, from: usize, text: &[u8]) -> usize
+    requires { from + length text.now ≤ length places.old }
+    ensures places { places.new ≡ placed from text.now places.old }
+    ensures size { length places.new ≡ length places.old }
+    ensures behind { result ≡ from + length text.now }
+{
+    // For the contract: there is room for the screen.
+    let _cells = places.len();
+    places.hold_characters(from, text);
+    from + text.len()
 }
 
 /// Puts the places of a screen of this size that was read.
@@ -123,9 +154,10 @@ pub(crate) fn put_read(places: &mut CellBeliefs, cells: Cells<'_>, size: Size)
     places.clear(size);
     // For the contract: there is room for the screen.
     let _cells = size.cells();
-    let mut at = 0;
-    for cell in cells {
+    let mut rest = cells;
+    let mut at = put_run(places, 0, rest.characters());
+    while let Some(cell) = rest.next() {
         places.set(at, place_of(cell));
-        at += 1;
+        at = put_run(places, at + 1, rest.characters());
     }
 }
