@@ -50,5 +50,6 @@ pub mod Settles
 pub mod Marks
 pub mod HeldRuns
 pub mod StoredRuns
+pub mod KnownRuns
 pub mod ShorterTexts
 pub mod Sizes

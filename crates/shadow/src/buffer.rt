@@ -76,6 +76,22 @@ fn are_others(known: Ahead<'_>, rest: Cells<'_>, whole: Cells<'_>) -> bool
     next_char(&mut rest, &mut whole).is_some()
 }
 
+/// Whether the characters of the field whose attribute is at a place aren't those that were read; `rest`: the cells that were read
+/// behind its attribute. Mostly they are known, and the same.
+fn is_other_text(places: &CellBeliefs, place: usize, rest: &Cells<'_>, whole: &Cells<'_>) -> bool
+    requires { place < length places.now }
+    ensures { result ≡ differs (chars_known (drop (place + 1) places.now ++ places.now)) (known_text (chars_known (places_stored rest.now ++ places_stored whole.now))) }
+{
+    // For the contract: there is room for the screen.
+    let _cells = places.len();
+    let mut ahead = rest.copy();
+    let text = ahead.characters();
+    if ahead.next().is_some() && places.has_text(place + 1, text) {
+        return false;
+    }
+    are_others(places.ahead(place), rest.copy(), whole.copy())
+}
+
 /// Whether a cell that was read shows that a screen isn't the one that is believed; `rest`: those after it.
 fn is_other(
     places: &CellBeliefs,
@@ -90,7 +106,7 @@ fn is_other(
     match (places.get(place), cell) {
         (CellBelief::Attr(believed, _, _), Cell::Attr(attr)) => {
             !same_attr(attr.with_mdt(false), believed)
-                || believed.protected && are_others(places.ahead(place), rest.copy(), whole.copy())
+                || believed.protected && is_other_text(places, place, rest, whole)
         }
         (CellBelief::Attr(_, _, _), Cell::Char(_)) => true,
         (_, Cell::Attr(_)) => true,

@@ -1,5 +1,5 @@
 //! The places of a screen of any size, kept by bits and bytes.
-ghost use Rattle.std.specs.Prelude.{◌≡◌, ◌<◌, ◌≤◌, ◌+◌, ◌++◌, ◌∷◌, [], ◌*◌, ◌-◌, ℕ, false, not, length, replicate, slice_index_or, slice_set, take, drop};
+ghost use Rattle.std.specs.Prelude.{◌≡◌, ◌<◌, ◌≤◌, ◌+◌, ◌++◌, ◌∷◌, [], ◌*◌, ◌-◌, ℕ, true, false, Some, not, length, map, replicate, slice_index_or, slice_set, take, drop};
 ghost use Rattle.codes3270.specs.Size.{cells_in, most_cells};
 ghost use Rattle.datastream.specs.CellBits.{has_bit};
 ghost use Rattle.datastream.specs.CellCodes.{code_in};
@@ -13,7 +13,7 @@ ghost use Rattle.shadow.specs.PackedBeliefs.{head_of as head_held, with_head, is
 
 use crate::cell_belief::{CellBelief, TextKnowledge};
 use crate::mdt_state::MdtState;
-use crate::searching::{BITS, clear_bits, differing};
+use crate::searching::{BITS, are_same, clear_bits, differing};
 use codes3270::{Cell, MOST_CELLS, Size};
 use datastream::{CellBits, HasCells, PackedCell, PackedCells, Ring};
 use std::marker::Model;
@@ -131,6 +131,32 @@ fn attribute_within(cells: &PackedCells, from: usize, to: usize) -> usize
         at += count;
     }
     to
+}
+
+/// Whether the bits of the cells from one to another are all set.
+fn are_set(bits: &CellBits, from: usize, to: usize) -> bool
+    requires { to ≤ most_cells }
+    ensures { result ≡ true → (cell : ℕ) → from ≤ cell → cell < to → has_bit bits.now cell ≡ true }
+{
+    let mut at = from;
+    while at < to {
+        let place = at % BITS;
+        let count = clear_bits(!bits.word(at / BITS), place);
+        if place + count < BITS && at + count < to {
+            return false;
+        }
+        at += count;
+    }
+    true
+}
+
+/// The codes of the cells from one to another.
+fn codes_between(cells: &PackedCells, from: usize, to: usize) -> &[u8]
+    requires order { from ≤ to }
+    requires few { to ≤ cells_in cells.now.size }
+    ensures { result.now ≡ take (to - from) (drop from cells.now.codes) }
+{
+    &cells.codes()[from..to]
 }
 
 /// Puts nulls in place of the attributes from an address to another.
@@ -357,6 +383,23 @@ impl CellBeliefs {
         clear_attributes(&mut self.cells, from, to);
         self.cells.put_characters(from, text);
         self.known.put_range(from, to, true);
+    }
+
+    /// Whether these characters, all of them known, are those from an address on before the next attribute. Where no attribute comes
+    /// up to the last place, that isn't said.
+    pub(crate) fn has_text(&self, from: usize, text: &[u8]) -> bool
+        requires { from ≤ length self.now }
+        ensures { result ≡ true → (chars_known (drop from self.now) ≡ map Some text.now) × (from + length text.now < length self.now) }
+    {
+        let cells = self.len();
+        let to = self.attribute_from(from);
+        if cells <= to {
+            return false;
+        }
+        if !are_set(&self.known, from, to) {
+            return false;
+        }
+        are_same(codes_between(&self.cells, from, to), text)
     }
 
     /// A bit for each cell of a word, set unless the cell is known to have the character of these bytes.

@@ -55,7 +55,7 @@ fn eight(bytes: &[u8], cell: usize) -> &[u8]
     &bytes[cell..end]
 }
 
-fn are_same(one: &[u8], other: &[u8]) -> bool
+pub(crate) fn are_same(one: &[u8], other: &[u8]) -> bool
     ensures { result ≡ true → one.now ≡ other.now }
 {
     one == other
