@@ -1,13 +1,13 @@
 -- Characters one behind the other.
 use Rattle.std.proofs.Common.{◌≡◌, ℕ, ◌+◌, ◌*◌, ◌-◌, ◌/◌, ◌%◌, ◌^◌, ◌<◌, ◌≤◌, suc, zero, true, false, List, [], ◌∷◌, ◌++◌, length, drop, get_or, refl, ap, sym, subst, take, Result, Ok, Err, ◌∙◌, arith, inl, inr}
-use Rattle.std.proofs.lemmas.List.{length-drop, drop_more as drop_next}
+use Rattle.std.proofs.lemmas.List.{length-drop, drop_more as drop_next, get_or-drop}
 use Rattle.std.specs.Int.Count.{trailing_of_zero}
 use Rattle.std.proofs.lemmas.Nat.{or_lt, and_le_r, trailing_le}
 use Rattle.std.proofs.Math.Nat.{div-le_self}
 use Rattle.std.specs.Prelude.{min, bit_and, bit_or}
 use Rattle.std.specs.List.{prefix_len}
 use Rattle.std.specs.Int.{bit_at, bit_not, w64, trailing_zeros}
-use Rattle.std.proofs.lemmas.Bool.{cases_lt, cases_eq, cases_Bool, false≢true}
+use Rattle.std.proofs.lemmas.Bool.{cases_lt, cases_eq, cases_Bool, and_parts, false≢true}
 use Rattle.std.proofs.lemmas.Bool.Decides.{nat_tests}
 use Rattle.std.proofs.lemmas.Nat.Bits.{bit_at-zero, bit_at-suc, bit_at_and, bit_at_or, bit_at_not, bit_at-trailing_zeros, bit_at_above, bit_at_cat_low, bit_at_cat_high}
 use Rattle.codes3270.specs.Storable.{is_storable}
@@ -19,6 +19,8 @@ use Rattle.datastream.proofs.Front.{IsRead, order_read, order_again}
 use Rattle.datastream.proofs.Sequences.{IsReadTo, reads_on, reads_nothing, shorter, orders_in-next}
 use Rattle.datastream.specs.ByteWords.{word, IsWordOf}
 use Rattle.datastream.specs.Grammar.{start_field}
+use Rattle.datastream.specs.InboundReading.{PassesText}
+use Rattle.datastream.specs.InboundText.{is_text_char}
 
 -- ---- what is left behind characters
 
@@ -27,6 +29,15 @@ behind text = drop (prefix_len is_storable text) text
 
 drop_more : {A : Type 0} (k : ℕ) (x : A) (xs : List A) → drop (1 + k) (x ∷ xs) ≡ drop k xs
 drop_more k x xs = let more : 1 + k ≡ suc k = omega arith in ap (λ n. drop n (x ∷ xs)) more
+
+drop_drop : {A : Type 0} (n m : ℕ) (xs : List A) → drop m (drop n xs) ≡ drop (n + m) xs
+drop_drop zero m xs = let same : m ≡ 0 + m = omega arith in ap (λ k. drop k xs) same
+drop_drop {A} (suc n) m [] = none m ∙ sym (none (suc n + m))
+  where
+    none : (k : ℕ) → drop {A = A} k [] ≡ []
+    none zero = refl
+    none (suc k) = refl
+drop_drop (suc n) m (x ∷ xs) = let more : suc (n + m) ≡ suc n + m = omega arith in drop_drop n m xs ∙ ap (λ k. drop k (x ∷ xs)) more
 
 take_more : {A : Type 0} (k : ℕ) (x : A) (xs : List A) → take (1 + k) (x ∷ xs) ≡ x ∷ take k xs
 take_more k x xs = let more : 1 + k ≡ suc k = omega arith in ap (λ n. take n (x ∷ xs)) more
@@ -43,6 +54,24 @@ behind_count zero text each few = refl
 behind_count (suc n) [] each few = absurd (omega arith)
 behind_count (suc n) (byte ∷ bytes) each few =
     behind_count n bytes (λ place less. each (suc place) (omega arith)) (omega arith) ∙ sym (behind_first byte bytes (each 0 (omega arith)))
+
+pub behind_text : (text rest : List ℕ) → PassesText text rest → behind rest ≡ behind text
+behind_text text rest (count, few, each, is) = ap behind is ∙ behind_count count text (λ place less. (and_parts _ _ (each place less)).0) few
+
+-- some more of the text
+pub passes_on : (text rest : List ℕ) (count : ℕ) → PassesText text rest → count ≤ length rest → ((place : ℕ) → place < count → is_text_char (get_or rest place 0) ≡ true) → PassesText text (drop count rest)
+passes_on text rest more (count, few, each, is) fits others =
+    let left : length rest ≡ length text - count = ap length is ∙ length-drop count text in (
+      count + more,
+      omega (arith, fits, few, left),
+      λ place less. elim (cases_lt place count) [
+        | inl before ↦ each place before
+        | inr after ↦
+            let there : count + (place - count) ≡ place = omega arith in
+            ap is_text_char (ap (λ (n : ℕ). get_or text n 0) (sym there) ∙ sym (get_or-drop count text (place - count) 0) ∙ ap (λ (t : List ℕ). get_or t (place - count) 0) (sym is)) ∙ others (place - count) (omega arith)
+      ],
+      ap (drop more) is ∙ drop_drop count more text,
+    )
 
 -- ---- the bits of a word of bytes
 
@@ -127,8 +156,11 @@ high_in_word bytes place few eight fits less =
       | inr high ↦ high
     ]
 
-pub storable_high : (byte : ℕ) → 64 ≤ byte → byte < 256 → is_storable byte ≡ true
+storable_high : (byte : ℕ) → 64 ≤ byte → byte < 256 → is_storable byte ≡ true
 storable_high byte high few = grind (arith, nat_tests)
+
+text_high : (byte : ℕ) → 64 ≤ byte → byte < 256 → is_text_char byte ≡ true
+text_high byte high few = grind (arith, nat_tests)
 
 -- ---- the first eight bytes of a text
 
@@ -154,12 +186,12 @@ eight_are text number small is = record {
   number = is;
 }
 
-pub eight_storable : (text : List ℕ) (count : ℕ) → ((place : ℕ) → get_or text place 0 < 256) → count ≤ 8
+pub eight_text : (text : List ℕ) (count : ℕ) → ((place : ℕ) → get_or text place 0 < 256) → count ≤ 8
     → ((place : ℕ) → place < count → 64 ≤ get_or (eight_of text) place 0)
-    → (place : ℕ) → place < count → is_storable (get_or text place 0) ≡ true
-eight_storable text count small few high place less =
+    → (place : ℕ) → place < count → is_text_char (get_or text place 0) ≡ true
+eight_text text count small few high place less =
     let same : get_or (eight_of text) place 0 ≡ get_or text place 0 = eight_at text place (omega (arith, few, less)) in
-    storable_high (get_or text place 0) (omega (arith, same, high place less)) (small place)
+    text_high (get_or text place 0) (omega (arith, same, high place less)) (small place)
 
 -- the two lowest bytes of a word
 two_lowest : (n others a b : ℕ) → a < 256 → b < 256 → n ≡ (others * 256 + b) * 256 + a → (n % 256 ≡ a) × (n % 65536 / 256 ≡ b)

@@ -11,7 +11,7 @@ use Rattle.datastream.specs.declared.inbound_part.InboundFault.TheVariants.{Shor
 use Rattle.datastream.specs.InboundText.{IsPart, AreParts, IsProperPart, IsWhole, HasRoom, IsNoPart, HasPartFault}
 use Rattle.datastream.specs.InboundText.IsNoTextPart.{out_of_place as text_out_of_place, cut_address, address_too_large}
 use Rattle.datastream.specs.InboundText.HasPartFault.{no_part, too_many}
-use Rattle.datastream.specs.InboundReading.{part_at, and_parts, parts_within, parts_in}
+use Rattle.datastream.specs.InboundReading.{part_at, and_parts, parts_within, parts_in, IsReadTo}
 use Rattle.datastream.proofs.InboundFront.{IsRead, cell_read, part_read, part_again, part_fault, part_at-nil, part_proper}
 
 -- ---- the parts that are left, step by step
@@ -191,14 +191,10 @@ module _ (size : ℕ) where
   AreParts-push form (p ∷ parts) part bytes front (a, b, first, others, is) last =
       (a, b ++ front, first, AreParts-push form parts part b front others last, ap (λ c. c ++ front) is ∙ append_assoc a b front)
 
-  -- `count` parts were read
-  abbrev pub IsReadTo : Form → List ℕ → ℕ → List ℕ → Type 0
-  IsReadTo form text count rest = (parts : List Part) × (front : List ℕ) × AreParts size form parts front × (length parts ≡ count) × (text ≡ front ++ rest)
-
-  pub reads_nothing : (form : Form) (text : List ℕ) → IsReadTo form text 0 text
+  pub reads_nothing : (form : Form) (text : List ℕ) → IsReadTo size form text 0 text
   reads_nothing form text = ([], [], refl, refl, refl)
 
-  pub reads_on : (form : Form) (text : List ℕ) (count : ℕ) (bytes : List ℕ) (part : Part) (rest : List ℕ) → IsReadTo form text count bytes → part_at size form bytes ≡ Ok (part, rest) → IsReadTo form text (count + 1) rest
+  pub reads_on : (form : Form) (text : List ℕ) (count : ℕ) (bytes : List ℕ) (part : Part) (rest : List ℕ) → IsReadTo size form text count bytes → part_at size form bytes ≡ Ok (part, rest) → IsReadTo size form text (count + 1) rest
   reads_on form text count [] part rest so_far found = nothing_at_end size form part rest found
   reads_on form text count (byte ∷ bytes) part rest (parts, front, are, counted, is) found =
       let read : IsRead size form (byte ∷ bytes) (Ok (part, rest)) = subst (λ r. IsRead size form (byte ∷ bytes) r) found (part_read size form byte bytes) in (

@@ -1,7 +1,7 @@
 -- Fields of inbound data as slices of its bytes.
 use Rattle.std.proofs.Common.{◌≡◌, ℕ, ◌+◌, ◌-◌, ◌^◌, ◌<◌, ◌≤◌, zero, suc, List, [], ◌∷◌, ◌++◌, length, get_or, take, drop, Bool, true, false, cond, refl, ap, sym, ◌∙◌, subst, arith, ◌⊎◌, inl, inr, Result, Ok, Err}
 use Rattle.std.specs.List.{prefix_len}
-use Rattle.std.proofs.lemmas.Bool.{and_parts, eqb-true, false≢true}
+use Rattle.std.proofs.lemmas.Bool.{and_parts}
 use Rattle.std.proofs.lemmas.List.{take_all}
 use Rattle.codes3270.specs.Address.{address_of}
 use Rattle.codes3270.specs.Storable.{is_storable}
@@ -12,11 +12,11 @@ use Rattle.datastream.specs.declared.inbound_part.Part.TheVariants.{At, Char, At
 use Rattle.datastream.specs.declared.inbound_part.InboundFault.{InboundFault}
 use Rattle.datastream.specs.Grammar.{start_field, set_buffer_address}
 use Rattle.datastream.specs.InboundText.{IsPart, AreParts}
-use Rattle.datastream.specs.InboundReading.{and_parts as and_others, part_at, parts_within, parts_in, begins_no_address}
+use Rattle.datastream.specs.InboundReading.{and_parts as and_others, part_at, parts_within, parts_in}
 use Rattle.datastream.specs.InboundFields.{Returned, leading_text, returned, cells_sent, cell_of_part, IsStorableCell}
 use Rattle.codes3270.specs.declared.attribute.Cell.{Cell}
 use Rattle.codes3270.specs.declared.attribute.Cell.TheVariants.{Char as CharCell, Attr as AttrCell}
-use Rattle.std.specs.Prelude.{All, ◌==◌, not}
+use Rattle.std.specs.Prelude.{All}
 use Rattle.std.proofs.Common.{Some}
 use Rattle.std.proofs.lemmas.List.Elements.{All-head, All-tail, All-nil, All-cons}
 use Rattle.datastream.specs.InboundText.{IsProperPart}
@@ -225,42 +225,7 @@ module _ (size : ℕ) where
       (subst (λ c. IsStep size text c (drop (prefix_len is_storable rest) rest) (address_of high low)) (sym is_chars)
       (next_field text fields mark high low rest are is_fields is)))
 
--- a text's characters end where the next address begins
-begins_none : (char : ℕ) → is_storable char ≡ true → begins_no_address char ≡ true
-begins_none char is = cases (char == set_buffer_address) refl
-  where
-    cases : (b : Bool) → (char == set_buffer_address) ≡ b → not (char == set_buffer_address) ≡ true
-    cases true e = absurd (false≢true (ap is_storable (sym (eqb-true char set_buffer_address e)) ∙ is))
-    cases false e = ap not e
-
 module _ (size : ℕ) where
-  same_prefix : (parts : List Part) (text : List ℕ) → AreParts size Modified parts text → prefix_len begins_no_address text ≡ prefix_len is_storable text
-  same_prefix [] text is = ap (prefix_len begins_no_address) is ∙ sym (ap (prefix_len is_storable) is)
-  same_prefix (At address ∷ parts) text (front, back, (high, low, stands, first), others, is) =
-      let whole : text ≡ set_buffer_address ∷ high ∷ low ∷ back = is ∙ ap (λ (f : List ℕ). f ++ back) first in
-      ap (prefix_len begins_no_address) whole ∙ sym (ap (prefix_len is_storable) whole)
-  same_prefix (Attr attr ∷ parts) text (front, back, none, others, is) = absurd none
-  same_prefix (Char char ∷ parts) text (front, back, (stands, first), others, is) =
-      let whole : text ≡ char ∷ back = is ∙ ap (λ (f : List ℕ). f ++ back) first in
-      let storable : is_storable char ≡ true = (and_parts _ _ stands).0 in
-      ap (prefix_len begins_no_address) whole
-      ∙ cond_when (begins_no_address char) (1 + prefix_len begins_no_address back) 0 (begins_none char storable)
-      ∙ ap (λ (n : ℕ). 1 + n) (same_prefix parts back others)
-      ∙ sym (cond_when (is_storable char) (1 + prefix_len is_storable back) 0 storable)
-      ∙ sym (ap (prefix_len is_storable) whole)
-
-  pub characters_before_address : (text : List ℕ) (mark high low : ℕ) (rest : List ℕ) → AreFields size text → prefix_len is_storable text ≡ 0 → text ≡ mark ∷ high ∷ low ∷ rest
-      → prefix_len begins_no_address rest ≡ prefix_len is_storable rest
-  characters_before_address text mark high low rest are start is =
-      let parts : List Part = parts_in size Modified text in
-      let behind : AreParts size Modified (past_lead parts) text = subst (λ (b : List ℕ). AreParts size Modified (past_lead parts) b) (sym (from_start text start)) (split size Modified parts text are).1 in
-      elim (ends_or_next size (past_lead parts) text (starts_field parts) behind) [
-        | inl (none, empty) ↦ empty_or_three text mark high low rest empty is
-        | inr next ↦
-            let same = same_cons mark high low set_buffer_address next.high next.low rest next.back (sym is ∙ next.bytes_are) in
-            same_prefix next.others rest (subst (λ (b : List ℕ). AreParts size Modified next.others b) (sym same.2) next.are)
-      ]
-
   pub no_field : (text fields : List ℕ) → AreFields size text → fields ≡ drop (prefix_len is_storable text) text → length fields < 3 → returned (parts_in size Modified text) ≡ []
   no_field text fields are is_fields short =
       let parts : List Part = parts_in size Modified text in

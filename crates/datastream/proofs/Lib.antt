@@ -19,6 +19,7 @@ pub mod InboundData
 pub mod InboundViews
 pub mod InboundSent
 pub mod InboundSlices
+pub mod InboundRuns
 pub mod Round
 pub mod CharacterRuns
 pub mod Keeping

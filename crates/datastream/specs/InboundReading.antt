@@ -1,5 +1,5 @@
 -- Reading inbound data from left to right (our profile): what a value that borrows the bytes has still to give.
-use Rattle.std.specs.Prelude.{◌≡◌, ℕ, zero, suc, Bool, not, List, [], ◌∷◌, length, Result, Ok, Err, nat_lt, ◌==◌, if◌then◌else◌}
+use Rattle.std.specs.Prelude.{◌≡◌, ◌<◌, ◌≤◌, ℕ, zero, suc, true, List, [], ◌∷◌, ◌++◌, length, drop, slice_index_or, Result, Ok, Err, nat_lt, ◌==◌, if◌then◌else◌}
 use Rattle.codes3270.specs.Address.{address_of}
 use Rattle.codes3270.specs.Attribute.{attr_of}
 use Rattle.codes3270.specs.Storable.{is_storable}
@@ -10,7 +10,7 @@ use Rattle.datastream.specs.declared.inbound_part.Part.TheVariants.{At, Char, At
 use Rattle.datastream.specs.declared.inbound_part.InboundFault.{InboundFault}
 use Rattle.datastream.specs.declared.inbound_part.InboundFault.TheVariants.{Short, BadAddress, BadForm}
 use Rattle.datastream.specs.Grammar.{start_field, set_buffer_address}
-use Rattle.datastream.specs.InboundText.{is_text_char}
+use Rattle.datastream.specs.InboundText.{is_text_char, AreParts}
 
 -- what a function returned, seen by view, is what reading gives
 abbrev pub Gives : {X Y : Type 0} → (X → Y) → Result X InboundFault → Result Y InboundFault → Type 0
@@ -66,6 +66,13 @@ parts_within size form (suc n) text = and_parts (parts_within size form n) (part
 unfoldable pub parts_in : ℕ → Form → List ℕ → List Part
 parts_in size form text = parts_within size form (length text) text
 
--- a byte that begins no address
-abbrev pub begins_no_address : ℕ → Bool
-begins_no_address byte = not (byte == set_buffer_address)
+-- ---- for private functions
+
+-- the bytes begin with `count` parts, and then comes `rest`
+abbrev pub IsReadTo : ℕ → Form → List ℕ → ℕ → List ℕ → Type 0
+IsReadTo size form text count rest = (parts : List Part) × (front : List ℕ) × AreParts size form parts front × (length parts ≡ count) × (text ≡ front ++ rest)
+
+-- the bytes begin with characters, none of which is null, and then comes `rest`
+abbrev pub PassesText : List ℕ → List ℕ → Type 0
+PassesText text rest =
+    (count : ℕ) × (count ≤ length text) × ((place : ℕ) → place < count → is_text_char (slice_index_or text place 0) ≡ true) × (rest ≡ drop count text)

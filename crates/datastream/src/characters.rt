@@ -4,6 +4,8 @@ ghost use Rattle.std.specs.List.{prefix_len};
 ghost use Rattle.codes3270.specs.Storable.{is_storable};
 ghost use Rattle.datastream.specs.ByteWords.{word, IsWordOf};
 ghost use Rattle.datastream.specs.Grammar.{start_field};
+ghost use Rattle.datastream.specs.InboundText.{is_text_char};
+ghost use Rattle.datastream.specs.InboundReading.{PassesText};
 
 use crate::order_codes::START_FIELD;
 use codes3270::storable;
@@ -44,7 +46,7 @@ fn count_high(word: u64) -> usize
 #[inline(always)]
 fn count_in_word(text: &[u8]) -> usize
     ensures bound { result ≤ length text.now }
-    ensures storable { (place : ℕ) → place < result → is_storable (slice_index_or text.now place 0) ≡ true }
+    ensures text { (place : ℕ) → place < result → is_text_char (slice_index_or text.now place 0) ≡ true }
 {
     match text {
         [a, b, c, d, e, f, g, h, ..] => count_high(word_of([*a, *b, *c, *d, *e, *f, *g, *h])),
@@ -61,10 +63,10 @@ fn bytes_from(text: &[u8], place: usize) -> &[u8]
     &text[place..]
 }
 
-/// What is left of a text behind some of its first characters.
+/// What is left of a text behind some of its first characters, none of which is null.
 #[inline(always)]
-fn behind_words(text: &[u8]) -> &[u8]
-    ensures { drop (prefix_len is_storable result.now) result.now ≡ drop (prefix_len is_storable text.now) text.now }
+pub(crate) fn behind_words(text: &[u8]) -> &[u8]
+    ensures { PassesText text.now result.now }
 {
     let mut rest = text;
     let mut count = count_in_word(rest);

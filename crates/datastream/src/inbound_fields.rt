@@ -1,11 +1,11 @@
 //! The fields of inbound data, as slices of its bytes.
-ghost use Rattle.std.specs.Prelude.{◌≡◌, ◌≤◌, length, take, drop};
+ghost use Rattle.std.specs.Prelude.{◌≡◌, take, drop};
 ghost use Rattle.std.specs.List.{prefix_len};
 ghost use Rattle.std.specs.Iterator.{YieldsFirstBy, item_count};
-ghost use Rattle.datastream.specs.InboundReading.{begins_no_address};
+ghost use Rattle.codes3270.specs.Storable.{is_storable};
 ghost use Rattle.datastream.specs.InboundReturned.{returned_of_field};
 
-use crate::order_codes::SET_BUFFER_ADDRESS;
+use crate::characters::count_characters;
 use codes3270::{Addr, Size, addr_from_bytes};
 use std::marker::Model;
 
@@ -63,20 +63,10 @@ impl<'a> Iterator for ReturnedFields<'a> {
     }
 }
 
-/// How many bytes come before the next address.
-fn count_before_address(text: &[u8]) -> usize
-    ensures value { result ≡ prefix_len begins_no_address text.now }
-    ensures bound { result ≤ length text.now }
-{
-    text.iter()
-        .take_while(|byte| **byte != SET_BUFFER_ADDRESS)
-        .count()
-}
-
 /// A field's characters, and the bytes from the next address on.
 fn split_field(text: &[u8]) -> (&[u8], &[u8])
-    ensures characters { result.0.now ≡ take (prefix_len begins_no_address text.now) text.now }
-    ensures rest { result.1.now ≡ drop (prefix_len begins_no_address text.now) text.now }
+    ensures characters { result.0.now ≡ take (prefix_len is_storable text.now) text.now }
+    ensures rest { result.1.now ≡ drop (prefix_len is_storable text.now) text.now }
 {
-    text.split_at(count_before_address(text))
+    text.split_at(count_characters(text))
 }

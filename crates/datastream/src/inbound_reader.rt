@@ -1,11 +1,13 @@
 //! Reading the parts of inbound data.
-ghost use Rattle.std.specs.Prelude.{◌≡◌, ⊤, List, MatchResult};
+ghost use Rattle.std.specs.Prelude.{◌≡◌, ◌<◌, ◌≤◌, ⊤, ℕ, List, Err, MatchResult, drop, length};
 ghost use Rattle.std.specs.Iterator.{YieldsFirst, item_count};
 ghost use Rattle.codes3270.specs.Size.{cells_in};
 ghost use Rattle.datastream.specs.declared.inbound_part.Form.TheVariants.{Buffer};
 ghost use Rattle.datastream.specs.InboundText.{AreParts, IsWhole, HasPartFault};
-ghost use Rattle.datastream.specs.InboundReading.{Gives, address_at, attribute_at, text_part_at, cell_part_at, part_at, parts_in};
+ghost use Rattle.datastream.specs.InboundReading.{Gives, address_at, attribute_at, text_part_at, cell_part_at, part_at, parts_in, IsReadTo};
+ghost use Rattle.datastream.specs.Screen.{text_before_attribute};
 
+use crate::characters::{behind_words, count_characters};
 use crate::inbound_part::{Form, InboundFault, Part};
 use crate::order_codes::{SET_BUFFER_ADDRESS, START_FIELD};
 use codes3270::{Attr, Cell, Size, addr_from_bytes, storable};
@@ -77,6 +79,17 @@ impl<'a> Cells<'a> {
             size: self.size,
             text: self.text,
         }
+    }
+
+    /// Takes the characters before the next attribute.
+    #[inline(always)]
+    pub fn characters(&mut self) -> &'a [u8]
+        ensures characters { result.now ≡ text_before_attribute self.old }
+        ensures left { self.new ≡ drop (length result.now) self.old }
+    {
+        let (characters, others) = self.text.split_at(count_characters(self.text));
+        self.text = others;
+        characters
     }
 }
 
@@ -174,14 +187,31 @@ fn check_fields(form: Form, text: &[u8], size: Size) -> Result<(), InboundFault>
     requires { form ≡ Buffer → ⊥ }
     ensures { MatchResult result (λ _. AreParts (cells_in size) form (parts_in (cells_in size) form text.now) text.now) (λ fault. HasPartFault (cells_in size) form fault text.now) }
 {
-    let mut rest = text;
+    let mut rest = behind_words(text);
     while !rest.is_empty() {
         match part_of(form, rest, size) {
-            Ok((_, after)) => rest = after,
+            Ok((_, after)) => rest = behind_words(after),
             Err(fault) => return Err(fault),
         }
     }
     Ok(())
+}
+
+/// Some cells at the front of a text, at least one and at most so many: how many they are, and the bytes after them.
+#[inline(always)]
+fn pass_cells(text: &[u8], most: usize) -> Result<(usize, &[u8]), InboundFault>
+    requires { 0 < most }
+    ensures { MatchResult result (λ passed. (0 < passed.0) × (passed.0 ≤ most) × ((size : ℕ) → IsReadTo size Buffer text.now passed.0 passed.1.now)) (λ fault. cell_part_at text.now ≡ Err fault) }
+{
+    let count = count_characters(text).min(most);
+    if count > 0 {
+        let (_, rest) = text.split_at(count);
+        return Ok((count, rest));
+    }
+    match cell_part_of(text) {
+        Ok((_, rest)) => Ok((1, rest)),
+        Err(fault) => Err(fault),
+    }
 }
 
 /// Whether a text is as many cells as the screen has.
@@ -189,9 +219,13 @@ fn check_cells(text: &[u8], size: Size) -> Result<(), InboundFault>
     ensures { MatchResult result (λ _. AreParts (cells_in size) Buffer (parts_in (cells_in size) Buffer text.now) text.now × IsWhole (cells_in size) Buffer (parts_in (cells_in size) Buffer text.now)) (λ fault. HasPartFault (cells_in size) Buffer fault text.now) }
 {
     let mut rest = text;
-    for _ in 0..size.cells() {
-        match cell_part_of(rest) {
-            Ok((_, after)) => rest = after,
+    let mut left = usize::from(size.cells());
+    while left > 0 {
+        match pass_cells(rest, left) {
+            Ok((count, after)) => {
+                left -= count;
+                rest = after;
+            }
             Err(fault) => return Err(fault),
         }
     }

@@ -47,5 +47,9 @@ pub mod Walks
 pub mod KeyWalks
 pub mod Ranges
 pub mod Settles
+pub mod Marks
+pub mod HeldRuns
+pub mod StoredRuns
+pub mod KnownRuns
 pub mod ShorterTexts
 pub mod Sizes

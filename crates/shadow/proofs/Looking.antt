@@ -65,7 +65,7 @@ or_clear a b i clear = no_max (bit_at a i) (bit_at b i) (sym (bit_at_or a b i) �
 and_clear : (a b i : ℕ) → bit_at (bit_and a b) i ≡ 0 → bit_at a i ≡ 1 → bit_at b i ≡ 0
 and_clear a b i clear = no_min (bit_at a i) (bit_at b i) (sym (bit_at_and a b i) ∙ clear)
 
-not_clear : (n i : ℕ) → n < 2 ^ 64 → i < 64 → bit_at (bit_not w64 n) i ≡ 0 → bit_at n i ≡ 1
+pub not_clear : (n i : ℕ) → n < 2 ^ 64 → i < 64 → bit_at (bit_not w64 n) i ≡ 0 → bit_at n i ≡ 1
 not_clear n i few low clear =
     let inverted = sym (bit_at_not w64 n i few low) ∙ clear in
     let bit = bit_at-lt n i in

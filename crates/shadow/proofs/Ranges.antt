@@ -57,7 +57,7 @@ kept_fills f g at (b ∷ mid) (Told c ∷ ps) even is = fills_here f g at b mid 
 kept_fills f g at [] (Unknown ∷ ps) even is = absurd (omega arith)
 kept_fills f g at (b ∷ mid) (Unknown ∷ ps) even is = fills_here f g at b mid Unknown ps is (kept_fills f (fill_next g) (at + 1) mid ps (omega arith) (fills_later f g at b mid Unknown ps is))
 
-char_inside : (ps : List CellBelief) (j : ℕ) → j < length (chars_known ps) → is_attribute (get_or ps j Unknown) ≡ false
+pub char_inside : (ps : List CellBelief) (j : ℕ) → j < length (chars_known ps) → is_attribute (get_or ps j Unknown) ≡ false
 char_inside [] j low = refl
 char_inside (Attr a m t ∷ ps) j low = absurd (omega arith)
 char_inside (Known c ∷ ps) zero low = refl

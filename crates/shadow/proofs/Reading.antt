@@ -1,7 +1,7 @@
 -- A screen that was read, beside the places that are held.
-use Rattle.std.proofs.Common.{◌≡◌, ℕ, zero, suc, ◌+◌, ◌<◌, Bool, true, false, not, ◌&&◌, ◌||◌, List, [], ◌∷◌, ◌++◌, length, map, take, drop, set, get_or, Option, Some, None, refl, ap, sym, subst, arith, ◌∙◌, ne_eqb, eq-eqb, append_assoc}
+use Rattle.std.proofs.Common.{◌≡◌, ℕ, zero, suc, ◌+◌, ◌-◌, ◌<◌, ◌≤◌, Bool, true, false, not, ◌&&◌, ◌||◌, List, [], ◌∷◌, ◌++◌, length, map, take, drop, set, get_or, Option, Some, None, refl, ap, sym, subst, arith, ◌∙◌, ne_eqb, eq-eqb, append_assoc, length-append}
 use Rattle.std.specs.Prelude.{MatchOption, is_some}
-use Rattle.std.proofs.lemmas.List.{drop_more, take_more_set, length-map}
+use Rattle.std.proofs.lemmas.List.{drop_more, take_more_set, take_at, at_drop_all, length-map, length-take-le, length-drop}
 use Rattle.codes3270.specs.declared.attribute.Attr.{Attr as Attribute}
 use Rattle.codes3270.specs.declared.attribute.Cell.{Cell}
 use Rattle.codes3270.specs.declared.attribute.Cell.TheVariants.{Char, Attr as AttrCell}
@@ -14,6 +14,7 @@ use Rattle.shadow.specs.declared.cell_belief.CellBelief.{CellBelief}
 use Rattle.shadow.specs.declared.cell_belief.CellBelief.TheVariants.{Attr, Known, Told, Unknown}
 use Rattle.shadow.specs.Belief.{Fact, Belief}
 use Rattle.shadow.specs.InPlace.{chars_known, fact_held, belief_held, beliefs_held, shadow_held, known_text, misses_here, other_here, AreHeld, IsHeld}
+use Rattle.shadow.specs.Runs.{placed, other_next}
 use Rattle.shadow.specs.Seen.{differs, others, same_attr, mark_seen, belief_seen, seen}
 use Rattle.shadow.specs.Since.{place_stored, places_stored}
 use Rattle.shadow.specs.Taken.{fact_known, exact_or_any}
@@ -120,6 +121,67 @@ other_step whole screen n cell rest within held =
     ap (λ (ps : List CellBelief). others (beliefs_held whole n ps) (fields_walked screen n (cell ∷ rest))) here
     ∙ other_on whole screen n (get_or whole n Unknown) (drop (n + 1) whole) cell rest (subst (AreHeld whole) here (held_drop whole n whole held))
 
+-- ---- characters up to the next attribute
+
+-- what is left to be compared from an address on
+abbrev pub Left : List CellBelief → List Cell → ℕ → List CellBelief → List Cell → Bool
+Left whole screen n ps cells = others (beliefs_held whole n ps) (fields_walked screen n cells)
+
+run_on : (whole : List CellBelief) (screen : List Cell) (n k j : ℕ) (ps : List CellBelief) (cells : List Cell) → k ≡ suc j → Left whole screen (n + 1) ps cells ≡ Left whole screen (n + 1 + j) (drop j ps) (drop j cells)
+    → (p : CellBelief) (c : Cell) → Left whole screen (n + 1) ps cells ≡ Left whole screen (n + k) (drop k (p ∷ ps)) (drop k (c ∷ cells))
+run_on whole screen n k j ps cells more step p c =
+    let further : n + 1 + j ≡ n + suc j = omega arith in
+    step ∙ ap (λ (m : ℕ). Left whole screen m (drop j ps) (drop j cells)) further ∙ ap (λ (m : ℕ). Left whole screen (n + m) (drop m (p ∷ ps)) (drop m (c ∷ cells))) (sym more)
+
+none_on : (whole : List CellBelief) (screen : List Cell) (n k : ℕ) (ps : List CellBelief) (cells : List Cell) → 0 ≡ k → Left whole screen n ps cells ≡ Left whole screen (n + k) (drop k ps) (drop k cells)
+none_on whole screen n k ps cells none =
+    let same : n ≡ n + 0 = omega arith in
+    ap (λ (m : ℕ). Left whole screen m ps cells) same ∙ ap (λ (m : ℕ). Left whole screen (n + m) (drop m ps) (drop m cells)) none
+
+-- as many of both are passed
+pub run_passed : (whole : List CellBelief) (screen : List Cell) (n k : ℕ) (ps : List CellBelief) (cells : List Cell) → length (chars_known ps) ≡ k → length (text_before_attribute cells) ≡ k → length ps ≡ length cells
+    → Left whole screen n ps cells ≡ Left whole screen (n + k) (drop k ps) (drop k cells)
+run_passed whole screen n k [] [] held read even = none_on whole screen n k [] [] held
+run_passed whole screen n k [] (c ∷ cells) held read even = absurd (omega arith)
+run_passed whole screen n k (p ∷ ps) [] held read even = absurd (omega arith)
+run_passed whole screen n k (Attr a m t ∷ ps) (c ∷ cells) held read even = none_on whole screen n k (Attr a m t ∷ ps) (c ∷ cells) held
+run_passed whole screen n k (Known b ∷ ps) (AttrCell a ∷ cells) held read even = absurd (omega arith)
+run_passed whole screen n k (Told b ∷ ps) (AttrCell a ∷ cells) held read even = absurd (omega arith)
+run_passed whole screen n k (Unknown ∷ ps) (AttrCell a ∷ cells) held read even = absurd (omega arith)
+run_passed whole screen n k (Known b ∷ ps) (Char c ∷ cells) held read even =
+    run_on whole screen n k (length (chars_known ps)) ps cells (sym held) (run_passed whole screen (n + 1) (length (chars_known ps)) ps cells refl (omega arith) (omega arith)) (Known b) (Char c)
+run_passed whole screen n k (Told b ∷ ps) (Char c ∷ cells) held read even =
+    run_on whole screen n k (length (chars_known ps)) ps cells (sym held) (run_passed whole screen (n + 1) (length (chars_known ps)) ps cells refl (omega arith) (omega arith)) (Told b) (Char c)
+run_passed whole screen n k (Unknown ∷ ps) (Char c ∷ cells) held read even =
+    run_on whole screen n k (length (chars_known ps)) ps cells (sym held) (run_passed whole screen (n + 1) (length (chars_known ps)) ps cells refl (omega arith) (omega arith)) Unknown (Char c)
+
+-- where more of the one come before an attribute than of the other, the screen is another
+pub runs_differ : (whole : List CellBelief) (screen : List Cell) (n : ℕ) (ps : List CellBelief) (cells : List Cell) → (length (chars_known ps) ≡ length (text_before_attribute cells) → ⊥) → length ps ≡ length cells
+    → Left whole screen n ps cells ≡ true
+runs_differ whole screen n [] [] other even = absurd (other refl)
+runs_differ whole screen n [] (c ∷ cells) other even = absurd (omega arith)
+runs_differ whole screen n (p ∷ ps) [] other even = absurd (omega arith)
+runs_differ whole screen n (Attr a m t ∷ ps) (AttrCell b ∷ cells) other even = absurd (other refl)
+runs_differ whole screen n (Attr a m t ∷ ps) (Char c ∷ cells) other even = later_read (belief_held n a m t (ps ++ whole)) (beliefs_held whole (n + 1) ps) screen (n + 1) cells (omega arith)
+runs_differ whole screen n (Known b ∷ ps) (AttrCell a ∷ cells) other even = later_held (record { place = n; attr = a; text = text_before_attribute (cells ++ screen) }) (fields_walked screen (n + 1) cells) whole (n + 1) ps (omega arith)
+runs_differ whole screen n (Told b ∷ ps) (AttrCell a ∷ cells) other even = later_held (record { place = n; attr = a; text = text_before_attribute (cells ++ screen) }) (fields_walked screen (n + 1) cells) whole (n + 1) ps (omega arith)
+runs_differ whole screen n (Unknown ∷ ps) (AttrCell a ∷ cells) other even = later_held (record { place = n; attr = a; text = text_before_attribute (cells ++ screen) }) (fields_walked screen (n + 1) cells) whole (n + 1) ps (omega arith)
+runs_differ whole screen n (Known b ∷ ps) (Char c ∷ cells) other even = runs_differ whole screen (n + 1) ps cells (λ same. other (ap suc same)) (omega arith)
+runs_differ whole screen n (Told b ∷ ps) (Char c ∷ cells) other even = runs_differ whole screen (n + 1) ps cells (λ same. other (ap suc same)) (omega arith)
+runs_differ whole screen n (Unknown ∷ ps) (Char c ∷ cells) other even = runs_differ whole screen (n + 1) ps cells (λ same. other (ap suc same)) (omega arith)
+
+-- the next cell, and those behind it; at the end there is none
+pub next_step : (whole : List CellBelief) (screen : List Cell) (n : ℕ) (rest : List Cell) → n + length rest ≡ length whole → IsHeld whole
+    → Left whole screen n (drop n whole) rest ≡ (other_next whole n rest screen || Left whole screen (n + 1) (drop (n + 1) whole) (drop 1 rest))
+next_step whole screen n [] all held =
+    at_drop_all (λ (ps : List CellBelief). Left whole screen n ps []) whole n (omega arith) ∙ sym (at_drop_all (λ (ps : List CellBelief). Left whole screen (n + 1) ps []) whole (n + 1) (omega arith))
+next_step whole screen n (cell ∷ rest) all held = other_step whole screen n cell rest (omega arith) held
+
+-- all was compared
+pub none_differ : (whole : List CellBelief) (screen : List Cell) (n : ℕ) (rest : List Cell) → length whole ≤ n → length rest ≡ 0 → Left whole screen n (drop n whole) rest ≡ false
+none_differ whole screen n [] over none = at_drop_all (λ (ps : List CellBelief). Left whole screen n ps []) whole n over
+none_differ whole screen n (cell ∷ rest) over none = absurd (omega arith)
+
 -- ---- a screen that was read is known
 
 chars_read : (cells more : List Cell) → chars_known (places_stored cells ++ places_stored more) ≡ map Some (text_before_attribute (cells ++ more))
@@ -159,3 +221,32 @@ pub read_more : (places : List CellBelief) (at : ℕ) (cell : Cell) (rest : List
 read_more places at cell rest within =
     sym (append_assoc (take at places) (place_stored cell ∷ []) (places_stored rest))
     ∙ ap (λ (front : List CellBelief). front ++ places_stored rest) (sym (take_more_set places at (place_stored cell) within))
+
+-- so are characters
+stored_split : (cells : List Cell) → places_stored cells ≡ map Known (text_before_attribute cells) ++ places_stored (drop (length (text_before_attribute cells)) cells)
+stored_split [] = refl
+stored_split (Char c ∷ cells) = ap (λ (ps : List CellBelief). Known c ∷ ps) (stored_split cells)
+stored_split (AttrCell a ∷ cells) = refl
+
+pub run_read : (places : List CellBelief) (at : ℕ) (text : List ℕ) (cells rest : List Cell) → text ≡ text_before_attribute cells → rest ≡ drop (length text) cells → at + length text ≤ length places
+    → take at places ++ places_stored cells ≡ take (at + length text) (placed at text places) ++ places_stored rest
+run_read places at text cells rest ahead behind room =
+    let front : List CellBelief = take at places ++ map Known text in
+    let long : length front ≡ at + length text = omega (arith, length-append (take at places) (map Known text), length-take-le at places (omega arith), length-map text Known) in
+    let split : places_stored cells ≡ map Known text ++ places_stored rest =
+    stored_split cells ∙ ap (λ (cs : List ℕ). map Known cs ++ places_stored (drop (length cs) cells)) (sym ahead) ∙ ap (λ (cs : List Cell). map Known text ++ places_stored cs) (sym behind) in
+    let taken : take (at + length text) (placed at text places) ≡ front =
+    ap (take (at + length text)) (sym (append_assoc (take at places) (map Known text) (drop (at + length text) places))) ∙ take_at front (drop (at + length text) places) (at + length text) long in
+    ap (λ (ps : List CellBelief). take at places ++ ps) split ∙ sym (append_assoc (take at places) (map Known text) (places_stored rest)) ∙ ap (λ (ps : List CellBelief). ps ++ places_stored rest) (sym taken)
+
+text_within : (cells : List Cell) → length (text_before_attribute cells) ≤ length cells
+text_within [] = omega arith
+text_within (Char c ∷ cells) = omega (arith, text_within cells)
+text_within (AttrCell a ∷ cells) = omega arith
+
+-- as many are left
+pub read_left : (at size : ℕ) (text : List ℕ) (cells rest : List Cell) → text ≡ text_before_attribute cells → rest ≡ drop (length text) cells → at + length cells ≡ size → (at + length text + length rest ≡ size) × (at + length text ≤ size)
+read_left at size text cells rest ahead behind all =
+    let few : length text ≤ length cells = subst (λ (cs : List ℕ). length cs ≤ length cells) (sym ahead) (text_within cells) in
+    let left : length rest ≡ length cells - length text = ap length behind ∙ length-drop (length text) cells in
+    (omega arith, omega arith)

@@ -22,6 +22,7 @@ pub mod Appending
 pub mod InPlace
 pub mod PriorKnowledge
 pub mod Since
+pub mod Runs
 pub mod Filled
 pub mod Base
 pub mod PackedBeliefs

@@ -44,6 +44,10 @@ never = record { knowledge = None; fresh = false }
 abbrev pub stored_past : BeforeWrite
 stored_past = record { knowledge = None; fresh = true }
 
+-- a place that the write stored in, whatever it was before
+abbrev pub stored_since : BeforeWrite → BeforeWrite
+stored_since past = record { knowledge = past.knowledge; fresh = true }
+
 abbrev pub cells_written : List CellBelief → List BeforeWrite → List Known
 cells_written [] pasts = []
 cells_written (place ∷ places) [] = []

@@ -1,9 +1,10 @@
 //! Whether a screen that was read can be the one that is believed.
-ghost use Rattle.std.specs.Prelude.{◌≡◌, ◌<◌, ◌+◌, ◌++◌, ◌∷◌, [], MatchOption, length, drop, slice_index_or};
+ghost use Rattle.std.specs.Prelude.{◌≡◌, ◌<◌, ◌≤◌, ◌+◌, ◌++◌, ◌∷◌, [], MatchOption, length, drop, slice_index_or};
 ghost use Rattle.codes3270.specs.Size.{cells_in};
 ghost use Rattle.datastream.specs.Fields.{fields as fields_in};
 ghost use Rattle.shadow.specs.declared.cell_belief.CellBelief.TheVariants.{Unknown};
 ghost use Rattle.shadow.specs.InPlace.{chars_known, beliefs_held, known_text, misses_here, other_here, IsHeld};
+ghost use Rattle.shadow.specs.Runs.{placed, other_next};
 ghost use Rattle.shadow.specs.Since.{place_stored, places_stored};
 ghost use Rattle.shadow.specs.Seen.{differs, others, same_attr as are_same};
 
@@ -75,6 +76,22 @@ fn are_others(known: Ahead<'_>, rest: Cells<'_>, whole: Cells<'_>) -> bool
     next_char(&mut rest, &mut whole).is_some()
 }
 
+/// Whether the characters of the field whose attribute is at a place aren't those that were read; `rest`: the cells that were read
+/// behind its attribute. Mostly they are known, and the same.
+fn is_other_text(places: &CellBeliefs, place: usize, rest: &Cells<'_>, whole: &Cells<'_>) -> bool
+    requires { place < length places.now }
+    ensures { result ≡ differs (chars_known (drop (place + 1) places.now ++ places.now)) (known_text (chars_known (places_stored rest.now ++ places_stored whole.now))) }
+{
+    // For the contract: there is room for the screen.
+    let _cells = places.len();
+    let mut ahead = rest.copy();
+    let text = ahead.characters();
+    if ahead.next().is_some() && places.has_text(place + 1, text) {
+        return false;
+    }
+    are_others(places.ahead(place), rest.copy(), whole.copy())
+}
+
 /// Whether a cell that was read shows that a screen isn't the one that is believed; `rest`: those after it.
 fn is_other(
     places: &CellBeliefs,
@@ -89,11 +106,23 @@ fn is_other(
     match (places.get(place), cell) {
         (CellBelief::Attr(believed, _, _), Cell::Attr(attr)) => {
             !same_attr(attr.with_mdt(false), believed)
-                || believed.protected && are_others(places.ahead(place), rest.copy(), whole.copy())
+                || believed.protected && is_other_text(places, place, rest, whole)
         }
         (CellBelief::Attr(_, _, _), Cell::Char(_)) => true,
         (_, Cell::Attr(_)) => true,
         _ => false,
+    }
+}
+
+/// Whether the next cell that was read shows it; `place`: its address. At the end there is none.
+fn is_other_at(places: &CellBeliefs, place: usize, rest: &mut Cells<'_>, whole: &Cells<'_>) -> bool
+    requires { place + length rest.old ≡ length places.now }
+    ensures other { result ≡ other_next places.now place rest.old whole.now }
+    ensures left { rest.new ≡ drop 1 rest.old }
+{
+    match rest.next() {
+        Some(cell) => is_other(places, place, cell, rest, whole),
+        None => false,
     }
 }
 
@@ -103,16 +132,34 @@ pub(crate) fn any_other(places: &CellBeliefs, cells: Cells<'_>) -> bool
     requires whole { length cells ≡ length places.now }
     ensures { result ≡ others (beliefs_held places.now 0 places.now) (fields_in cells.entry) }
 {
+    let count = places.len();
     let mut rest = cells.copy();
-    for place in 0..places.len() {
-        let Some(cell) = rest.next() else {
-            return false;
-        };
-        if is_other(places, place, cell, &rest, &cells) {
+    let mut from = 0;
+    while from < count {
+        let place = places.attribute_from(from);
+        if from + rest.characters().len() != place {
             return true;
         }
+        if is_other_at(places, place, &mut rest, &cells) {
+            return true;
+        }
+        from = place + 1;
     }
     false
+}
+
+/// Puts characters that were read from an address on, and answers the address behind them.
+#[inline(always)]
+fn put_run(places: &mut CellBeliefs, from: usize, text: &[u8]) -> usize
+    requires { from + length text.now ≤ length places.old }
+    ensures places { places.new ≡ placed from text.now places.old }
+    ensures size { length places.new ≡ length places.old }
+    ensures behind { result ≡ from + length text.now }
+{
+    // For the contract: there is room for the screen.
+    let _cells = places.len();
+    places.hold_characters(from, text);
+    from + text.len()
 }
 
 /// Puts the places of a screen of this size that was read.
@@ -123,9 +170,10 @@ pub(crate) fn put_read(places: &mut CellBeliefs, cells: Cells<'_>, size: Size)
     places.clear(size);
     // For the contract: there is room for the screen.
     let _cells = size.cells();
-    let mut at = 0;
-    for cell in cells {
+    let mut rest = cells;
+    let mut at = put_run(places, 0, rest.characters());
+    while let Some(cell) = rest.next() {
         places.set(at, place_of(cell));
-        at += 1;
+        at = put_run(places, at + 1, rest.characters());
     }
 }

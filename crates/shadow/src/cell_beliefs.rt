@@ -1,17 +1,19 @@
 //! The places of a screen of any size, kept by bits and bytes.
-ghost use Rattle.std.specs.Prelude.{◌≡◌, ◌<◌, ◌≤◌, ◌+◌, ◌++◌, ◌*◌, ◌-◌, not, length, replicate, slice_index_or, slice_set, take, drop};
+ghost use Rattle.std.specs.Prelude.{◌≡◌, ◌<◌, ◌≤◌, ◌+◌, ◌++◌, ◌∷◌, [], ◌*◌, ◌-◌, ℕ, true, false, Some, not, length, map, replicate, slice_index_or, slice_set, take, drop};
 ghost use Rattle.codes3270.specs.Size.{cells_in, most_cells};
+ghost use Rattle.datastream.specs.CellBits.{has_bit};
 ghost use Rattle.datastream.specs.CellCodes.{code_in};
 ghost use Rattle.datastream.specs.Screen.{is_char};
 ghost use Rattle.shadow.specs.Filled.{Fill, front_filled};
 ghost use Rattle.shadow.specs.InPlace.{is_attribute as is_attribute_held, chars_known};
 ghost use Rattle.shadow.specs.Looks.{SetUnless};
 ghost use Rattle.shadow.specs.declared.cell_belief.CellBelief.TheVariants.{Known, Unknown};
+ghost use Rattle.shadow.specs.Runs.{placed};
 ghost use Rattle.shadow.specs.PackedBeliefs.{head_of as head_held, with_head, is_known as is_known_held, is_told as is_told_held, place_kept};
 
 use crate::cell_belief::{CellBelief, TextKnowledge};
 use crate::mdt_state::MdtState;
-use crate::searching::differing;
+use crate::searching::{BITS, are_same, clear_bits, differing};
 use codes3270::{Cell, MOST_CELLS, Size};
 use datastream::{CellBits, HasCells, PackedCell, PackedCells, Ring};
 use std::marker::Model;
@@ -107,6 +109,71 @@ fn no_heads() -> [Head; MOST_CELLS]
     ensures { length result ≡ most_cells }
 {
     [NO_HEAD; MOST_CELLS]
+}
+
+/// The first attribute from an address to another, or this other.
+fn attribute_within(cells: &PackedCells, from: usize, to: usize) -> usize
+    requires order { from ≤ to }
+    requires few { to ≤ cells_in cells.now.size }
+    ensures from { from ≤ result }
+    ensures within { result ≤ to }
+    ensures clear { (at : ℕ) → from ≤ at → at < result → has_bit cells.now.attributes at ≡ false }
+{
+    // For the contract: there is room for the screen.
+    let _cells = cells.len();
+    let mut at = from;
+    while at < to {
+        let place = at % BITS;
+        let count = clear_bits(cells.attribute_word(at / BITS), place);
+        if place + count < BITS {
+            return (at + count).min(to);
+        }
+        at += count;
+    }
+    to
+}
+
+/// Whether the bits of the cells from one to another are all set.
+fn are_set(bits: &CellBits, from: usize, to: usize) -> bool
+    requires { to ≤ most_cells }
+    ensures { result ≡ true → (cell : ℕ) → from ≤ cell → cell < to → has_bit bits.now cell ≡ true }
+{
+    let mut at = from;
+    while at < to {
+        let place = at % BITS;
+        let count = clear_bits(!bits.word(at / BITS), place);
+        if place + count < BITS && at + count < to {
+            return false;
+        }
+        at += count;
+    }
+    true
+}
+
+/// The codes of the cells from one to another.
+fn codes_between(cells: &PackedCells, from: usize, to: usize) -> &[u8]
+    requires order { from ≤ to }
+    requires few { to ≤ cells_in cells.now.size }
+    ensures { result.now ≡ take (to - from) (drop from cells.now.codes) }
+{
+    &cells.codes()[from..to]
+}
+
+/// Puts nulls in place of the attributes from an address to another.
+fn clear_attributes(cells: &mut PackedCells, from: usize, to: usize)
+    requires order { from ≤ to }
+    requires few { to ≤ cells_in cells.old.size }
+    ensures size { cells.new.size ≡ cells.old.size }
+    ensures codes { (at : ℕ) → (from ≤ at → at < to → ⊥) → slice_index_or cells.new.codes at 0 ≡ slice_index_or cells.old.codes at 0 }
+    ensures len { length cells.new.codes ≡ length cells.old.codes }
+    ensures attributes { (at : ℕ) → (from ≤ at → at < to → ⊥) → has_bit cells.new.attributes at ≡ has_bit cells.old.attributes at }
+    ensures none { (at : ℕ) → from ≤ at → at < to → has_bit cells.new.attributes at ≡ false }
+{
+    let mut at = attribute_within(cells, from, to);
+    while at < to {
+        cells.set(at, PackedCell::character(0));
+        at = attribute_within(cells, at + 1, to);
+    }
 }
 
 impl CellBeliefs {
@@ -275,6 +342,64 @@ impl CellBeliefs {
         self.known.put_range(from, to, false);
         self.told.put_range(from, to, true);
         self.told.put_range(from + count, to, false);
+    }
+
+    /// Holds characters that are known, from an address on.
+    #[inline(always)]
+    pub(crate) fn hold_characters(&mut self, from: usize, text: &[u8])
+        requires { from + length text.now ≤ length self.old }
+        ensures places { self.new ≡ placed from text.now self.old }
+        ensures size { length self.new ≡ length self.old }
+    {
+        match text {
+            [] => {}
+            [char] => self.hold_character(from, *char),
+            _ => self.hold_run(from, text),
+        }
+    }
+
+    /// The same of one character.
+    #[inline(always)]
+    fn hold_character(&mut self, at: usize, char: u8)
+        requires { at < length self.old }
+        ensures places { self.new ≡ placed at (char ∷ []) self.old }
+        ensures size { length self.new ≡ length self.old }
+    {
+        // For the contract: there is room for the screen.
+        let _cells = self.len();
+        self.cells.set(at, PackedCell::character(char));
+        self.known.put(at, true);
+    }
+
+    /// The same of several characters.
+    fn hold_run(&mut self, from: usize, text: &[u8])
+        requires { from + length text.now ≤ length self.old }
+        ensures places { self.new ≡ placed from text.now self.old }
+        ensures size { length self.new ≡ length self.old }
+    {
+        // For the contract: there is room for the screen.
+        let _cells = self.len();
+        let to = from + text.len();
+        clear_attributes(&mut self.cells, from, to);
+        self.cells.put_characters(from, text);
+        self.known.put_range(from, to, true);
+    }
+
+    /// Whether these characters, all of them known, are those from an address on before the next attribute. Where no attribute comes
+    /// up to the last place, that isn't said.
+    pub(crate) fn has_text(&self, from: usize, text: &[u8]) -> bool
+        requires { from ≤ length self.now }
+        ensures { result ≡ true → (chars_known (drop from self.now) ≡ map Some text.now) × (from + length text.now < length self.now) }
+    {
+        let cells = self.len();
+        let to = self.attribute_from(from);
+        if cells <= to {
+            return false;
+        }
+        if !are_set(&self.known, from, to) {
+            return false;
+        }
+        are_same(codes_between(&self.cells, from, to), text)
     }
 
     /// A bit for each cell of a word, set unless the cell is known to have the character of these bytes.

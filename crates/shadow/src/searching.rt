@@ -11,7 +11,7 @@ use codes3270::Cell;
 use datastream::Wanted;
 
 /// How many bits a word has.
-const BITS: usize = 64;
+pub(crate) const BITS: usize = 64;
 
 /// A cell to store.
 #[derive(Clone, Copy)]
@@ -55,7 +55,7 @@ fn eight(bytes: &[u8], cell: usize) -> &[u8]
     &bytes[cell..end]
 }
 
-fn are_same(one: &[u8], other: &[u8]) -> bool
+pub(crate) fn are_same(one: &[u8], other: &[u8]) -> bool
     ensures { result ≡ true → one.now ≡ other.now }
 {
     one == other
@@ -136,7 +136,7 @@ pub(crate) fn differing(one: &[u8], other: &[u8], word: usize) -> u64
 }
 
 /// How many bits from a place on are clear.
-fn clear_bits(bits: u64, place: usize) -> usize
+pub(crate) fn clear_bits(bits: u64, place: usize) -> usize
     requires { place < 64 }
     ensures few { place + result ≤ 64 }
     ensures clear { (other : ℕ) → place ≤ other → other < place + result → bit_at bits other ≡ 0 }

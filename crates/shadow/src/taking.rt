@@ -1,14 +1,17 @@
 //! A plain write, on the places where they stand.
-ghost use Rattle.std.specs.Prelude.{◌≡◌, ◌<◌, ◌+◌, ◌++◌, ◌∷◌, true, false, All, List, Some, None, length, map, replicate, drop, slice_index_or, slice_set, unwrap_or, if◌then◌else◌};
+ghost use Rattle.std.specs.Prelude.{◌≡◌, ◌<◌, ◌≤◌, ◌+◌, ◌++◌, ◌∷◌, ℕ, true, false, All, List, Some, None, length, map, replicate, drop, slice_index_or, slice_set, unwrap_or, if◌then◌else◌};
 ghost use Rattle.codes3270.specs.Size.{cells_in};
 ghost use Rattle.datastream.specs.Grammar.{IsProper};
 ghost use Rattle.datastream.specs.declared.order.Order.{Order as PlainOrder};
+ghost use Rattle.datastream.specs.declared.order.Order.TheVariants.{Char as Data};
 ghost use Rattle.shadow.specs.declared.known.Known.{Known as KnownCell};
 ghost use Rattle.shadow.specs.declared.cell_belief.CellBelief.{CellBelief as Held};
 ghost use Rattle.shadow.specs.declared.cell_belief.CellBelief.TheVariants.{Unknown, Known as KnownPlace};
 ghost use Rattle.shadow.specs.declared.cell_belief.BeforeWrite.{BeforeWrite as PriorCell};
+ghost use Rattle.shadow.specs.declared.mdt_state.MdtState.TheVariants.{Off as OffMark};
 ghost use Rattle.shadow.specs.InPlace.{cell_known, cells_known, beliefs_held, shadow_held, IsHeld};
-ghost use Rattle.shadow.specs.Since.{place_stored, place_off, knowledge_of, never, stored_past, cells_written, Since, is_touched, knowledge_after as telling_then, place_settled, settled};
+ghost use Rattle.shadow.specs.PackedBeliefs.{with_head};
+ghost use Rattle.shadow.specs.Since.{place_stored, place_off, knowledge_of, never, stored_past, stored_since, cells_written, Since, is_touched, knowledge_after as telling_then, place_settled, settled};
 ghost use Rattle.shadow.specs.Stores.{is_plain, stores};
 ghost use Rattle.shadow.specs.Taken.{believed, known_after, known_stored, new_cell, resets as resets_marks, taken_erase};
 
@@ -122,6 +125,85 @@ fn store_one(
     }
 }
 
+/// Marks some cells as stored by the write.
+fn mark_stored(pasts: &mut [BeforeWrite], from: usize, to: usize)
+    requires order { from ≤ to }
+    requires few { to ≤ length pasts.old }
+    ensures inside { (at : ℕ) → from ≤ at → at < to → slice_index_or pasts.new at never ≡ stored_since (slice_index_or pasts.old at never) }
+    ensures apart { (at : ℕ) → (from ≤ at → at < to → ⊥) → slice_index_or pasts.new at never ≡ slice_index_or pasts.old at never }
+    ensures size { length pasts.new ≡ length pasts.old }
+{
+    for at in from..to {
+        pasts[at] = BeforeWrite {
+            knowledge: past_at(pasts, at).knowledge,
+            fresh: true,
+        };
+    }
+}
+
+/// Stores characters from an address on, up to the last cell at most, on a screen of this size. Answers the next address.
+#[inline(always)]
+fn store_front(
+    places: &mut CellBeliefs,
+    pasts: &mut [BeforeWrite],
+    at: Addr,
+    text: &[u8],
+    size: Size,
+) -> Addr
+    requires some { 0 < length text.now }
+    requires room { at + length text.now ≤ cells_in size }
+    requires whole { length places.old ≡ cells_in size }
+    requires size { length pasts.old ≡ length places.old }
+    ensures cells { (more : List PlainOrder) → known_stored (stores (cells_in size) at (map Data text.now ++ more)) (cells_written places.old pasts.old) ≡ known_stored (stores (cells_in size) result more) (cells_written places.new pasts.new) }
+    ensures since { (old : List Held) → Since old places.old pasts.old → Since old places.new pasts.new }
+    ensures size { length pasts.new ≡ length places.new }
+    ensures same_size { length places.new ≡ length places.old }
+    ensures in_range { result < cells_in size }
+{
+    let from = usize::from(at.get());
+    places.hold_characters(from, text);
+    mark_stored(pasts, from, from + text.len());
+    at.forward(text.len() as u16, size)
+}
+
+/// How many cells there are from an address on, on a screen of this size.
+#[inline(always)]
+fn room_from(at: Addr, size: Size) -> usize
+    requires { at < cells_in size }
+    ensures room { result + at ≡ cells_in size }
+    ensures some { 0 < result }
+{
+    usize::from(size.cells() - at.get())
+}
+
+/// Stores characters that come one after another from an address on, round the end, on a screen of this size. Answers the next address.
+#[inline(always)]
+fn store_characters(
+    places: &mut CellBeliefs,
+    pasts: &mut [BeforeWrite],
+    at: Addr,
+    text: &[u8],
+    size: Size,
+) -> Addr
+    requires placed { at < cells_in size }
+    requires whole { length places.old ≡ cells_in size }
+    requires size { length pasts.old ≡ length places.old }
+    ensures cells { (more : List PlainOrder) → known_stored (stores (cells_in size) at (map Data text.now ++ more)) (cells_written places.old pasts.old) ≡ known_stored (stores (cells_in size) result more) (cells_written places.new pasts.new) }
+    ensures since { (old : List Held) → Since old places.old pasts.old → Since old places.new pasts.new }
+    ensures size { length pasts.new ≡ length places.new }
+    ensures same_size { length places.new ≡ length places.old }
+    ensures in_range { result < cells_in size }
+{
+    let mut at = at;
+    let mut rest = text;
+    while !rest.is_empty() {
+        let (front, behind) = rest.split_at(room_from(at, size).min(rest.len()));
+        at = store_front(places, pasts, at, front, size);
+        rest = behind;
+    }
+    at
+}
+
 /// Stores what the orders store, on a screen of this size.
 fn store(places: &mut CellBeliefs, pasts: &mut [BeforeWrite], orders: Orders<'_>, size: Size)
     requires proper { All (IsProper (cells_in size)) orders }
@@ -134,20 +216,23 @@ fn store(places: &mut CellBeliefs, pasts: &mut [BeforeWrite], orders: Orders<'_>
 {
     // For the contract: the screen has a first cell.
     let _cells = size.cells();
-    let mut at = Addr::first();
-    for order in orders {
-        at = store_one(places, pasts, at, order, size);
+    let mut orders = orders;
+    let mut at = store_characters(places, pasts, Addr::first(), orders.characters(), size);
+    while let Some(order) = orders.next() {
+        let next = store_one(places, pasts, at, order, size);
+        at = store_characters(places, pasts, next, orders.characters(), size);
     }
 }
 
-fn with_mark_off(place: CellBelief) -> CellBelief
-    ensures { result ≡ place_off place }
+/// What is known of the text of an attribute's field. Of a character it isn't looked at.
+fn knowledge_in(place: CellBelief) -> TextKnowledge
+    ensures { with_head OffMark result place ≡ place_off place }
 {
     match place {
-        CellBelief::Attr(attr, _, knowledge) => CellBelief::Attr(attr, MdtState::Off, knowledge),
-        CellBelief::Known(_) => place,
-        CellBelief::Told(_) => place,
-        CellBelief::Unknown => place,
+        CellBelief::Attr(_, _, knowledge) => knowledge,
+        CellBelief::Known(_) => TextKnowledge::Cells,
+        CellBelief::Told(_) => TextKnowledge::Cells,
+        CellBelief::Unknown => TextKnowledge::Cells,
     }
 }
 
@@ -156,9 +241,12 @@ fn marks_off(places: &mut CellBeliefs)
     ensures marks { places.new ≡ map place_off places.old }
     ensures size { length places.new ≡ length places.old }
 {
-    for index in 0..places.len() {
-        let place = places.get(index);
-        places.set(index, with_mark_off(place));
+    let cells = places.len();
+    let mut place = places.attribute_from(0);
+    while place < cells {
+        let knowledge = knowledge_in(places.attribute_at(place));
+        places.set_head(place, MdtState::Off, knowledge);
+        place = places.attribute_from(place + 1);
     }
 }
 

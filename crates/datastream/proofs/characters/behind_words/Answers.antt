@@ -1,6 +1,14 @@
-use Rattle.std.proofs.Common.{◌∙◌, ap, arith}
-use Rattle.datastream.proofs.CharacterRuns.{behind, behind_count}
+use Rattle.std.proofs.Common.{arith, refl, subst, sym}
+use Rattle.datastream.specs.InboundReading.{PassesText}
+use Rattle.datastream.proofs.CharacterRuns.{passes_on}
 use Rattle.datastream.proofs.characters.behind_words.Goals as goal
+
+pub loop-count-init : goal.loop-count-init
+loop-count-init c = record {
+  so_far = (0, omega arith, λ place less. absurd (omega arith), refl);
+  bound = c.count_in_word-count.ensures.bound;
+  text = c.count_in_word-count.ensures.text;
+}
 
 pub loop-count-preserved : goal.loop-count-preserved
 loop-count-preserved c =
@@ -8,14 +16,13 @@ loop-count-preserved c =
     let eight = c.loop-count-test.true in
     record {
       so_far =
-          ap behind c.bytes_from-rest.ensures
-          ∙ behind_count 8 c.loop-count.rest.now (λ place less. so_far.storable place (omega (arith, eight, less))) (omega (arith, eight, so_far.bound))
-          ∙ so_far.so_far;
+          subst (PassesText c.args.text.now) (sym c.bytes_from-rest.ensures)
+          (passes_on c.args.text.now c.loop-count.rest.now 8 so_far.so_far (omega (arith, eight, so_far.bound)) (λ place less. so_far.text place (omega (arith, eight, less))));
       bound = c.count_in_word-count-in-loop-count.ensures.bound;
-      storable = c.count_in_word-count-in-loop-count.ensures.storable;
+      text = c.count_in_word-count-in-loop-count.ensures.text;
     }
 
 pub returns : goal.returns
 returns c =
     let so_far = c.loop-count.invariant in
-    ap behind c.bytes_from.ensures ∙ behind_count c.loop-count.count c.loop-count.rest.now so_far.storable so_far.bound ∙ so_far.so_far
+    subst (PassesText c.args.text.now) (sym c.bytes_from.ensures) (passes_on c.args.text.now c.loop-count.rest.now c.loop-count.count so_far.so_far so_far.bound so_far.text)

@@ -1,13 +1,13 @@
 use Rattle.std.proofs.Common.{◌≡◌, ◌≤◌, ◌<◌, ℕ, true, length, get_or}
-use Rattle.codes3270.specs.Storable.{is_storable}
-use Rattle.datastream.proofs.CharacterRuns.{behind}
+use Rattle.datastream.specs.InboundReading.{PassesText}
+use Rattle.datastream.specs.InboundText.{is_text_char}
 use Rattle.datastream.proofs.characters.behind_words.Given as goal
 
 abbrev pub invariant-loop-count : goal.invariant-loop-count
 invariant-loop-count l = record {
-  so_far : behind l.rest ≡ behind l.fn.text;
+  so_far : PassesText l.fn.text l.rest;
   bound : l.count ≤ length l.rest;
-  storable : (place : ℕ) → place < l.count → is_storable (get_or l.rest place 0) ≡ true;
+  text : (place : ℕ) → place < l.count → is_text_char (get_or l.rest place 0) ≡ true;
 }
 
 abbrev pub decreases-loop-count : goal.decreases-loop-count

@@ -1,6 +1,6 @@
 use Rattle.std.proofs.Common.{length, ℕ}
 use Rattle.codes3270.specs.Size.{cells_in}
-use Rattle.datastream.proofs.InboundSequences.{IsReadTo}
+use Rattle.datastream.specs.InboundReading.{IsReadTo}
 use Rattle.datastream.proofs.inbound_reader.check_fields.Given as goal
 
 abbrev pub invariant-loop-rest : goal.invariant-loop-rest

@@ -1,12 +1,15 @@
-use Rattle.std.proofs.Common.{◌≡◌, ◌+◌, length, drop}
+use Rattle.std.proofs.Common.{◌≡◌, ◌-◌, length, drop}
 use Rattle.datastream.specs.Fields.{fields}
-use Rattle.datastream.proofs.FieldWalk.{fields_walked}
 use Rattle.shadow.specs.InPlace.{beliefs_held}
 use Rattle.shadow.specs.Seen.{others}
+use Rattle.shadow.proofs.Reading.{Left}
 use Rattle.shadow.proofs.buffer.any_other.Given as goal
 
-abbrev pub invariant-loop-place : goal.invariant-loop-place
-invariant-loop-place l = record {
-  others : others (beliefs_held l.places 0 l.places) (fields l.cells) ≡ others (beliefs_held l.places l.place (drop l.place l.places)) (fields_walked l.cells l.place l.rest);
-  left : l.place + length l.rest ≡ length l.places;
+abbrev pub invariant-loop-from : goal.invariant-loop-from
+invariant-loop-from l = record {
+  others : others (beliefs_held l.places 0 l.places) (fields l.cells) ≡ Left l.places l.cells l.from (drop l.from l.places) l.rest;
+  left : length l.rest ≡ length l.places - l.from;
 }
+
+abbrev pub decreases-loop-from : goal.decreases-loop-from
+decreases-loop-from l = length l.places - l.from

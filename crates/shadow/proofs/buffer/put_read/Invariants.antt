@@ -5,7 +5,10 @@ use Rattle.shadow.proofs.buffer.put_read.Given as goal
 
 abbrev pub invariant-loop-cell : goal.invariant-loop-cell
 invariant-loop-cell l = record {
-  read : take l.at l.places ++ places_stored l.cell-iterator ≡ places_stored l.fn.cells;
-  each : l.at + length l.cell-iterator ≡ length l.places;
+  read : take l.at l.places ++ places_stored l.rest ≡ places_stored l.fn.cells;
+  each : l.at + length l.rest ≡ length l.places;
   size : length l.places ≡ cells_in l.fn.size;
 }
+
+abbrev pub decreases-loop-cell : goal.decreases-loop-cell
+decreases-loop-cell l = length l.rest

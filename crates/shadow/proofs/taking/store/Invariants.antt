@@ -9,10 +9,13 @@ use Rattle.shadow.proofs.taking.store.Given as goal
 
 abbrev pub invariant-loop-order : goal.invariant-loop-order
 invariant-loop-order l = record {
-  cells : known_stored (stores (cells_in l.size) 0 l.fn.orders) (cells_written l.fn.places l.fn.pasts) ≡ known_stored (stores (cells_in l.size) l.at l.order-iterator) (cells_written l.places l.pasts);
+  cells : known_stored (stores (cells_in l.size) 0 l.fn.orders) (cells_written l.fn.places l.fn.pasts) ≡ known_stored (stores (cells_in l.size) l.at l.orders) (cells_written l.places l.pasts);
   since : (old : List CellBelief) → Since old l.fn.places l.fn.pasts → Since old l.places l.pasts;
   size : length l.pasts ≡ length l.places;
   same_size : length l.places ≡ length l.fn.places;
-  proper : All (IsProper (cells_in l.size)) l.order-iterator;
+  proper : All (IsProper (cells_in l.size)) l.orders;
   placed : l.at < cells_in l.size;
 }
+
+abbrev pub decreases-loop-order : goal.decreases-loop-order
+decreases-loop-order l = length l.orders
