@@ -9,56 +9,25 @@ use Rattle.std.proofs.lemmas.Option.{slice_get_within, get_or_from_slice_get, sl
 use Rattle.datastream.specs.Inbound.{without_nulls}
 use Rattle.codes3270.specs.Storable.{is_storable}
 use Rattle.panels.specs.Characters.{AreCharacters}
-use Rattle.shadow.specs.Asked.{value_of, field_at, value_at}
+use Rattle.shadow.specs.Asked.{value_of, field_at, text_at}
 use Rattle.shadow.specs.Belief.{Fact, Belief, Shadow}
 use Rattle.shadow.specs.Meets.{told}
 use Rattle.shadow.specs.Storable.{IsTextChar, CanBeStored, ToldCanBeStored}
 use Rattle.panels.specs.declared.panel.Field.{Field}
 use Rattle.host_core.specs.Acts.{is_settled_fact, text_known}
 
--- ---- the text of a field, character by character
+-- ---- the text of a field
 
-abbrev pub IsRead : List ℕ → List ℕ → ℕ → Type 0
-IsRead text value index = text ++ without_nulls (drop index value) ≡ without_nulls value
-
-pub value_there : (place index : ℕ) (shadow : Shadow) (belief : Belief) → field_at place shadow ≡ Some belief → value_at place index shadow ≡ slice_get (value_of belief.fact) index
-value_there place index shadow belief there = ap (λ (known : Option Belief). option_and_then (λ (b : Belief). slice_get (value_of b.fact) index) known) there
-
-pub read_all : (text value : List ℕ) (index : ℕ) → ((byte : ℕ) → slice_get value index ≡ Some byte → ⊥) → IsRead text value index → text ≡ without_nulls value
-read_all text value index none read =
-    elim (slice_get_cases value index).1 [
-      | inl within ↦ absurd (none within.0 within.2)
-      | inr past ↦ sym (append-nil text) ∙ ap (λ (rest : List ℕ). text ++ without_nulls rest) (sym (drop_all index value past.0)) ∙ read
-    ]
-
-one_more : (text rest : List ℕ) (byte : ℕ) (keeps : Bool)
-    → (if keeps then text ++ byte ∷ [] else text) ++ rest ≡ text ++ (if keeps then byte ∷ rest else rest)
-one_more text rest byte true = append_assoc text (byte ∷ []) rest
-one_more text rest byte false = refl
-
-without_nulls-cons : (byte : ℕ) (rest : List ℕ) → without_nulls (byte ∷ rest) ≡ (if not (byte == 0) then byte ∷ without_nulls rest else without_nulls rest)
-without_nulls-cons byte rest = refl
-
-pub read_more : (text new value : List ℕ) (index byte : ℕ) → Some byte ≡ slice_get value index → IsRead text value index
-    → new ≡ (if not (byte == 0) then text ++ byte ∷ [] else text) → IsRead new value (index + 1)
-read_more text new value index byte there read put =
-    let within = slice_get_within value index byte (sym there) in
-    let first : drop index value ≡ byte ∷ drop (index + 1) value =
-    drop_more value index 0 within ∙ ap (λ (b : ℕ). b ∷ drop (index + 1) value) (get_or_from_slice_get value index byte 0 (sym there)) in
-    ap (λ (t : List ℕ). t ++ without_nulls (drop (index + 1) value)) put
-    ∙ one_more text (without_nulls (drop (index + 1) value)) byte (not (byte == 0))
-    ∙ ap (λ (rest : List ℕ). text ++ rest) (sym (without_nulls-cons byte (drop (index + 1) value)))
-    ∙ ap (λ (rest : List ℕ). text ++ without_nulls rest) (sym first)
-    ∙ read
-
-pub read_few : (keeps : Bool) (text new : List ℕ) (byte index : ℕ) → length text ≤ index → new ≡ (if keeps then text ++ byte ∷ [] else text) → length new ≤ index + 1
-read_few true text new byte index few is = subst (λ (t : List ℕ). length t ≤ index + 1) (sym is) (omega (arith, length-append text (byte ∷ [])))
-read_few false text new byte index few is = subst (λ (t : List ℕ). length t ≤ index + 1) (sym is) (omega arith)
+pub text_there : (place : ℕ) (shadow : Shadow) (belief : Belief) → field_at place shadow ≡ Some belief → text_at place shadow ≡ value_of belief.fact
+text_there place shadow belief there = ap (λ (known : Option Belief). option_map_or (λ (b : Belief). value_of b.fact) known []) there
 
 -- ---- the text that is told
 
 abbrev IsSettled : Option Belief → Type 0
 IsSettled known = option_map_or (λ belief. is_settled_fact belief.fact) known false ≡ true
+
+without_nulls-cons : (byte : ℕ) (rest : List ℕ) → without_nulls (byte ∷ rest) ≡ (if not (byte == 0) then byte ∷ without_nulls rest else without_nulls rest)
+without_nulls-cons byte rest = refl
 
 no_nulls : (text : List ℕ) → All IsTextChar text → without_nulls text ≡ text
 no_nulls [] each = refl

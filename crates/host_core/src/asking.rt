@@ -16,7 +16,7 @@ ghost use Rattle.host_core.specs.Sound.{IsShownOn};
 
 use crate::acted::Acted;
 use crate::acting::{Shown, next_of};
-use crate::learning::{is_blank, learn_each, text_known};
+use crate::learning::{are_blanks, characters_known, is_blank, learn_each};
 use crate::question::{Answer, Question, Ticket, is_ticket};
 use crate::room::COMMAND_ROOM;
 use crate::sending::panel_in;
@@ -36,8 +36,8 @@ fn is_missing_now(values: &Values, shadow: &Shadow, field: &Field) -> bool
     if !field.required {
         return false;
     }
-    match text_known(shadow, field) {
-        Some(text) => is_blank(text.as_slice()),
+    match characters_known(shadow, field) {
+        Some(characters) => are_blanks(characters),
         None => match values.get(field.number) {
             Some(value) => is_blank(value),
             None => true,

@@ -1,5 +1,5 @@
 //! What is known of a panel's fields.
-ghost use Rattle.std.specs.Prelude.{◌≡◌, ◌<◌, ◌++◌, ◌∷◌, [], true, false, length, Option, Some, IfSome, OnOk, OnErr, option_map, if◌then◌else◌, not, ◌==◌};
+ghost use Rattle.std.specs.Prelude.{◌≡◌, ◌<◌, ◌≤◌, ◌+◌, ◌++◌, ◌∷◌, [], true, false, length, Option, Some, IfSome, OnOk, OnErr, option_map, if◌then◌else◌, not, ◌==◌};
 ghost use Rattle.std.specs.List.{list_any};
 ghost use Rattle.std.specs.Option.{option_map_or};
 ghost use Rattle.codes3270.specs.Size.{most_cells};
@@ -7,22 +7,22 @@ ghost use Rattle.datastream.specs.Inbound.{without_nulls};
 ghost use Rattle.panels.specs.Characters.{AreCharacters};
 ghost use Rattle.panels.specs.Panel.{HaveNumbersApart};
 ghost use Rattle.panels.specs.Values.{set_if};
-ghost use Rattle.shadow.specs.Asked.{field_at, kind_of, value_of};
-ghost use Rattle.shadow.specs.Belief.{Belief, HasCell};
+ghost use Rattle.shadow.specs.Asked.{kind_of};
+ghost use Rattle.shadow.specs.Belief.{Belief};
 ghost use Rattle.shadow.specs.Storable.{CanBeStored};
 ghost use Rattle.host_core.specs.Acts.{first_missing, is_blank, is_in_doubt, is_missing, is_settled_fact, learned, text_known};
 ghost use Rattle.host_core.specs.Does.{Grow};
 ghost use Rattle.host_core.specs.Learning.{needs_room, HasField, HaveFields};
 
 use arrayvec::ArrayVec;
-use codes3270::{Addr, MOST_CELLS};
+use codes3270::MOST_CELLS;
 use panels::{Field, Values};
 use shadow::laws::what_is_believed_can_be_stored;
-use shadow::{Fact, Shadow};
+use shadow::{Fact, FieldText, Shadow};
 use telnet_wire::Memory;
 
-/// The text of a field, which is shorter than the largest screen.
-pub(crate) type FieldText = ArrayVec<u8, MOST_CELLS>;
+/// Room for the text of any field, which is shorter than the largest screen.
+type TextBuffer = ArrayVec<u8, MOST_CELLS>;
 
 /// Whether a fact tells a text.
 fn is_settled(fact: Option<Fact>) -> bool
@@ -43,43 +43,40 @@ pub(crate) fn is_in_doubt(shadow: &Shadow, field: &Field) -> bool
     !is_settled(shadow.fact(field.extent.attr()))
 }
 
-/// Appends a character, unless it is a null.
-fn put_unless_null(text: &mut FieldText, byte: u8)
-    requires { length text.old.items < most_cells }
-    ensures { text.new.items ≡ (if not (byte == 0) then text.old.items ++ byte ∷ [] else text.old.items) }
-{
-    if byte != 0 {
-        text.push(byte);
-    }
-}
-
-/// The text of the field whose attribute is at an address, without nulls.
-fn text_at(shadow: &Shadow, attr: Addr) -> FieldText
-    requires { HasCell attr shadow.now }
-    ensures { (belief : Belief) → field_at attr shadow.now ≡ Some belief → result.items ≡ without_nulls (value_of belief.fact) }
-{
-    let mut text = ArrayVec::new();
-    let mut index = 0;
-    while let Some(byte) = shadow.value(attr, index) {
-        put_unless_null(&mut text, byte);
-        index += 1;
-    }
-    text
-}
-
-/// The text of a field, without nulls, where it is known.
-pub(crate) fn text_known(shadow: &Shadow, field: &Field) -> Option<FieldText>
+/// The characters of a field's text, where that is known: the text without nulls, and nulls among them.
+pub(crate) fn characters_known<'a>(shadow: &'a Shadow, field: &Field) -> Option<FieldText<'a>>
     requires stored { CanBeStored shadow.now }
     requires there { HasField shadow.now field.now }
-    ensures text { option_map (λ bytes. bytes.items) result ≡ text_known shadow.now field.now }
-    ensures characters { IfSome result (λ bytes. AreCharacters bytes.items) }
+    ensures text { option_map without_nulls result ≡ text_known shadow.now field.now }
+    ensures characters { IfSome result (λ characters. AreCharacters (without_nulls characters)) }
+    ensures few { IfSome result (λ characters. length characters < most_cells) }
 {
     what_is_believed_can_be_stored();
     let attr = field.extent.attr();
     if !is_settled(shadow.fact(attr)) {
         return None;
     }
-    Some(text_at(shadow, attr))
+    Some(shadow.text(attr))
+}
+
+/// How many characters there are once one more is counted, unless it is a null.
+fn counted(count: usize, byte: u8) -> usize
+    requires { count < most_cells }
+    ensures { result ≡ (if not (byte == 0) then count + 1 else count) }
+{
+    if byte != 0 { count + 1 } else { count }
+}
+
+/// How many of these characters aren't nulls.
+fn count_without_nulls(characters: FieldText<'_>) -> usize
+    requires { length characters ≤ most_cells }
+    ensures { result ≡ length (without_nulls characters.entry) }
+{
+    let mut count = 0;
+    for byte in characters {
+        count = counted(count, byte);
+    }
+    count
 }
 
 /// Whether the text of a field is known and needs more memory than the field's value has.
@@ -88,11 +85,11 @@ fn needs_room(values: &Values, shadow: &Shadow, field: &Field) -> bool
     requires there { HasField shadow.now field.now }
     ensures { result ≡ needs_room shadow.now values.now field.now }
 {
-    let Some(text) = text_known(shadow, field) else {
+    let Some(characters) = characters_known(shadow, field) else {
         return false;
     };
     match values.get(field.number) {
-        Some(value) => value.len() < text.len(),
+        Some(value) => value.len() < count_without_nulls(characters),
         None => true,
     }
 }
@@ -111,15 +108,44 @@ fn any_needs_room(values: &Values, shadow: &Shadow, fields: &[Field]) -> bool
     false
 }
 
-/// Sets the value of a field whose text is known.
-fn learn(values: &mut Values, shadow: &Shadow, field: &Field) -> Result<(), Memory>
+/// Appends a character, unless it is a null.
+fn put_unless_null(text: &mut TextBuffer, byte: u8)
+    requires { length text.old.items < most_cells }
+    ensures { text.new.items ≡ (if not (byte == 0) then text.old.items ++ byte ∷ [] else text.old.items) }
+{
+    if byte != 0 {
+        text.push(byte);
+    }
+}
+
+/// Puts characters in place of a text, without nulls.
+fn put_text(text: &mut TextBuffer, characters: FieldText<'_>)
+    requires { length characters ≤ most_cells }
+    ensures { text.new.items ≡ without_nulls characters.entry }
+{
+    text.clear();
+    for byte in characters {
+        put_unless_null(text, byte);
+    }
+}
+
+/// Sets the value of a field whose text is known, by way of a buffer, whatever that has.
+fn learn(
+    values: &mut Values,
+    shadow: &Shadow,
+    field: &Field,
+    text: &mut TextBuffer,
+) -> Result<(), Memory>
     requires stored { CanBeStored shadow.now }
     requires there { HasField shadow.now field.now }
     ensures values { OnOk result (values.new ≡ set_if field.now.number (text_known shadow.now field.now) values.old) }
     ensures memory { OnErr result (needs_room shadow.now values.old field.now ≡ true) }
 {
-    match text_known(shadow, field) {
-        Some(text) => values.set(field.number, text.as_slice()),
+    match characters_known(shadow, field) {
+        Some(characters) => {
+            put_text(text, characters);
+            values.set(field.number, text.as_slice())
+        }
         None => Ok(()),
     }
 }
@@ -136,8 +162,9 @@ pub(crate) fn learn_each(
     ensures values { OnOk result (values.new ≡ learned shadow.now fields.now values.old) }
     ensures memory { OnErr result (list_any (needs_room shadow.now values.old) fields.now ≡ true) }
 {
+    let mut text = ArrayVec::new();
     for field in fields {
-        learn(values, shadow, field)?;
+        learn(values, shadow, field, &mut text)?;
     }
     Ok(())
 }
@@ -175,6 +202,18 @@ pub(crate) fn is_blank(value: &[u8]) -> bool
 
 /// A blank in the host's code.
 const BLANK: u8 = 0x40;
+
+/// Whether characters are blanks, but for nulls.
+pub(crate) fn are_blanks(characters: FieldText<'_>) -> bool
+    ensures { result ≡ is_blank (without_nulls characters.entry) }
+{
+    for byte in characters {
+        if byte != BLANK && byte != 0 {
+            return false;
+        }
+    }
+    true
+}
 
 /// Whether a field is required and isn't filled in.
 fn is_missing(values: &Values, field: &Field) -> bool

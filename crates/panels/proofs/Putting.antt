@@ -131,16 +131,6 @@ pub put_first : (start : ℕ) (f : ℕ → Want) (want : Want) (old new : Wanted
     → new ≡ record old { cells = set old.cells start want } → length new.cells ≡ cells_in new.size → IsPutFrom start 1 f old new
 put_first start f want old new wants within is size = put_next start 0 start f old want old new (omega arith) wants within is size (put_none start f old)
 
-all_within : (n cell : ℕ) → cell < n → (nat_le 0 cell && nat_lt cell (0 + n)) ≡ true
-all_within n cell below = grind (arith, nat_tests)
-
-pub nulls_put : (n : ℕ) (base now : WantedScreen) → n ≡ cells_in base.size → IsPutFrom 0 n (λ distance. want.Char 0) base now
-    → (cell : ℕ) (default : Want) → cell < cells_in base.size → get_or now.cells cell default ≡ want.Char 0
-nulls_put n base now whole put cell default below =
-    put.1 cell default below
-    ∙ ap (λ o. unwrap_or o (get_or base.cells cell default))
-    (if_true (nat_le 0 cell && nat_lt cell (0 + n)) (Some (want.Char 0)) None (all_within n cell (subst (λ m. cell < m) (sym whole) below)))
-
 -- ---- the message
 
 pub text_is : (fields : List Field) (message : Message) → text_with (option_map_or (λ field. field.name) (field_spoken fields message) []) message ≡ message_text fields message

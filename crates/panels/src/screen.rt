@@ -18,18 +18,15 @@ use crate::panel::{Content, Field, Panel, TextItem};
 use crate::size::message_start;
 use crate::values::Values;
 use codes3270::Display::{Bright, Hidden, Normal};
-use codes3270::{Attr, from_latin1};
+use codes3270::{Attr, Size, from_latin1};
 use datastream::{Want, Wanted};
 
-/// Puts nulls into all cells.
-fn put_nulls(wanted: &mut Wanted)
-    ensures size { wanted.new.size ≡ wanted.old.size }
-    ensures nulls { (cell : ℕ) (default : Wish) → cell < cells_in wanted.old.size → slice_index_or wanted.new.cells cell default ≡ Char 0 }
+/// A screen with a null in each cell.
+fn nulls(size: Size) -> Wanted
+    ensures size { result.size ≡ size }
+    ensures nulls { (cell : ℕ) (default : Wish) → cell < cells_in size → slice_index_or result.cells cell default ≡ Char 0 }
 {
-    let cells = usize::from(wanted.size().cells());
-    for cell in 0..cells {
-        wanted.put(cell, Want::Char(0));
-    }
+    Wanted::filled(Want::Char(0), size)
 }
 
 /// A cell of an item with a content; without one it keeps what it has.
@@ -187,14 +184,26 @@ impl Panel {
         ensures wanted { IsWantedOf self.now values.now message keep result }
         ensures screen { result ≡ screen_of self.now values.now message keep }
     {
-        let mut wanted = Wanted::filled(Want::Keep, self.size());
-        self.put_wanted(&mut wanted, values, message, keep);
+        let mut wanted = nulls(self.size());
+        self.put_items(&mut wanted, values, message, keep);
         wanted
     }
 
-    /// Puts that screen in place of another of its size. Where it is put into one that is there, none is copied.
+    /// Puts that screen in place of another of its size.
     pub fn put_wanted(&self, wanted: &mut Wanted, values: &Values, message: Message, keep: bool)
         requires size { wanted.old.size ≡ shape_of self.now }
+        requires fresh { (message ≡ Fresh) → keep ≡ false }
+        ensures wanted { IsWantedOf self.now values.now message keep wanted.new }
+        ensures screen { wanted.new ≡ screen_of self.now values.now message keep }
+    {
+        *wanted = nulls(self.size());
+        self.put_items(wanted, values, message, keep);
+    }
+
+    /// Puts what the panel has into a screen of its size with a null in each cell.
+    fn put_items(&self, wanted: &mut Wanted, values: &Values, message: Message, keep: bool)
+        requires size { wanted.old.size ≡ shape_of self.now }
+        requires nulls { (cell : ℕ) (default : Wish) → cell < cells_in wanted.old.size → slice_index_or wanted.old.cells cell default ≡ Char 0 }
         requires fresh { (message ≡ Fresh) → keep ≡ false }
         ensures wanted { IsWantedOf self.now values.now message keep wanted.new }
         ensures screen { wanted.new ≡ screen_of self.now values.now message keep }
@@ -202,7 +211,6 @@ impl Panel {
         let fields = self.fields.as_slice();
         let spoken = self.field_of(&message);
         let name = spoken.map_or("", |field| field.name.as_str());
-        put_nulls(wanted);
         put_stoppers(wanted, fields);
         put_message(wanted, &message, name.as_bytes());
         put_fields(wanted, values, &message, keep, fields);

@@ -63,7 +63,7 @@ ring_length whole p within =
     let before = length-take p whole in
     omega arith
 
-value_within : (whole : List CellBelief) (p : ℕ) (a : Attribute) (m : MdtState) (t : TextKnowledge) → p < length whole → Attr a m t ≡ get_or whole p (Attr a m t)
+pub value_within : (whole : List CellBelief) (p : ℕ) (a : Attribute) (m : MdtState) (t : TextKnowledge) → p < length whole → Attr a m t ≡ get_or whole p (Attr a m t)
     → length (value_of (fact_held t (drop (p + 1) whole ++ whole))) < length whole
 value_within whole p a m t within is =
     let round = drop (p + 1) whole ++ take p whole in

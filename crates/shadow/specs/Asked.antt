@@ -1,5 +1,6 @@
 -- What a belief answers when it is asked (our profile).
 use Rattle.std.specs.Prelude.{◌==◌, ℕ, List, [], ◌∷◌, map, slice_get, Option, Some, None, option_map, option_and_then, if◌then◌else◌}
+use Rattle.std.specs.Option.{option_map_or}
 use Rattle.codes3270.specs.declared.attribute.Cell.{Cell}
 use Rattle.codes3270.specs.declared.attribute.Cell.TheVariants.{Char, Attr}
 use Rattle.shadow.specs.declared.fact.Fact.{Fact as FactKind}
@@ -58,3 +59,7 @@ fact_at place shadow = option_map (λ belief. kind_of belief.fact) (field_at pla
 -- a character of the text that the fact of a field speaks of
 abbrev pub value_at : ℕ → ℕ → Shadow → Option ℕ
 value_at place index shadow = option_and_then (λ belief. slice_get (value_of belief.fact) index) (field_at place shadow)
+
+-- the text that the fact of a field speaks of; none where there is no field
+abbrev pub text_at : ℕ → Shadow → List ℕ
+text_at place shadow = option_map_or (λ belief. value_of belief.fact) (field_at place shadow) []

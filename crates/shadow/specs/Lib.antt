@@ -20,6 +20,7 @@ pub mod Held
 pub mod Came
 pub mod Appending
 pub mod InPlace
+pub mod FieldTexts
 pub mod PriorKnowledge
 pub mod Since
 pub mod Runs

@@ -5,12 +5,14 @@ ghost use Rattle.codes3270.specs.Size.{most_cells};
 ghost use Rattle.datastream.specs.Inbound.{without_nulls};
 ghost use Rattle.shadow.specs.Asked.{belief_with, kind_of, value_of, known_at, known_cell as known_of};
 ghost use Rattle.shadow.specs.Belief.{nulls};
+ghost use Rattle.shadow.specs.FieldTexts.{text_in};
 ghost use Rattle.shadow.specs.Heard.{denies as denies_text};
 ghost use Rattle.shadow.specs.InPlace.{cell_known, chars_known, text_told, fact_held, beliefs_held, is_whole, known_text, is_attribute as is_attribute_held, has_attribute as any_attribute, shadow_held, IsHeld};
 
 use crate::cell_belief::{CellBelief, TextKnowledge};
 use crate::cell_beliefs::{Ahead, CellBeliefs};
 use crate::fact::Fact;
+use crate::field_text::{FieldText, TextPlaces};
 use crate::mdt_state::MdtState;
 use codes3270::Cell;
 
@@ -169,6 +171,43 @@ pub(crate) fn value_held_at(places: &CellBeliefs, place: usize, index: usize) ->
         CellBelief::Known(_) => None,
         CellBelief::Told(_) => None,
         CellBelief::Unknown => None,
+    }
+}
+
+/// Which places of a field have the text that its fact speaks of; `place` is its attribute's.
+fn text_places(places: &CellBeliefs, place: usize, knowledge: TextKnowledge) -> TextPlaces
+    requires { place < length places.now }
+    ensures { text_in result (drop (place + 1) places.now ++ places.now) ≡ value_of (fact_held knowledge (drop (place + 1) places.now ++ places.now)) }
+{
+    match knowledge {
+        TextKnowledge::Cells => {
+            if all_known(places.ahead(place)) {
+                TextPlaces::Known
+            } else {
+                TextPlaces::Nowhere
+            }
+        }
+        TextKnowledge::ExactOrNulls => TextPlaces::Told,
+        TextKnowledge::Text => TextPlaces::Told,
+        TextKnowledge::TextOrNulls => TextPlaces::Told,
+    }
+}
+
+/// The text that the fact of the field speaks of whose attribute is at an address.
+pub(crate) fn text_held_at(places: &CellBeliefs, place: usize) -> FieldText<'_>
+    requires { place < length places.now }
+    ensures text { result ≡ option_map_or (λ belief. value_of belief.fact) (belief_with place (beliefs_held places.now 0 places.now)) [] }
+    ensures few { length result < most_cells }
+{
+    // For the contract: there is room for the screen.
+    let _cells = places.len();
+    match places.get(place) {
+        CellBelief::Attr(_, _, knowledge) => {
+            FieldText::new(places.ahead(place), text_places(places, place, knowledge))
+        }
+        CellBelief::Known(_) => FieldText::none(places),
+        CellBelief::Told(_) => FieldText::none(places),
+        CellBelief::Unknown => FieldText::none(places),
     }
 }
 

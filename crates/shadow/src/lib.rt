@@ -30,6 +30,7 @@ mod cell_belief;
 mod cell_beliefs;
 mod fact;
 mod fault;
+mod field_text;
 mod field_update;
 mod fitting;
 mod hearing;
@@ -45,6 +46,7 @@ mod writing;
 
 pub use fact::Fact;
 pub use fault::HeardFault;
+pub use field_text::FieldText;
 pub use mdt_state::MdtState;
 pub use shadow::Shadow;
 pub use writing::plain;

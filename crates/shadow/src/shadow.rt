@@ -6,7 +6,7 @@ ghost use Rattle.datastream.specs.InboundFields.{cells_sent};
 ghost use Rattle.datastream.specs.declared.command_code.CommandCode.TheVariants.{Write};
 ghost use Rattle.datastream.specs.declared.inbound_part.Form.TheVariants.{Buffer};
 ghost use Rattle.shadow.specs.Appending.{WritesSome};
-ghost use Rattle.shadow.specs.Asked.{known_at, fact_at, value_at};
+ghost use Rattle.shadow.specs.Asked.{known_at, fact_at, value_at, text_at};
 ghost use Rattle.shadow.specs.Belief.{cells_believed, IsOfSize, HasCell};
 ghost use Rattle.shadow.specs.Belief.Shadow.{NothingKnown, Unformatted};
 ghost use Rattle.shadow.specs.Fits.{fits, is_paintable};
@@ -17,11 +17,12 @@ ghost use Rattle.shadow.specs.Seen.{heard_buffer};
 ghost use Rattle.shadow.specs.Stores.{is_plain};
 ghost use Rattle.shadow.specs.Taken.{taken, taken_write, taken_erase};
 
-use crate::asking::{fact_held_at, has_attribute, known_held_at, value_held_at};
+use crate::asking::{fact_held_at, has_attribute, known_held_at, text_held_at, value_held_at};
 use crate::buffer::{any_other, put_read};
 use crate::cell_beliefs::CellBeliefs;
 use crate::fact::Fact;
 use crate::fault::HeardFault;
+use crate::field_text::FieldText;
 use crate::fitting::{fits_fields, fits_over};
 use crate::hearing::{after_attention, after_long, check_fields};
 use crate::painting::{Base, put_cells};
@@ -148,6 +149,19 @@ impl Shadow {
         match self.held() {
             Some(places) => value_held_at(places, attr.get() as usize, index),
             None => None,
+        }
+    }
+
+    /// The characters of the text that the fact of a field speaks of, one after another. None where the fact is Any, or where no
+    /// field is believed to be. If something is known, its screen must have the cell of the attribute.
+    pub fn text(&self, attr: Addr) -> FieldText<'_>
+        requires { HasCell attr self.now }
+        ensures text { result ≡ text_at attr self.now }
+        ensures few { length result < most_cells }
+    {
+        match self.held() {
+            Some(places) => text_held_at(places, attr.get() as usize),
+            None => FieldText::none(&self.places),
         }
     }
 

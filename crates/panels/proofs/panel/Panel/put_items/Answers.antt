@@ -13,22 +13,22 @@ use Rattle.panels.specs.Put.{FitsOn, field_spoken}
 use Rattle.panels.specs.Screen.{is_fresh, IsWantedOf, wanted_cursor}
 use Rattle.panels.proofs.Putting.{all_fit, cursor_within, put_all}
 use Rattle.panels.proofs.Screens.{is_screen_of}
-use Rattle.panels.proofs.panel.Panel.put_wanted.Goals as goal
+use Rattle.panels.proofs.panel.Panel.put_items.Goals as goal
 
 pub put_stoppers-requires : goal.put_stoppers-requires
 put_stoppers-requires c =
     let panel = c.args.self.now in
     let laid : IsLaidOut panel = rw (← c.self.view_is) c.self.invariant in
-    let size : c.put_nulls.new.wanted.size ≡ shape_of panel = c.put_nulls.ensures.size ∙ c.requires.size in
-    subst (λ fields. All (λ (field : Field). FitsOn c.put_nulls.new.wanted.size field.extent) fields)
+    let size : c.args.wanted.now.size ≡ shape_of panel = c.requires.size in
+    subst (λ fields. All (λ (field : Field). FitsOn c.args.wanted.now.size field.extent) fields)
     (sym (c.as_slice-fields.ensures.value ∙ ap (λ (p : PanelParts). p.fields) c.self.view_is))
-    (all_fit (λ (field : Field). field.extent) panel c.put_nulls.new.wanted.size panel.fields size laid.fields)
+    (all_fit (λ (field : Field). field.extent) panel c.args.wanted.now.size panel.fields size laid.fields)
 
 pub put_fields-requires : goal.put_fields-requires
 put_fields-requires c =
     let panel = c.args.self.now in
     let laid : IsLaidOut panel = rw (← c.self.view_is) c.self.invariant in
-    let size : c.put_message.new.wanted.size ≡ shape_of panel = c.put_message.ensures.0 ∙ c.put_stoppers.ensures.0 ∙ c.put_nulls.ensures.size ∙ c.requires.size in
+    let size : c.put_message.new.wanted.size ≡ shape_of panel = c.put_message.ensures.0 ∙ c.put_stoppers.ensures.0 ∙ c.requires.size in
     subst (λ fields. All (λ (field : Field). FitsOn c.put_message.new.wanted.size field.extent) fields)
     (sym (c.as_slice-fields.ensures.value ∙ ap (λ (p : PanelParts). p.fields) c.self.view_is))
     (all_fit (λ (field : Field). field.extent) panel c.put_message.new.wanted.size panel.fields size laid.fields)
@@ -38,7 +38,7 @@ put_texts-requires c =
     let panel = c.args.self.now in
     let laid : IsLaidOut panel = rw (← c.self.view_is) c.self.invariant in
     let size : c.put_fields.new.wanted.size ≡ shape_of panel =
-    c.put_fields.ensures.0 ∙ c.put_message.ensures.0 ∙ c.put_stoppers.ensures.0 ∙ c.put_nulls.ensures.size ∙ c.requires.size in
+    c.put_fields.ensures.0 ∙ c.put_message.ensures.0 ∙ c.put_stoppers.ensures.0 ∙ c.requires.size in
     subst (λ texts. All (λ (text : TextItem). FitsOn c.put_fields.new.wanted.size text.extent) texts)
     (sym (c.as_slice.ensures.value ∙ ap (λ (p : PanelParts). p.texts) c.self.view_is))
     (all_fit (λ (text : TextItem). text.extent) panel c.put_fields.new.wanted.size panel.texts size laid.texts)
@@ -48,7 +48,7 @@ set_cursor_and_reset-requires c =
     let panel = c.args.self.now in
     let laid : IsLaidOut panel = rw (← c.self.view_is) c.self.invariant in
     let sized : c.put_texts.new.wanted.size ≡ shape_of panel =
-    c.put_texts.ensures.0 ∙ c.put_fields.ensures.0 ∙ c.put_message.ensures.0 ∙ c.put_stoppers.ensures.0 ∙ c.put_nulls.ensures.size ∙ c.requires.size in
+    c.put_texts.ensures.0 ∙ c.put_fields.ensures.0 ∙ c.put_message.ensures.0 ∙ c.put_stoppers.ensures.0 ∙ c.requires.size in
     let chosen : c.map_or-cursor.result ≡ option_map_or (λ field. field.extent.first) (option_copied c.field_of-spoken.result) c.self.inside.cursor = search rules in
     let aimed : c.map_or-cursor.result ≡ wanted_cursor panel c.args.message =
     chosen ∙ ap (λ field. option_map_or (λ field. field.extent.first) field c.self.inside.cursor) c.field_of-spoken.ensures
@@ -64,7 +64,7 @@ returns-clause-wanted c =
     let fresh : c.is_fresh.result ≡ is_fresh c.args.message = search rules in
     let panel = c.args.self.now in
     let sized : c.put_texts.new.wanted.size ≡ shape_of panel =
-    c.put_texts.ensures.0 ∙ c.put_fields.ensures.0 ∙ c.put_message.ensures.0 ∙ c.put_stoppers.ensures.0 ∙ c.put_nulls.ensures.size ∙ c.requires.size in
+    c.put_texts.ensures.0 ∙ c.put_fields.ensures.0 ∙ c.put_message.ensures.0 ∙ c.put_stoppers.ensures.0 ∙ c.requires.size in
     let chosen : c.map_or-cursor.result ≡ option_map_or (λ field. field.extent.first) (option_copied c.field_of-spoken.result) c.self.inside.cursor = search rules in
     let aimed : c.map_or-cursor.result ≡ wanted_cursor panel c.args.message =
     chosen ∙ ap (λ field. option_map_or (λ field. field.extent.first) field c.self.inside.cursor) c.field_of-spoken.ensures
@@ -81,10 +81,10 @@ returns-clause-wanted c =
           let fits : cell < length c.put_texts.new.wanted.cells = subst (λ n. cell < n) (sym whole) below in
           slice_get-get_or c.put_texts.new.wanted.cells cell want.Keep fits
           ∙ ap Some
-          (put_all panel c.args.values.now c.args.message c.args.keep c.as_bytes.result.now c.as_slice.result.now c.as_slice-fields.result.now c.put_nulls.new.wanted
-          c.put_stoppers.new.wanted c.put_message.new.wanted c.put_fields.new.wanted c.put_texts.new.wanted (c.put_nulls.ensures.size ∙ c.requires.size) spoken
+          (put_all panel c.args.values.now c.args.message c.args.keep c.as_bytes.result.now c.as_slice.result.now c.as_slice-fields.result.now c.args.wanted.now
+          c.put_stoppers.new.wanted c.put_message.new.wanted c.put_fields.new.wanted c.put_texts.new.wanted (c.requires.size) spoken
           (c.as_slice.ensures.value ∙ ap (λ (p : PanelParts). p.texts) c.self.view_is) (c.as_slice-fields.ensures.value ∙ ap (λ (p : PanelParts). p.fields) c.self.view_is)
-          (λ cell default there. c.put_nulls.ensures.nulls cell default (subst (λ shape. cell < cells_in shape) c.put_nulls.ensures.size there))
+          c.requires.nulls
           c.put_stoppers.ensures c.put_message.ensures c.put_fields.ensures c.put_texts.ensures cell want.Keep below);
       cursor = aimed;
       reset = fresh;
@@ -94,7 +94,7 @@ pub returns-clause-screen : goal.returns-clause-screen
 returns-clause-screen c =
     let panel = c.args.self.now in
     let sized : c.put_texts.new.wanted.size ≡ shape_of panel =
-    c.put_texts.ensures.0 ∙ c.put_fields.ensures.0 ∙ c.put_message.ensures.0 ∙ c.put_stoppers.ensures.0 ∙ c.put_nulls.ensures.size ∙ c.requires.size in
+    c.put_texts.ensures.0 ∙ c.put_fields.ensures.0 ∙ c.put_message.ensures.0 ∙ c.put_stoppers.ensures.0 ∙ c.requires.size in
     let whole : length c.put_texts.new.wanted.cells ≡ cells_in (shape_of panel) =
     all_there c.cells-whole.result c.put_texts.new.wanted.cells c.put_texts.new.wanted.size (shape_of panel) c.cells-whole.ensures.cells c.cells-whole.ensures.size sized in
     is_screen_of panel c.args.values.now c.args.message c.args.keep c.set_cursor_and_reset.new.self
