@@ -50,6 +50,7 @@ impl<'a> Iterator for ReturnedFields<'a> {
 
     ghost remaining = { item_count (λ fields. fields) };
 
+    #[inline(always)]
     fn next(&mut self) -> Option<ReturnedField<'a>> {
         let [_, high, low, rest @ ..] = self.text else {
             return None;
@@ -64,6 +65,7 @@ impl<'a> Iterator for ReturnedFields<'a> {
 }
 
 /// A field's characters, and the bytes from the next address on.
+#[inline(always)]
 fn split_field(text: &[u8]) -> (&[u8], &[u8])
     ensures characters { result.0.now ≡ take (prefix_len is_storable text.now) text.now }
     ensures rest { result.1.now ≡ drop (prefix_len is_storable text.now) text.now }

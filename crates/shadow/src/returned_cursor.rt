@@ -42,6 +42,7 @@ fn first_address(place: usize, cells: usize) -> usize
 }
 
 /// The first of the fields that are left.
+#[inline(always)]
 fn next_of<'a>(rest: &mut ReturnedFields<'a>) -> (usize, &'a [u8])
     ensures { came_of result.0 result.1.now rest.new ≡ rest.old }
 {
@@ -74,6 +75,7 @@ impl<'a> ReturnedCursor<'a> {
 
     /// The text that came for the field whose attribute is held at a place, on a screen with this many cells. That field is passed
     /// then.
+    #[inline(always)]
     pub(crate) fn take(&mut self, held: CellBelief, place: usize, cells: usize) -> Option<&'a [u8]>
         requires placed { place < cells }
         requires few { cells ≤ most_cells }
@@ -89,6 +91,7 @@ impl<'a> ReturnedCursor<'a> {
     }
 
     /// The text of the next field, if that begins at an address.
+    #[inline(always)]
     fn take_at(&mut self, first: usize) -> Option<&'a [u8]>
         requires { first < most_cells }
         ensures text { text_of result ≡ text_at first self.old }
