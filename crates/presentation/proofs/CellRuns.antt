@@ -1,10 +1,10 @@
 -- Characters in cells that follow one another.
-use Rattle.std.proofs.Common.{◌≡◌, ℕ, ◌+◌, ◌%◌, ◌<◌, ◌≤◌, suc, true, List, [], ◌∷◌, ◌++◌, length, length-append, append_assoc, map, take, drop, set, get_or, refl, ap, sym, ◌∙◌, arith}
+use Rattle.std.proofs.Common.{◌≡◌, ℕ, ◌+◌, ◌%◌, ◌<◌, ◌≤◌, suc, true, List, [], ◌∷◌, ◌++◌, length, length-append, append_assoc, map, take, drop, set, refl, ap, sym, ◌∙◌, arith}
 use Rattle.std.specs.List.{All}
 use Rattle.std.proofs.lemmas.List.Elements.{All-append, All-take, All-drop, All-map, All-nil, All-cons, All-head, All-tail}
 use Rattle.std.proofs.Math.Nat.{mod-eq_of_lt}
-use Rattle.std.proofs.Math.Seq.{drop-append-add, drop-cons}
-use Rattle.std.proofs.lemmas.List.{drop-drop, length-map, length-drop, length-take-le, map-append, set_split, take-append-drop, take_at}
+use Rattle.std.proofs.Math.Seq.{drop-append-add}
+use Rattle.std.proofs.lemmas.List.{drop-drop, length-map, length-drop, length-take-le, map-append, set_split, take_at}
 use Rattle.codes3270.specs.declared.attribute.Cell.{Cell}
 use Rattle.codes3270.specs.declared.attribute.Cell.TheVariants.{Char}
 use Rattle.codes3270.specs.Storable.{is_storable}
@@ -17,39 +17,6 @@ use Rattle.datastream.specs.Meaning.{WriteProgress, all_executed, executed}
 use Rattle.datastream.specs.InboundFields.{IsStorableCell, IsSendable}
 use Rattle.presentation.specs.Runs.{placed}
 use Rattle.presentation.proofs.Storable.{with_cells}
-
--- ---- eight cells
-
-pub eight_set : (cells : List Cell) (a b c d e f g h : Cell) → length cells ≡ 8
-    → set (set (set (set (set (set (set (set cells 0 a) 1 b) 2 c) 3 d) 4 e) 5 f) 6 g) 7 h ≡ a ∷ b ∷ c ∷ d ∷ e ∷ f ∷ g ∷ h ∷ []
-eight_set [] a b c d e f g h eight = absurd (omega (arith, eight))
-eight_set (p ∷ []) a b c d e f g h eight = absurd (omega (arith, eight))
-eight_set (p ∷ q ∷ []) a b c d e f g h eight = absurd (omega (arith, eight))
-eight_set (p ∷ q ∷ r ∷ []) a b c d e f g h eight = absurd (omega (arith, eight))
-eight_set (p ∷ q ∷ r ∷ s ∷ []) a b c d e f g h eight = absurd (omega (arith, eight))
-eight_set (p ∷ q ∷ r ∷ s ∷ t ∷ []) a b c d e f g h eight = absurd (omega (arith, eight))
-eight_set (p ∷ q ∷ r ∷ s ∷ t ∷ u ∷ []) a b c d e f g h eight = absurd (omega (arith, eight))
-eight_set (p ∷ q ∷ r ∷ s ∷ t ∷ u ∷ v ∷ []) a b c d e f g h eight = absurd (omega (arith, eight))
-eight_set (p ∷ q ∷ r ∷ s ∷ t ∷ u ∷ v ∷ w ∷ []) a b c d e f g h eight = refl
-eight_set (p ∷ q ∷ r ∷ s ∷ t ∷ u ∷ v ∷ w ∷ x ∷ more) a b c d e f g h eight = absurd (omega (arith, eight))
-
-eight_mapped : (text : List ℕ) → length text ≡ 8
-    → Char (get_or text 0 0) ∷ Char (get_or text 1 0) ∷ Char (get_or text 2 0) ∷ Char (get_or text 3 0) ∷ Char (get_or text 4 0) ∷ Char (get_or text 5 0) ∷ Char (get_or text 6 0) ∷ Char (get_or text 7 0) ∷ [] ≡ map Char text
-eight_mapped [] eight = absurd (omega (arith, eight))
-eight_mapped (p ∷ []) eight = absurd (omega (arith, eight))
-eight_mapped (p ∷ q ∷ []) eight = absurd (omega (arith, eight))
-eight_mapped (p ∷ q ∷ r ∷ []) eight = absurd (omega (arith, eight))
-eight_mapped (p ∷ q ∷ r ∷ s ∷ []) eight = absurd (omega (arith, eight))
-eight_mapped (p ∷ q ∷ r ∷ s ∷ t ∷ []) eight = absurd (omega (arith, eight))
-eight_mapped (p ∷ q ∷ r ∷ s ∷ t ∷ u ∷ []) eight = absurd (omega (arith, eight))
-eight_mapped (p ∷ q ∷ r ∷ s ∷ t ∷ u ∷ v ∷ []) eight = absurd (omega (arith, eight))
-eight_mapped (p ∷ q ∷ r ∷ s ∷ t ∷ u ∷ v ∷ w ∷ []) eight = refl
-eight_mapped (p ∷ q ∷ r ∷ s ∷ t ∷ u ∷ v ∷ w ∷ x ∷ more) eight = absurd (omega (arith, eight))
-
-pub eight_put : (cells : List Cell) (text : List ℕ) → length cells ≡ 8 → length text ≡ 8
-    → set (set (set (set (set (set (set (set cells 0 (Char (get_or text 0 0))) 1 (Char (get_or text 1 0))) 2 (Char (get_or text 2 0))) 3 (Char (get_or text 3 0))) 4 (Char (get_or text 4 0))) 5 (Char (get_or text 5 0))) 6 (Char (get_or text 6 0))) 7 (Char (get_or text 7 0))
-    ≡ map Char text
-eight_put cells text eight long = eight_set cells _ _ _ _ _ _ _ _ eight ∙ eight_mapped text long
 
 -- ---- a text from a place on
 
@@ -65,11 +32,6 @@ length-placed from text cells room =
       length-map text Char,
       length-drop (from + length text) cells,
     )
-
-pub placed_none : (from : ℕ) (cells : List Cell) → placed from [] cells ≡ cells
-placed_none from cells =
-    let same : from + 0 ≡ from = omega arith in
-    ap (λ (n : ℕ). take from cells ++ drop n cells) same ∙ take-append-drop from cells
 
 pub placed_one : (from code : ℕ) (cells : List Cell) → from < length cells → set cells from (Char code) ≡ placed from (code ∷ []) cells
 placed_one from code cells inside =
@@ -98,19 +60,6 @@ placed_more from to front behind cells there room =
     ∙ append_assoc before middle (map Char behind ++ drop (from + length (front ++ behind)) cells)
     ∙ ap (λ (cs : List Cell). before ++ cs) (sym (append_assoc middle (map Char behind) (drop (from + length (front ++ behind)) cells)))
     ∙ ap (λ (cs : List Cell). before ++ (cs ++ drop (from + length (front ++ behind)) cells)) (sym (map-append Char front behind))
-
-pub placed_step : (from k : ℕ) (text : List ℕ) (cells : List Cell) → k < length text → from + length text ≤ length cells
-    → placed (from + (k + 1)) (drop (k + 1) text) (set cells (from + k) (Char (get_or text k 0))) ≡ placed (from + k) (drop k text) cells
-placed_step from k text cells inside room =
-    let code : ℕ = get_or text k 0 in
-    let behind : List ℕ = drop (k + 1) text in
-    let left = length-drop (k + 1) text in
-    let there : from + k + 1 ≡ from + (k + 1) = omega arith in
-    let more : suc k ≡ k + 1 = omega arith in
-    let split : drop k text ≡ code ∷ behind = drop-cons text k 0 inside ∙ ap (λ (n : ℕ). code ∷ drop n text) more in
-    ap (placed (from + (k + 1)) behind) (placed_one (from + k) code cells (omega (arith, inside, room)))
-    ∙ placed_more (from + k) (from + (k + 1)) (code ∷ []) behind cells there (omega (arith, left, inside, room))
-    ∙ ap (λ (bytes : List ℕ). placed (from + k) bytes cells) (sym split)
 
 -- ---- the characters of a write, for which there are cells up to the last
 

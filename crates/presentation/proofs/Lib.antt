@@ -5,7 +5,6 @@ pub mod Storable
 pub mod FieldLists
 pub mod Sent
 pub mod Sized
-pub mod AttributePlaces
 pub mod KeptCells
 pub mod Governing
 pub mod Steps

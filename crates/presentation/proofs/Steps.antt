@@ -1,6 +1,6 @@
 -- Steps from attribute to attribute, over the characters between.
-use Rattle.std.proofs.Common.{◌≡◌, ℕ, ◌+◌, ◌-◌, ◌%◌, ◌<◌, ◌≤◌, Bool, true, false, not, cond, List, [], ◌∷◌, ◌++◌, length, take, drop, set, get_or, map, Option, Some, None, length-append, refl, ap, sym, arith, ◌∙◌, suc, zero, inl, inr, append_assoc}
-use Rattle.std.specs.Prelude.{nat_eq, position}
+use Rattle.std.proofs.Common.{◌≡◌, ℕ, ◌+◌, ◌-◌, ◌%◌, ◌<◌, ◌≤◌, Bool, true, false, cond, List, [], ◌∷◌, ◌++◌, length, take, drop, set, get_or, map, Option, Some, refl, ap, sym, arith, ◌∙◌, suc, zero, inl, inr}
+use Rattle.std.specs.Prelude.{nat_eq}
 use Rattle.std.specs.List.{list_all, flat_map, prefix_len, position_from}
 use Rattle.std.proofs.lemmas.Bool.{cases_eq, cases_lt, ne_eqb, eq-eqb}
 use Rattle.std.proofs.lemmas.List.{append-nil, drop_more, drop_all, drop-drop, drop-map, get_or-drop, get_or-map, length-drop}
@@ -284,9 +284,9 @@ pub field_codes_front : (cells : List Cell) (codes : List ℕ) (attr next : ℕ)
 field_codes_front cells codes attr next are below stands is = elim (cases_lt next (length cells)) [
   | inl inner ↦ ([], field_codes_inside cells codes attr next are below stands is inner ∙ sym (append-nil (take (next - (attr + 1)) (drop (attr + 1) codes))))
   | inr end ↦ (
-      take (0 + prefix_len is_char (drop 0 cells) - 0) (drop 0 codes),
-      field_codes_round cells codes attr next (0 + prefix_len is_char (drop 0 cells)) are below stands is end refl,
-    )
+    take (0 + prefix_len is_char (drop 0 cells) - 0) (drop 0 codes),
+    field_codes_round cells codes attr next (0 + prefix_len is_char (drop 0 cells)) are below stands is end refl,
+  )
 ]
 
 -- the text of a screen without fields

@@ -1,12 +1,11 @@
 -- The characters before the first attribute of a list of cells.
-use Rattle.std.proofs.Common.{◌≡◌, ℕ, ◌+◌, ◌<◌, ◌≤◌, ◌==◌, not, Bool, true, false, cond, List, [], ◌∷◌, ◌++◌, length, get_or, take, drop, arith, sym, ◌∙◌, ap, refl, suc, zero, length-append, length-drop, length-take-le}
+use Rattle.std.proofs.Common.{◌≡◌, ℕ, ◌+◌, ◌<◌, ◌==◌, not, Bool, true, false, cond, List, [], ◌∷◌, ◌++◌, length, get_or, take, drop, arith, sym, ◌∙◌, ap, refl, suc, zero}
 use Rattle.std.specs.List.{list_all, flat_map, prefix_len}
-use Rattle.std.proofs.lemmas.List.{drop_more, get_or_default, append-nil}
-use Rattle.std.proofs.lemmas.List.Elements.{filter-append}
+use Rattle.std.proofs.lemmas.List.{drop_more, append-nil}
 use Rattle.codes3270.specs.declared.attribute.Cell.{Cell}
 use Rattle.codes3270.specs.declared.attribute.Cell.TheVariants.{Char, Attr}
-use Rattle.datastream.specs.Screen.{text_before_attribute, is_char, is_char_at, ring, field_text, places_from}
-use Rattle.datastream.specs.Inbound.{is_modified, without_nulls}
+use Rattle.datastream.specs.Screen.{text_before_attribute, is_char, is_char_at, field_text, places_from}
+use Rattle.datastream.specs.Inbound.{without_nulls}
 
 -- the bytes before the first null, and those behind it
 pub nulls_split : (bytes : List ℕ) → (let k = prefix_len (λ (byte : ℕ). not (byte == 0)) bytes in without_nulls bytes ≡ take k bytes ++ without_nulls (drop 1 (drop k bytes)))
@@ -29,13 +28,6 @@ nulls_split_at bytes front behind count is at_front at_back =
     ∙ ap (λ (n : ℕ). take n bytes ++ without_nulls (drop 1 (drop n bytes))) (sym is)
     ∙ ap (λ (text : List ℕ). text ++ without_nulls (drop 1 (drop count bytes))) (sym at_front)
     ∙ ap (λ (rest : List ℕ). front ++ without_nulls (drop 1 rest)) (sym at_back)
-
-pub text_ends : (cells : List Cell) (place : ℕ) (d : Cell) → place < length cells → is_char (get_or cells place d) ≡ false → text_before_attribute (drop place cells) ≡ []
-text_ends cells place d below test = rw (drop_more cells place d below) (at_attribute (get_or cells place d) (drop (place + 1) cells) test)
-  where
-    at_attribute : (cell : Cell) (rest : List Cell) → is_char cell ≡ false → text_before_attribute (cell ∷ rest) ≡ []
-    at_attribute (Char byte) rest e = cc
-    at_attribute (Attr attribute) rest e = refl
 
 cons-cond : (test : Bool) (byte : ℕ) (p q : List ℕ) → byte ∷ cond test p q ≡ cond test (byte ∷ p) (byte ∷ q)
 cons-cond true byte p q = refl
@@ -77,50 +69,7 @@ places_from_more {A = A} entry passes cells place d below =
     at_cell true = ap (λ (front : List A). front ++ flat_map entry (places_from passes (place + 1) (drop (place + 1) cells))) (sym (append-nil (entry place)))
     at_cell false = refl
 
--- the entry of one place that passes
-pub one_entry : {A : Type 0} (entry : ℕ → List A) (passes : Cell → Bool) (cells : List Cell) (place : ℕ) (cell : Cell) → place < length cells → cell ≡ get_or cells place cell → passes cell ≡ true
-    → flat_map entry (places_from passes place (take 1 (drop place cells))) ≡ entry place
-one_entry {A = A} entry passes cells place cell below is test =
-    let here : take 1 (drop place cells) ≡ cell ∷ [] = ap (take 1) (drop_more cells place cell below) ∙ ap (λ (c : Cell). c ∷ []) (sym is) in
-    ap (λ (one : List Cell). flat_map entry (places_from passes place one)) here
-    ∙ ap (λ (t : Bool). flat_map entry (cond t (place ∷ []) [])) test ∙ append-nil (entry place)
-
--- where MDT is on an attribute stands
-pub modified_stands : (cells : List Cell) (place : ℕ) (cell : Cell) → place < length cells → cell ≡ get_or cells place cell → is_modified cell ≡ true → is_char_at cells place ≡ false
-modified_stands cells place cell below is test =
-    ap is_char (get_or_default cells place (Char 0) cell below ∙ sym is) ∙ no_character cell test
-  where
-    no_character : (some : Cell) → is_modified some ≡ true → is_char some ≡ false
-    no_character (Char byte) on = cc
-    no_character (Attr attribute) on = refl
-
 pub length-text_before_attribute : (cells : List Cell) → length (text_before_attribute cells) ≡ prefix_len is_char cells
 length-text_before_attribute [] = refl
 length-text_before_attribute (Char byte ∷ cells) = omega (arith, length-text_before_attribute cells)
 length-text_before_attribute (Attr attribute ∷ cells) = refl
-
--- the lengths of the two parts of a field
-pub length-field_text : (cells : List Cell) (place : ℕ) → length (field_text cells place) ≡ cond (list_all is_char (drop (place + 1) cells)) (prefix_len is_char (drop (place + 1) cells) + prefix_len is_char (take (place + 1) cells)) (prefix_len is_char (drop (place + 1) cells))
-length-field_text cells place =
-    let back : List Cell = drop (place + 1) cells in
-    let front : List Cell = take (place + 1) cells in
-    ap length (text_before_attribute-append back front)
-    ∙ choose-length (list_all is_char back) (text_before_attribute back) (text_before_attribute front)
-    ∙ rw (length-text_before_attribute back, length-text_before_attribute front)
-  where
-    choose-length : (test : Bool) (x y : List ℕ) → length (cond test (x ++ y) x) ≡ cond test (length x + length y) (length x)
-    choose-length true x y = length-append x y
-    choose-length false x y = refl
-
--- a text ends at the first cell that holds an attribute
-pub text_ends_at : (cells : List Cell) (i : ℕ) → i ≤ length cells → ((j : ℕ) → j < i → is_char_at cells j ≡ true) → (i < length cells → is_char_at cells i ≡ false) → length (text_before_attribute cells) ≡ i
-text_ends_at [] zero b each last = refl
-text_ends_at [] (suc i) b each last = absurd (omega arith)
-text_ends_at (Char byte ∷ cells) zero b each last = let wrong : true ≡ false = last (omega arith) in cc
-text_ends_at (Char byte ∷ cells) (suc i) b each last =
-    ap (λ n. suc n) (text_ends_at cells i (omega arith) (λ j lower. each (suc j) (omega arith)) (λ lower. last (omega arith)))
-text_ends_at (Attr attribute ∷ cells) zero b each last = refl
-text_ends_at (Attr attribute ∷ cells) (suc i) b each last = let wrong : false ≡ true = each 0 (omega arith) in cc
-
-pub length-ring : (cells : List Cell) (from : ℕ) → from ≤ length cells → length (ring from cells) ≡ length cells
-length-ring cells from below = omega (arith, length-append (drop from cells) (take from cells), length-drop from cells, length-take-le from cells below)

@@ -11,7 +11,6 @@ ghost use Rattle.datastream.specs.Meaning.{filled, opened, erased, unmodified, m
 use crate::screen_cells::ScreenCells;
 use codes3270::{Addr, Attr, Cell, Size};
 
-
 /// Turns MDT off in each attribute.
 pub(crate) fn reset_mdt(cells: &mut ScreenCells)
     ensures { cells.new ≡ map unmodified cells.old }

@@ -94,7 +94,12 @@ fn put_without_nulls(out: &mut Vec<u8>, bytes: &[u8]) -> Result<(), Memory>
 }
 
 /// The text of a field, round the end, without nulls. `next` is the first attribute behind its own, or the number of cells.
-fn put_field_text(out: &mut Vec<u8>, cells: &ScreenCells, attr: usize, next: usize) -> Result<(), Memory>
+fn put_field_text(
+    out: &mut Vec<u8>,
+    cells: &ScreenCells,
+    attr: usize,
+    next: usize,
+) -> Result<(), Memory>
     requires placed { attr < length cells.now }
     requires attribute { is_char_at cells.now attr ≡ false }
     requires next { next ≡ attr + 1 + prefix_len is_char (drop (attr + 1) cells.now) }
@@ -109,7 +114,13 @@ fn put_field_text(out: &mut Vec<u8>, cells: &ScreenCells, attr: usize, next: usi
 }
 
 /// SBA, the field's first address and its text.
-fn put_field(out: &mut Vec<u8>, cells: &ScreenCells, attr: usize, next: usize, size: Size) -> Result<(), Memory>
+fn put_field(
+    out: &mut Vec<u8>,
+    cells: &ScreenCells,
+    attr: usize,
+    next: usize,
+    size: Size,
+) -> Result<(), Memory>
     requires size { length cells.now ≡ cells_in size }
     requires placed { attr < length cells.now }
     requires attribute { is_char_at cells.now attr ≡ false }
@@ -132,7 +143,13 @@ fn is_modified_attribute(cell: Cell) -> bool
 }
 
 /// A field, if it is modified.
-fn put_field_if_modified(out: &mut Vec<u8>, cells: &ScreenCells, attr: usize, next: usize, size: Size) -> Result<(), Memory>
+fn put_field_if_modified(
+    out: &mut Vec<u8>,
+    cells: &ScreenCells,
+    attr: usize,
+    next: usize,
+    size: Size,
+) -> Result<(), Memory>
     requires size { length cells.now ≡ cells_in size }
     requires placed { attr < length cells.now }
     requires attribute { is_char_at cells.now attr ≡ false }

@@ -258,8 +258,7 @@ impl Buffer {
         ensures size { self.new ≡ record self.old { screen = self.new.screen } }
     {
         let address = position.address;
-        self.cells
-            .put_characters(usize::from(address.get()), text);
+        self.cells.put_characters(usize::from(address.get()), text);
         WritePosition::after_data(address.forward(text.len() as u16, size))
     }
 
@@ -280,11 +279,7 @@ impl Buffer {
                 Cell::Char(byte),
                 size,
             )),
-            Order::Sf(attr) => WritePosition::moved_to(self.store(
-                address,
-                Cell::Attr(attr),
-                size,
-            )),
+            Order::Sf(attr) => WritePosition::moved_to(self.store(address, Cell::Attr(attr), size)),
             Order::Sba(address) => WritePosition::moved_to(address),
             Order::Ic => {
                 self.place_cursor(address);

@@ -1,5 +1,5 @@
 use Rattle.std.proofs.Common.{◌≡◌, ◌<◌, ◌+◌, ◌-◌, ◌%◌, ◌∙◌, ℕ, length, ap, sym, subst}
-use Rattle.datastream.specs.Screen.{attribute_over, last_attribute, ring}
+use Rattle.datastream.specs.Screen.{last_attribute, ring}
 use Rattle.datastream.proofs.Fields.{attribute_before_next, back_one}
 use Rattle.presentation.proofs.cells.attribute_before.Goals as goal
 

@@ -1,4 +1,4 @@
-use Rattle.std.proofs.Common.{◌∙◌, ◌≡◌, ◌+◌, ◌-◌, ◌≤◌, ap, sym, arith, ℕ}
+use Rattle.std.proofs.Common.{◌∙◌, ◌+◌, ◌-◌, ◌≤◌, ap, sym, arith, ℕ}
 use Rattle.presentation.proofs.Steps.{field_inside, field_round, before_attribute}
 use Rattle.presentation.proofs.cells.field_length.Goals as goal
 

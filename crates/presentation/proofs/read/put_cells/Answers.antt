@@ -1,9 +1,9 @@
-use Rattle.std.proofs.Common.{◌≡◌, ◌+◌, ◌-◌, ◌<◌, ◌≤◌, ◌∙◌, ◌++◌, ◌∷◌, ℕ, List, [], false, length, take, drop, ap, sym, subst, arith}
+use Rattle.std.proofs.Common.{◌≡◌, ◌-◌, ◌<◌, ◌≤◌, ◌∙◌, ◌++◌, ℕ, List, false, length, take, drop, ap, sym, arith}
 use Rattle.std.specs.List.{flat_map}
 use Rattle.std.proofs.lemmas.List.{append-nil, drop_all}
 use Rattle.std.proofs.lemmas.Result.{err_from_is_err_and}
 use Rattle.codes3270.specs.declared.attribute.Cell.{Cell}
-use Rattle.codes3270.proofs.Appendings.{IsAppending, appending_more, appending_stopped, appending_last}
+use Rattle.codes3270.proofs.Appendings.{appending_more, appending_stopped, appending_last}
 use Rattle.datastream.specs.Inbound.{cell_bytes}
 use Rattle.datastream.specs.Screen.{is_char_at}
 use Rattle.presentation.proofs.Steps.{run_between, attribute_between, attribute_stands}

@@ -1,8 +1,5 @@
-use Rattle.std.proofs.Common.{◌≡◌, ◌+◌, ◌<◌, ◌∙◌, ◌++◌, ℕ, List, [], length, take, drop, ap, sym, subst, arith}
-use Rattle.std.proofs.lemmas.List.{length-drop}
 use Rattle.std.proofs.lemmas.Result.{err_from_is_err_and}
-use Rattle.codes3270.proofs.Appendings.{IsAppending, appending_more, appending_stopped, appending_done}
-use Rattle.datastream.specs.Inbound.{without_nulls}
+use Rattle.codes3270.proofs.Appendings.{appending_more, appending_stopped}
 use Rattle.presentation.proofs.Texts.{nulls_split_at}
 use Rattle.presentation.proofs.read.put_without_nulls.Goals as goal
 

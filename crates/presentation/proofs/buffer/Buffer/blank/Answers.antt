@@ -3,7 +3,7 @@ use Rattle.codes3270.specs.Size.{Shape, cells_in, most_cells}
 use Rattle.codes3270.specs.declared.attention.Aid.TheVariants.{NoAid}
 use Rattle.codes3270.specs.declared.attribute.Cell.{Cell}
 use Rattle.codes3270.specs.declared.attribute.Cell.TheVariants.{Char}
-use Rattle.presentation.specs.Sizes.{IsSized, SizedScreen}
+use Rattle.presentation.specs.Sizes.{IsSized}
 use Rattle.presentation.proofs.Sized.{blank_sized, sized}
 use Rattle.presentation.proofs.buffer.Buffer.blank.Goals as goal
 

@@ -1,4 +1,4 @@
-use Rattle.std.proofs.Common.{◌≡◌, ◌<◌, length, ap, sym, subst, arith}
+use Rattle.std.proofs.Common.{◌<◌, length, ap, sym, subst, arith}
 use Rattle.codes3270.specs.Size.{cells_in}
 use Rattle.datastream.specs.InboundFields.{IsStorableCell}
 use Rattle.presentation.specs.Sizes.{SizedScreen}

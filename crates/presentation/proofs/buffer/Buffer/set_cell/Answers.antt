@@ -1,7 +1,6 @@
-use Rattle.std.proofs.Common.{◌≡◌, ◌<◌, List, set, length, ap, arith}
+use Rattle.std.proofs.Common.{set, ap, arith}
 use Rattle.std.proofs.lemmas.List.{length-set}
 use Rattle.codes3270.specs.Size.{cells_in}
-use Rattle.codes3270.specs.declared.attribute.Cell.{Cell}
 use Rattle.presentation.specs.Sizes.{SizedScreen}
 use Rattle.presentation.proofs.Sized.{sized, changed_sized}
 use Rattle.presentation.proofs.Storable.{with_stored}

@@ -1,4 +1,4 @@
-use Rattle.std.proofs.Common.{◌≡◌, ◌<◌, ◌∙◌, length, sym, arith}
+use Rattle.std.proofs.Common.{◌<◌, ◌∙◌, length, sym, arith}
 use Rattle.presentation.proofs.KeptCells.{size, cell_read}
 use Rattle.presentation.proofs.screen_cells.ScreenCells.get.Goals as goal
 

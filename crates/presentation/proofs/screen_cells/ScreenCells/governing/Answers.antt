@@ -1,4 +1,4 @@
-use Rattle.std.proofs.Common.{◌≡◌, ◌-◌, ◌<◌, ◌∙◌, ℕ, true, List, length, Option, ap, sym, subst, arith}
+use Rattle.std.proofs.Common.{◌≡◌, ◌-◌, ◌<◌, ℕ, true, List, length, Option, sym, subst, arith}
 use Rattle.std.specs.Option.{IfSome, IfNone}
 use Rattle.std.specs.List.{list_all}
 use Rattle.codes3270.specs.declared.attribute.Cell.{Cell}

@@ -1,4 +1,4 @@
-use Rattle.std.proofs.Common.{◌≡◌, ◌≤◌, ◌∙◌, ℕ, not, replicate, length, ap, sym, subst, arith}
+use Rattle.std.proofs.Common.{◌≤◌, ◌∙◌, ℕ, not, replicate, length, ap, sym, subst, arith}
 use Rattle.std.proofs.lemmas.List.{length-replicate}
 use Rattle.codes3270.specs.Size.{Shape, cells_in, most_cells}
 use Rattle.codes3270.specs.declared.attribute.Cell.{Cell}

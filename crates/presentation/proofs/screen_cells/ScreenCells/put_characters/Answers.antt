@@ -1,8 +1,7 @@
-use Rattle.std.proofs.Common.{◌≡◌, ◌+◌, ◌≤◌, ◌∙◌, ℕ, length, map, ap, sym, subst, arith}
+use Rattle.std.proofs.Common.{◌+◌, ◌≤◌, ◌∙◌, ℕ, length, map, ap, sym, subst, arith}
 use Rattle.std.proofs.lemmas.List.{length-map}
 use Rattle.codes3270.specs.Size.{Shape, cells_in, most_cells}
 use Rattle.datastream.specs.CellCodes.{code_in}
-use Rattle.presentation.specs.Runs.{placed}
 use Rattle.presentation.proofs.CellRuns.{length-placed}
 use Rattle.presentation.proofs.KeptCells.{size, put_kept, put_coded}
 use Rattle.presentation.proofs.screen_cells.ScreenCells.put_characters.Goals as goal
