@@ -5,7 +5,7 @@ use Rattle.std.proofs.lemmas.List.{length-drop}
 use Rattle.std.specs.List.{onto_first}
 use Rattle.presentation.specs.Glyph.{blank}
 use Rattle.panels.specs.Panel.{Panels}
-use Rattle.jobs3270.specs.AnswerLines.{Said, answer_in, answer_of_words, answer_saying, answer_with, is_quoted_after, nothing_said, pair_of, panel_said, with_word, with_words, word_length, words_after, words_from}
+use Rattle.jobs3270.specs.AnswerLines.{AnswerParts, answer_in, answer_of_words, answer_of_parts, answer_with, is_quoted_after, no_parts, pair_of, panel_of_name, with_word, with_words, word_length, words_after, words_from}
 
 abbrev IsFirst : Bool → List ℕ → Type 0
 IsFirst quoted text = words_from quoted text ≡ take (word_length quoted text) text ∷ words_after (drop (word_length quoted text) text)
@@ -35,12 +35,12 @@ no_words (char ∷ text) none = by_test (char == blank) refl
     by_test false is = rw is refl
 
 module _ (panels : Panels) (rest text : List ℕ) (is : rest ≡ blank ∷ text) (word behind : List ℕ) (word_is : word ≡ take (word_length false text) text)
-    (behind_is : behind ≡ drop (word_length false text) text) (old : Said) (whole : Option Said) (so_far : with_words panels (words_after rest) old ≡ whole) where
+    (behind_is : behind ≡ drop (word_length false text) text) (old : AnswerParts) (whole : Option AnswerParts) (so_far : with_words panels (words_after rest) old ≡ whole) where
   by_word : with_words panels (words_after rest) old ≡ option_and_then (with_words panels (words_after behind)) (with_word panels (pair_of word) old)
   by_word = ap (λ (words : List (List ℕ)). with_words panels words old)
       (ap words_after is ∙ words_first false text ∙ (λ i. sym word_is i ∷ words_after (sym behind_is i)))
 
-  pub word_more : (new : Said) → with_word panels (pair_of word) old ≡ Some new → with_words panels (words_after behind) new ≡ whole
+  pub word_more : (new : AnswerParts) → with_word panels (pair_of word) old ≡ Some new → with_words panels (words_after behind) new ≡ whole
   word_more new some = sym (by_word ∙ ap (option_and_then (with_words panels (words_after behind))) some) ∙ so_far
 
   pub word_fails : with_word panels (pair_of word) old ≡ None → whole ≡ None
@@ -52,23 +52,23 @@ module _ (panels : Panels) (rest text : List ℕ) (is : rest ≡ blank ∷ text)
 -- ---- the answer
 
 pub answer_by_words : (panels : Panels) (text : List ℕ) → answer_in panels text
-    ≡ answer_with panels (words_after (drop (word_length false text) text)) (panel_said panels (take (word_length false text) text))
+    ≡ answer_with panels (words_after (drop (word_length false text) text)) (panel_of_name panels (take (word_length false text) text))
 unfolding answer_in
 answer_by_words panels text = ap (answer_of_words panels) (words_first false text)
 
 module _ (panels : Panels) (text name rest : List ℕ) (name_is : name ≡ take (word_length false text) text) (rest_is : rest ≡ drop (word_length false text) text) where
-  by_parts : answer_in panels text ≡ answer_with panels (words_after rest) (panel_said panels name)
-  by_parts = answer_by_words panels text ∙ (λ i. answer_with panels (words_after (sym rest_is i)) (panel_said panels (sym name_is i)))
+  by_parts : answer_in panels text ≡ answer_with panels (words_after rest) (panel_of_name panels name)
+  by_parts = answer_by_words panels text ∙ (λ i. answer_with panels (words_after (sym rest_is i)) (panel_of_name panels (sym name_is i)))
 
-  pub has_no_panel : panel_said panels name ≡ None → None ≡ answer_in panels text
+  pub has_no_panel : panel_of_name panels name ≡ None → None ≡ answer_in panels text
   has_no_panel none = sym (by_parts ∙ ap (answer_with panels (words_after rest)) none)
 
-  module _ (panel : Option ℕ) (some : panel_said panels name ≡ Some panel) where
-    by_panel : answer_in panels text ≡ option_map (answer_saying panel) (with_words panels (words_after rest) nothing_said)
+  module _ (panel : Option ℕ) (some : panel_of_name panels name ≡ Some panel) where
+    by_panel : answer_in panels text ≡ option_map (answer_of_parts panel) (with_words panels (words_after rest) no_parts)
     by_panel = by_parts ∙ ap (answer_with panels (words_after rest)) some
 
-    pub is_not_said : with_words panels (words_after rest) nothing_said ≡ None → None ≡ answer_in panels text
-    is_not_said none = sym (by_panel ∙ ap (option_map (answer_saying panel)) none)
+    pub is_no_answer : with_words panels (words_after rest) no_parts ≡ None → None ≡ answer_in panels text
+    is_no_answer none = sym (by_panel ∙ ap (option_map (answer_of_parts panel)) none)
 
-    pub is_said : (said : Said) → with_words panels (words_after rest) nothing_said ≡ Some said → Some (answer_saying panel said) ≡ answer_in panels text
-    is_said said all = sym (by_panel ∙ ap (option_map (answer_saying panel)) all)
+    pub is_answer : (parts : AnswerParts) → with_words panels (words_after rest) no_parts ≡ Some parts → Some (answer_of_parts panel parts) ≡ answer_in panels text
+    is_answer parts all = sym (by_panel ∙ ap (option_map (answer_of_parts panel)) all)

@@ -11,9 +11,9 @@ use Rattle.telnet_wire.specs.Items.{sent_bytes}
 use Rattle.term_core.specs.Bytes.{TakesByte, TakesBytes, goes_on, completes, breaks, link_after}
 use Rattle.term_core.specs.Feeds.{IsAttached, StopsFor}
 use Rattle.term_core.specs.State.{Link, Terminal, Detached, Attached, Closed, lost, phase_of}
-use Rattle.jobs3270.specs.Counting.{CutShort, Output, Written, bytes_given, chunk_size}
+use Rattle.jobs3270.specs.Counting.{CutShort, Output, Written, bytes_given}
 use Rattle.jobs3270.specs.Operating.{IsWaitOver, is_wait_over}
-use Rattle.jobs3270.specs.Waits.{Exchanges, GaveOn, GoesOn, HasClosed, HasExchanged, HasWaited, IsFed, SendsAll, SendsLast, ended, is_memory, most_waits, sound, unsent}
+use Rattle.jobs3270.specs.Waits.{Exchanges, GaveOn, GoesOn, HasClosed, HasExchanged, HasWaited, IsFed, SendsAll, SendsLast, ended, is_memory, most_waits, sound, unsent, read_room}
 use Rattle.jobs3270.specs.declared.operator.Exchanged.{Exchanged}
 use Rattle.jobs3270.specs.declared.operator.Exchanged.TheVariants.{Over, ReadsUsedUp}
 use Rattle.jobs3270.specs.declared.streams.Answer.{Answer}
@@ -154,7 +154,7 @@ module _ {D : Type 0} (gave : D → ℕ → List ℕ → Answer → D → Type 0
     ends_soundly new up_new now_written is why = sound count waiting.fed waiting.exchanges (all_written up_new now_written) (emptied new is) why
 
     -- all is sent, and the connection is over
-    pub ends_lost : (new : Terminal) (down_new : D) (answer : Answer) → now.out ≡ [] → gave down_now chunk_size [] answer down_new → (GoesOn answer → ⊥)
+    pub ends_lost : (new : Terminal) (down_new : D) (answer : Answer) → now.out ≡ [] → gave down_now read_room [] answer down_new → (GoesOn answer → ⊥)
         → new ≡ lost now → HasWaited gave old new down_old down_new up_old up_now
     ends_lost new down_new answer none now_gave over is =
         ended count waiting.fed down_now answer waiting.exchanges
@@ -168,14 +168,14 @@ module _ {D : Type 0} (gave : D → ℕ → List ℕ → Answer → D → Type 0
     ends_by_reads false new up_new sends last = after_failure new up_new sends.0 sends.1
 
     -- a read gave nothing yet
-    pub after_nothing : (down_new : D) (answer : Answer) → count < most_waits → gave down_now chunk_size [] answer down_new → GoesOn answer
+    pub after_nothing : (down_new : D) (answer : Answer) → count < most_waits → gave down_now read_room [] answer down_new → GoesOn answer
         → Waiting (count + 1) old now down_old down_new up_old up_now
     after_nothing down_new answer few now_gave on = record {
       fed = waiting.fed;
       exchanges = record {
         bytes = waiting.exchanges.bytes;
         few = omega arith;
-        reads = reads_nothing (GaveOn gave) chunk_size count down_old down_now down_new waiting.exchanges.bytes answer waiting.exchanges.reads (now_gave, on);
+        reads = reads_nothing (GaveOn gave) read_room count down_old down_now down_new waiting.exchanges.bytes answer waiting.exchanges.reads (now_gave, on);
         is_fed = waiting.exchanges.is_fed;
       };
       sent = waiting.sent;
@@ -186,7 +186,7 @@ module _ {D : Type 0} (gave : D → ℕ → List ℕ → Answer → D → Type 0
 
     -- a read gave bytes, and the terminal was fed them
     pub after_bytes : (new : Terminal) (down_new : D) (bytes : List ℕ) (answer : Answer) → count < most_waits
-        → is_wait_over (phase_of now.link) now.station.keyboard.lock ≡ false → gave down_now chunk_size bytes answer down_new → GoesOn answer → IsFed now bytes new
+        → is_wait_over (phase_of now.link) now.station.keyboard.lock ≡ false → gave down_now read_room bytes answer down_new → GoesOn answer → IsFed now bytes new
         → Waiting (count + 1) old new down_old down_new up_old up_now
     after_bytes new down_new bytes answer few waits now_gave on fed_now =
         let before = waiting.exchanges.is_fed in
@@ -200,7 +200,7 @@ module _ {D : Type 0} (gave : D → ℕ → List ℕ → Answer → D → Type 0
           exchanges = record {
             bytes = waiting.exchanges.bytes ++ bytes;
             few = omega arith;
-            reads = reads_on (GaveOn gave) chunk_size count down_old down_now down_new waiting.exchanges.bytes bytes _ answer waiting.exchanges.reads (now_gave, on) refl;
+            reads = reads_on (GaveOn gave) read_room count down_old down_now down_new waiting.exchanges.bytes bytes _ answer waiting.exchanges.reads (now_gave, on) refl;
             is_fed = record {
               front = before.front ++ fed_now.front;
               rest = fed_now.rest;

@@ -65,72 +65,72 @@ pair_at (Some parts) = option_map (λ text. (parts.0, text)) (value_text parts.1
 abbrev pub pair_of : List ℕ → Option (List ℕ × List ℕ)
 pair_of word = pair_at (cut_at 61 word)
 
--- ---- what pairs say
+-- ---- the parts of an answer
 
--- what is said so far
-pub record Said : Type 0 where
+-- the parts of an answer that are given so far: the values of fields, the message, and the number of the field for the cursor
+pub record AnswerParts : Type 0 where
   pub values : Values
   pub message : Option MessageText
   pub cursor : Option ℕ
 
-abbrev pub nothing_said : Said
-nothing_said = record { values = []; message = None; cursor = None }
+abbrev pub no_parts : AnswerParts
+no_parts = record { values = []; message = None; cursor = None }
 
 -- the text for the last row
 abbrev pub message_text : List ℕ → MessageText
 message_text text = record { characters = message_of (message_bytes text) }
 
--- The message, the cursor's field and the text of a field are said once each. A name is that of a field, and each character of a text
+-- The message, the cursor's field and the text of a field are given once each. A name is that of a field, and each character of a text
 -- has a code in the host's code.
-abbrev pub with_message : List ℕ → Said → Option Said
-with_message text said =
-    if is_some said.message || lacks_code text then None else Some (record said { message = Some (message_text text) })
+abbrev pub with_message : List ℕ → AnswerParts → Option AnswerParts
+with_message text parts =
+    if is_some parts.message || lacks_code text then None else Some (record parts { message = Some (message_text text) })
 
-abbrev pub with_cursor_in : Option Field → Said → Option Said
-with_cursor_in None said = None
-with_cursor_in (Some field) said = if is_some said.cursor then None else Some (record said { cursor = Some field.number })
+abbrev pub with_cursor_in : Option Field → AnswerParts → Option AnswerParts
+with_cursor_in None parts = None
+with_cursor_in (Some field) parts = if is_some parts.cursor then None else Some (record parts { cursor = Some field.number })
 
-abbrev pub with_text_of : Option Field → List ℕ → Said → Option Said
-with_text_of None text said = None
-with_text_of (Some field) text said =
-    if is_some (value_of said.values field.number) || lacks_code text then None
-    else Some (record said { values = insert_entry nat_cmp said.values field.number (value_by text) })
+abbrev pub with_text_of : Option Field → List ℕ → AnswerParts → Option AnswerParts
+with_text_of None text parts = None
+with_text_of (Some field) text parts =
+    if is_some (value_of parts.values field.number) || lacks_code text then None
+    else Some (record parts { values = insert_entry nat_cmp parts.values field.number (value_by text) })
 
-abbrev pub with_pair : Panels → List ℕ → List ℕ → Said → Option Said
-with_pair panels name text said =
-    if bytes_eq name (codes "message") then with_message text said else
-    if bytes_eq name (codes "cursor") then with_cursor_in (field_named text panels) said else
-    with_text_of (field_named name panels) text said
+abbrev pub with_pair : Panels → List ℕ → List ℕ → AnswerParts → Option AnswerParts
+with_pair panels name text parts =
+    if bytes_eq name (codes "message") then with_message text parts else
+    if bytes_eq name (codes "cursor") then with_cursor_in (field_named text panels) parts else
+    with_text_of (field_named name panels) text parts
 
-abbrev pub with_word : Panels → Option (List ℕ × List ℕ) → Said → Option Said
-with_word panels None said = None
-with_word panels (Some pair) said = with_pair panels pair.0 pair.1 said
+abbrev pub with_word : Panels → Option (List ℕ × List ℕ) → AnswerParts → Option AnswerParts
+with_word panels None parts = None
+with_word panels (Some pair) parts = with_pair panels pair.0 pair.1 parts
 
-abbrev pub with_words : Panels → List (List ℕ) → Said → Option Said
-with_words panels [] said = Some said
-with_words panels (word ∷ words) said = option_and_then (with_words panels words) (with_word panels (pair_of word) said)
+abbrev pub with_words : Panels → List (List ℕ) → AnswerParts → Option AnswerParts
+with_words panels [] parts = Some parts
+with_words panels (word ∷ words) parts = option_and_then (with_words panels words) (with_word panels (pair_of word) parts)
 
 -- ---- the answer
 
--- the panel to show, if it isn't the same again
-abbrev pub panel_said : Panels → List ℕ → Option (Option ℕ)
-panel_said panels name =
+-- the number of the panel of a name, or None for `-`, the panel that is shown; none if there is no such panel
+abbrev pub panel_of_name : Panels → List ℕ → Option (Option ℕ)
+panel_of_name panels name =
     if bytes_eq name (codes "-") then Some None else option_map (λ number. Some number) (panel_named name panels)
 
 abbrev pub no_message : MessageText
 no_message = record { characters = message_of [] }
 
-abbrev pub answer_saying : Option ℕ → Said → Answer
-answer_saying panel said =
-    record { panel = panel; values = said.values; message = unwrap_or said.message no_message; cursor = said.cursor }
+abbrev pub answer_of_parts : Option ℕ → AnswerParts → Answer
+answer_of_parts panel parts =
+    record { panel = panel; values = parts.values; message = unwrap_or parts.message no_message; cursor = parts.cursor }
 
 abbrev pub answer_with : Panels → List (List ℕ) → Option (Option ℕ) → Option Answer
 answer_with panels words None = None
-answer_with panels words (Some panel) = option_map (answer_saying panel) (with_words panels words nothing_said)
+answer_with panels words (Some panel) = option_map (answer_of_parts panel) (with_words panels words no_parts)
 
 abbrev pub answer_of_words : Panels → List (List ℕ) → Option Answer
 answer_of_words panels [] = None
-answer_of_words panels (name ∷ words) = answer_with panels words (panel_said panels name)
+answer_of_words panels (name ∷ words) = answer_with panels words (panel_of_name panels name)
 
 -- The answer that a text says; none if it has no such panel, no such field or a name twice, if a character has no code in code page
 -- 037, or if its quotes don't match.
@@ -149,7 +149,7 @@ abbrev pub words_after : List ℕ → List (List ℕ)
 words_after [] = []
 words_after (char ∷ text) = if char == blank then words_from false text else []
 
--- what a step makes of what was said: none if the text isn't understood
-abbrev pub taken_as : Bool → Said → Option Said
-taken_as true said = Some said
-taken_as false said = None
+-- the parts after a step: none if the text isn't understood
+abbrev pub taken_as : Bool → AnswerParts → Option AnswerParts
+taken_as true parts = Some parts
+taken_as false parts = None

@@ -1,5 +1,5 @@
--- What an application is sent for a question, and what becomes of its reply (our profile).
-use Rattle.std.specs.Prelude.{ℕ, ◌-◌, Bool, true, false, not, nat_le, nat_lt, List, [], ◌∷◌, ◌++◌, take, codes, chars, string_bytes, Option, Some, None, is_some, option_map, unwrap_or, if◌then◌else◌, ◌≡◌, ⊤}
+-- The words of an application's requests, what becomes of its replies, and what an operator is shown of its failures (our profile).
+use Rattle.std.specs.Prelude.{ℕ, ◌-◌, Bool, true, false, not, nat_le, nat_lt, List, [], ◌∷◌, ◌++◌, take, codes, chars, string_bytes, Option, Some, None, is_some, option_map, unwrap_or, if◌then◌else◌, ◌≡◌, ◌⊎◌, ⊤}
 use Rattle.std.specs.BTreeMap.{insert_entry}
 use Rattle.std.specs.Ordering.{nat_cmp}
 use Rattle.std.specs.Fmt.{decimal}
@@ -79,17 +79,34 @@ pub record IsGoodText (panels : Panels) (text : Text) : Type 0 where
   pub known : is_some (field_named text.0 panels) ≡ true
   pub coded : lacks_code text.1 ≡ false
 
--- why a field isn't given its text; want of memory says nothing of it
+-- why a field isn't given its text: there is no such field; or there is, and a character of the text has no code; want of memory says
+-- nothing of it
 abbrev pub IsTextFault : Panels → Text → AnswerFault → Type 0
 IsTextFault panels text flaw.Memory = ⊤
 IsTextFault panels text (flaw.UnknownField name) = (string_bytes name ≡ text.0) × (field_named text.0 panels ≡ None)
-IsTextFault panels text (flaw.FieldWithoutCode name) = (string_bytes name ≡ text.0) × (lacks_code text.1 ≡ true)
+IsTextFault panels text (flaw.FieldWithoutCode name) = (string_bytes name ≡ text.0) × (is_some (field_named text.0 panels) ≡ true) × (lacks_code text.1 ≡ true)
 IsTextFault panels text _ = ⊥
+
+-- each field is given its text
+abbrev pub AreGoodTexts : Panels → List FieldText → Type 0
+AreGoodTexts panels [] = ⊤
+AreGoodTexts panels (text ∷ texts) = IsGoodText panels (field_text text) × AreGoodTexts panels texts
+
+-- the fault of the first field that isn't given its text
+abbrev pub IsFirstTextFault : Panels → List FieldText → AnswerFault → Type 0
+IsFirstTextFault panels [] fault = ⊥
+IsFirstTextFault panels (text ∷ texts) fault =
+    IsTextFault panels (field_text text) fault ⊎ (IsGoodText panels (field_text text) × IsFirstTextFault panels texts fault)
 
 -- a name is given, and nothing has it
 abbrev pub IsUnknown : (of : List ℕ → Option ℕ) → Option (List ℕ) → Type 0
 IsUnknown of None = ⊥
 IsUnknown of (Some name) = of name ≡ None
+
+-- no name is given, or something has it
+abbrev pub IsKnown : (of : List ℕ → Option ℕ) → Option (List ℕ) → Type 0
+IsKnown of None = ⊤
+IsKnown of (Some name) = is_some (of name) ≡ true
 
 -- the number of what has this name, if a name is given
 abbrev pub IsNumberOf : (of : List ℕ → Option ℕ) → (name : Option (List ℕ)) → (number : Option ℕ) → Type 0
@@ -128,7 +145,23 @@ pub record IsAnswerFor (panels : Panels) (reply : Reply) (answer : Answer) : Typ
   pub cursor : IsNumberOf (field_number panels) (option_map string_bytes reply.cursor) answer.cursor
   pub coded : lacks_code (message_in reply) ≡ false
   pub message : answer.message.characters ≡ message_of (message_bytes (message_in reply))
+  pub good : AreGoodTexts panels reply.fields.items
   pub values : answer.values ≡ with_texts panels reply.fields.items []
+
+-- the panel and the cursor's field that a reply names are there
+pub record HasItsNames (panels : Panels) (reply : Reply) : Type 0 where
+  pub panel : IsKnown (panel_number panels) (option_map string_bytes reply.panel)
+  pub cursor : IsKnown (field_number panels) (option_map string_bytes reply.cursor)
+
+-- Why the host can't do what a reply says: the first fault of its panel, its cursor's field, its message, and its fields, one after the
+-- other. Want of memory says nothing of the reply.
+abbrev pub IsAnswerFault : Panels → Reply → AnswerFault → Type 0
+IsAnswerFault panels reply flaw.Memory = ⊤
+IsAnswerFault panels reply flaw.UnknownPanel = IsUnknown (panel_number panels) (option_map string_bytes reply.panel)
+IsAnswerFault panels reply flaw.UnknownCursor =
+    IsKnown (panel_number panels) (option_map string_bytes reply.panel) × IsUnknown (field_number panels) (option_map string_bytes reply.cursor)
+IsAnswerFault panels reply flaw.MessageWithoutCode = HasItsNames panels reply × (lacks_code (message_in reply) ≡ true)
+IsAnswerFault panels reply fault = HasItsNames panels reply × (lacks_code (message_in reply) ≡ false) × IsFirstTextFault panels reply.fields.items fault
 
 -- ---- when
 

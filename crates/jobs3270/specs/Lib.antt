@@ -35,3 +35,4 @@ pub mod Live
 pub mod LiveFaults
 pub mod LiveSessions
 pub mod Applications
+pub mod ApplicationRequests

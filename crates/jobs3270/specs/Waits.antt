@@ -6,7 +6,7 @@ use Rattle.tn3270e_msg.specs.declared.cause.Stop.TheVariants.{Going, Memory, Clo
 use Rattle.term_core.specs.Bytes.{TakesBytes}
 use Rattle.term_core.specs.Feeds.{Feeds}
 use Rattle.term_core.specs.State.{Link, Terminal, Detached, Attached, Closed, lost}
-use Rattle.jobs3270.specs.Counting.{CutShort, Output, Reads, Written, chunk_size}
+use Rattle.jobs3270.specs.Counting.{CutShort, Output, Reads, Written}
 use Rattle.jobs3270.specs.Operating.{IsWaitOver}
 use Rattle.jobs3270.specs.declared.operator.Exchanged.{Exchanged}
 use Rattle.jobs3270.specs.declared.operator.Exchanged.TheVariants.{Over, ReadsUsedUp}
@@ -16,6 +16,10 @@ use Rattle.jobs3270.specs.declared.streams.Answer.TheVariants.{Gave, Ended, Inte
 -- the most reads of one wait
 abbrev pub most_waits : ℕ
 most_waits = 1000
+
+-- the size of the buffer of each of them
+abbrev pub read_room : ℕ
+read_room = 16384
 
 -- after this answer there may be more to read
 abbrev pub GoesOn : Answer → Type 0
@@ -67,7 +71,7 @@ module _ {D : Type 0} (gave : D → ℕ → List ℕ → Answer → D → Type 0
   pub record Exchanges (count : ℕ) (old : Terminal) (down_old : D) (fed : Terminal) (down_new : D) : Type 0 where
     pub bytes : List ℕ
     pub few : count ≤ most_waits
-    pub reads : Reads GaveOn chunk_size count down_old bytes down_new
+    pub reads : Reads GaveOn read_room count down_old bytes down_new
     pub is_fed : IsFed old bytes fed
 
   -- How a wait ends. `sound`: all output is sent, and the wait is over, or the reads are used up. `ended`: all output is sent, and
@@ -76,7 +80,7 @@ module _ {D : Type 0} (gave : D → ℕ → List ℕ → Answer → D → Type 0
     sound : (count : ℕ) (fed : Terminal) → Exchanges count old down_old fed down_new → Written up_old up_new fed.out
         → new ≡ record fed { out = [] } → IsWaitOver new ⊎ (count ≡ most_waits) → HasWaited old new down_old down_new up_old up_new
     ended : (count : ℕ) (fed : Terminal) (mid : D) (answer : Answer) → Exchanges count old down_old fed mid → Written up_old up_new fed.out
-        → gave mid chunk_size [] answer down_new → (GoesOn answer → ⊥) → new ≡ lost fed → HasWaited old new down_old down_new up_old up_new
+        → gave mid read_room [] answer down_new → (GoesOn answer → ⊥) → new ≡ lost fed → HasWaited old new down_old down_new up_old up_new
     unsent : (count : ℕ) (fed : Terminal) → Exchanges count old down_old fed down_new → CutShort up_old up_new fed.out
         → new ≡ lost fed → HasWaited old new down_old down_new up_old up_new
 

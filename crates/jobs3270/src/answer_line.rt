@@ -1,8 +1,8 @@
 //! The operand of a script's `answer`: the name of a panel, and pairs name=value.
 ghost use Rattle.std.specs.Prelude.{◌≡◌, ◌<◌, IfOk, drop, false, option_map, take};
 ghost use Rattle.std.specs.Str.{IsCharBoundary};
-ghost use Rattle.jobs3270.specs.AnswerDrafts.{said_in};
-ghost use Rattle.jobs3270.specs.AnswerLines.{answer_in, answer_saying, cut_at, is_quoted_after, message_text, nothing_said, pair_of, panel_said, taken_as, value_text, with_cursor_in, with_message, with_pair, with_text_of, with_word, with_words, word_length, words_after};
+ghost use Rattle.jobs3270.specs.AnswerDrafts.{parts_in};
+ghost use Rattle.jobs3270.specs.AnswerLines.{answer_in, answer_of_parts, cut_at, is_quoted_after, message_text, no_parts, pair_of, panel_of_name, taken_as, value_text, with_cursor_in, with_message, with_pair, with_text_of, with_word, with_words, word_length, words_after};
 ghost use Rattle.panels.specs.Names.{field_named};
 
 use crate::application_reply::{lacks_code, message_bytes, set_text};
@@ -73,7 +73,7 @@ fn pair_of(word: &str) -> Option<(&str, &str)>
     Some((name, text))
 }
 
-// ---- what pairs say
+// ---- the parts of an answer
 
 /// The message of a text.
 fn message_text(alloc: Global, text: &str) -> Result<MessageText, AllocError>
@@ -94,7 +94,7 @@ struct AnswerDraft {
 impl AnswerDraft {
     /// No pair is read yet.
     fn new(alloc: Global) -> AnswerDraft
-        ensures { said_in result ≡ nothing_said }
+        ensures { parts_in result ≡ no_parts }
     {
         AnswerDraft {
             values: Values::new(alloc),
@@ -105,7 +105,7 @@ impl AnswerDraft {
 
     /// Takes the message. False if there is one already, or if a character has no code.
     fn set_message(&mut self, alloc: Global, text: &str) -> Result<bool, AllocError>
-        ensures { IfOk result (λ taken. with_message text.now (said_in self.old) ≡ taken_as taken (said_in self.new)) }
+        ensures { IfOk result (λ taken. with_message text.now (parts_in self.old) ≡ taken_as taken (parts_in self.new)) }
     {
         if self.message.is_some() || lacks_code(text) {
             return Ok(false);
@@ -116,7 +116,7 @@ impl AnswerDraft {
 
     /// Takes the field that the cursor is to be in, by its name. False if there is no such field, or if one is taken already.
     fn set_cursor(&mut self, panels: &PanelSet, name: &str) -> bool
-        ensures { with_cursor_in (field_named name.now panels.now) (said_in self.old) ≡ taken_as result (said_in self.new) }
+        ensures { with_cursor_in (field_named name.now panels.now) (parts_in self.old) ≡ taken_as result (parts_in self.new) }
     {
         let Some(field) = panels.field_named(name) else {
             return false;
@@ -137,7 +137,7 @@ impl AnswerDraft {
         name: &str,
         text: &str,
     ) -> Result<bool, AllocError>
-        ensures { IfOk result (λ taken. with_text_of (field_named name.now panels.now) text.now (said_in self.old) ≡ taken_as taken (said_in self.new)) }
+        ensures { IfOk result (λ taken. with_text_of (field_named name.now panels.now) text.now (parts_in self.old) ≡ taken_as taken (parts_in self.new)) }
     {
         let Some(field) = panels.field_named(name) else {
             return Ok(false);
@@ -157,7 +157,7 @@ impl AnswerDraft {
         name: &str,
         text: &str,
     ) -> Result<bool, AllocError>
-        ensures { IfOk result (λ taken. with_pair panels.now name.now text.now (said_in self.old) ≡ taken_as taken (said_in self.new)) }
+        ensures { IfOk result (λ taken. with_pair panels.now name.now text.now (parts_in self.old) ≡ taken_as taken (parts_in self.new)) }
     {
         match name {
             "message" => self.set_message(alloc, text),
@@ -168,7 +168,7 @@ impl AnswerDraft {
 
     /// Takes a word. False if it isn't understood.
     fn take(&mut self, alloc: Global, panels: &PanelSet, word: &str) -> Result<bool, AllocError>
-        ensures { IfOk result (λ taken. with_word panels.now (pair_of word.now) (said_in self.old) ≡ taken_as taken (said_in self.new)) }
+        ensures { IfOk result (λ taken. with_word panels.now (pair_of word.now) (parts_in self.old) ≡ taken_as taken (parts_in self.new)) }
     {
         match pair_of(word) {
             Some((name, text)) => self.set(alloc, panels, name, text),
@@ -178,7 +178,7 @@ impl AnswerDraft {
 
     /// Takes words, each after a blank. False at the first that isn't understood.
     fn take_all(&mut self, alloc: Global, panels: &PanelSet, text: &str) -> Result<bool, AllocError>
-        ensures { IfOk result (λ taken. with_words panels.now (words_after text.now) (said_in self.old) ≡ taken_as taken (said_in self.new)) }
+        ensures { IfOk result (λ taken. with_words panels.now (words_after text.now) (parts_in self.old) ≡ taken_as taken (parts_in self.new)) }
     {
         let mut rest = text;
         while let Some(words) = rest.strip_prefix(' ') {
@@ -193,7 +193,7 @@ impl AnswerDraft {
 
     /// The answer that shows a panel, or the same again.
     fn into_answer(self, panel: Option<usize>) -> Answer
-        ensures { result ≡ answer_saying panel (said_in self) }
+        ensures { result ≡ answer_of_parts panel (parts_in self) }
     {
         Answer {
             panel,
@@ -207,8 +207,8 @@ impl AnswerDraft {
 // ---- the answer
 
 /// The number of the panel of a name, or None for `-`, the panel that is shown; None if there is no such panel.
-fn panel_said(panels: &PanelSet, name: &str) -> Option<Option<usize>>
-    ensures { result ≡ panel_said panels.now name.now }
+fn panel_of_name(panels: &PanelSet, name: &str) -> Option<Option<usize>>
+    ensures { result ≡ panel_of_name panels.now name.now }
 {
     match name {
         "-" => Some(None),
@@ -226,7 +226,7 @@ pub(crate) fn answer_in(
     ensures { IfOk result (λ answer. answer ≡ answer_in panels.now text.now) }
 {
     let (name, words) = first_word(text);
-    let Some(panel) = panel_said(panels, name) else {
+    let Some(panel) = panel_of_name(panels, name) else {
         return Ok(None);
     };
     let mut draft = AnswerDraft::new(alloc);

@@ -3,13 +3,14 @@ ghost use Rattle.std.specs.Prelude.{◌<◌};
 ghost use Rattle.host_core.specs.State.{most_connections};
 
 use crate::application_fault::{Absence, ApplicationFault};
-use crate::application_reply::{answer_of, field_texts, key_name, place_of, telling};
+use crate::application_reply::{answer_of, telling};
+use crate::application_request::request_of;
 use crate::exchange::{Exchange, Exchanged, absence_of};
 use crate::fault::Fault;
 use crate::job::ReplyTime;
 use crate::server::{Server, Watcher};
-use application_http::{Endpoint, Reply, Request, request_text};
-use host_core::{Acted, Answer, MOST_CONNECTIONS, PanelSet, Question, Ticket};
+use application_http::{Endpoint, Reply};
+use host_core::{Acted, Answer, MOST_CONNECTIONS, Question, Ticket};
 use mio::net::TcpStream;
 use std::alloc::{AllocError, Global};
 use std::net::Net;
@@ -34,34 +35,6 @@ fn no_exchanges(alloc: Global) -> Result<Vec<Option<Exchange>>, AllocError> {
         exchanges.push(None)?;
     }
     Ok(exchanges)
-}
-
-/// The request of a question; None if its panel isn't one of the panels.
-fn request_of(
-    alloc: Global,
-    endpoint: &Endpoint,
-    panels: &PanelSet,
-    question: &Question,
-) -> Result<Option<String>, AllocError> {
-    let Some(panel) = panels.panel(question.panel) else {
-        return Ok(None);
-    };
-    let lu = question.lu;
-    let lu = format!(in alloc; "{lu}")?;
-    let key = key_name(alloc, question.aid)?;
-    let (row, col) = place_of(question.cursor, panel.size());
-    let fields = field_texts(alloc, panel, question)?;
-    let request = Request {
-        session: question.ticket.session,
-        turn: question.ticket.turn,
-        lu: lu.as_str(),
-        panel: panel.name().as_str(),
-        key: key.as_str(),
-        row,
-        col,
-        fields: fields.as_slice(),
-    };
-    Ok(Some(request_text(alloc, endpoint, &request)?))
 }
 
 impl Application {

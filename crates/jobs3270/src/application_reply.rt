@@ -1,26 +1,21 @@
-//! What an application is sent for a question, and what becomes of its reply: names and characters of panels, and numbers and bytes of
-//! the host.
+//! What becomes of an application's reply: names and characters of panels, and numbers and bytes of the host.
 ghost use Rattle.std.specs.BTreeMap.{insert_entry};
 ghost use Rattle.std.specs.Ordering.{nat_cmp};
 ghost use Rattle.std.specs.Prelude.{◌≡◌, [], IfErr, IfOk, OnOk, chars, false, option_map, string_bytes, take, unwrap_or};
 ghost use Rattle.application_http.specs.Replies.{field_text};
 ghost use Rattle.panels.specs.Characters.{codes_of};
 ghost use Rattle.panels.specs.MessageText.{message_of};
-ghost use Rattle.jobs3270.specs.Applications.{IsAnswerFor, IsGoodText, IsMessageFault, IsNumberOf, IsTextFault, IsUnknown, as_byte, field_number, key_name, lacks_code, message_bytes, most_characters, panel_number, shown_character, value_by, with_text, with_texts};
-ghost use Rattle.jobs3270.specs.QuestionLines.{column_of, row_of, unicode_of};
+ghost use Rattle.jobs3270.specs.Applications.{AreGoodTexts, IsAnswerFault, IsAnswerFor, IsFirstTextFault, IsGoodText, IsKnown, IsMessageFault, IsNumberOf, IsTextFault, IsUnknown, as_byte, field_number, lacks_code, message_bytes, most_characters, panel_number, value_by, with_text, with_texts};
 ghost use Rattle.jobs3270.specs.declared.application_reply.AnswerFault.TheVariants as flaw;
 
 use application_http::{FieldText, Reply};
-use codes3270::{Addr, Aid, Size, from_latin1, to_latin1};
-use host_core::{Answer, Question};
-use panels::{Field, MessageText, Panel, PanelSet, Values};
+use codes3270::from_latin1;
+use host_core::Answer;
+use panels::{MessageText, PanelSet, Values};
 use std::alloc::{AllocError, Global};
 
 /// The most characters of a field's text: as many as the largest screen has cells, that of model 5.
 const MOST_CHARACTERS: usize = 3_564;
-
-/// The character for a byte that code page 037 has none for (Unicode, REPLACEMENT CHARACTER).
-const NO_CHARACTER: char = '\u{FFFD}';
 
 /// Why the host can't do what a reply says.
 #[derive(Debug, Drop)]
@@ -48,78 +43,6 @@ impl From<AllocError> for AnswerFault {
         AnswerFault::Memory
     }
 }
-
-// ---- what it is sent
-
-/// A byte of the host's code as a character.
-fn shown_character(byte: u8) -> char
-    ensures { result ≡ shown_character byte }
-{
-    to_latin1(byte).unwrap_or(NO_CHARACTER)
-}
-
-/// A text in the host's code, in Unicode.
-pub(crate) fn unicode_of(alloc: Global, bytes: &[u8]) -> Result<String, AllocError>
-    ensures { IfOk result (λ text. string_bytes text ≡ unicode_of bytes.now) }
-{
-    let mut text = String::new(alloc);
-    for byte in bytes {
-        text.push(shown_character(*byte))?;
-    }
-    Ok(text)
-}
-
-/// The name of a key, as a panel text has it; empty if no key was pressed.
-pub(crate) fn key_name(alloc: Global, aid: Aid) -> Result<String, AllocError>
-    ensures { IfOk result (λ name. string_bytes name ≡ key_name aid) }
-{
-    match aid {
-        Aid::NoAid => Ok(String::new(alloc)),
-        Aid::Enter => String::from_str(alloc, "enter"),
-        Aid::Clear => String::from_str(alloc, "clear"),
-        Aid::Pf(number) => {
-            let number = number.get();
-            format!(in alloc; "pf{number}")
-        }
-        Aid::Pa(number) => {
-            let number = number.get();
-            format!(in alloc; "pa{number}")
-        }
-    }
-}
-
-/// The row and the column of an address on a screen of a size, each from 1 on.
-pub(crate) fn place_of(address: Addr, size: Size) -> (u16, u16)
-    ensures row { result.0 ≡ row_of address size }
-    ensures column { result.1 ≡ column_of address size }
-{
-    let (place, columns) = (address.get(), size.cols());
-    (place / columns + 1, place % columns + 1)
-}
-
-/// The name of a field, and its text.
-fn field_text(alloc: Global, field: &Field, values: &Values) -> Result<FieldText, AllocError> {
-    let bytes = values.get(field.number).unwrap_or(&[]);
-    Ok(FieldText {
-        name: String::from_str(alloc, field.name.as_str())?,
-        text: unicode_of(alloc, bytes)?,
-    })
-}
-
-/// The names and texts of a panel's fields, in their order.
-pub(crate) fn field_texts(
-    alloc: Global,
-    panel: &Panel,
-    question: &Question,
-) -> Result<Vec<FieldText>, AllocError> {
-    let mut texts = Vec::new(alloc);
-    for field in panel.fields() {
-        texts.push(field_text(alloc, field, &question.values)?)?;
-    }
-    Ok(texts)
-}
-
-// ---- what becomes of its reply
 
 /// Whether some character of a text has no code in the host's code.
 pub(crate) fn lacks_code(text: &str) -> bool
@@ -187,6 +110,8 @@ fn set_value(
 /// The values of fields.
 fn values_of(alloc: Global, panels: &PanelSet, fields: &[FieldText]) -> Result<Values, AnswerFault>
     ensures set { IfOk result (λ values. values ≡ with_texts panels.now fields.now []) }
+    ensures good { OnOk result (AreGoodTexts panels.now fields.now) }
+    ensures wrong { IfErr result (IsFirstTextFault panels.now fields.now) }
 {
     let mut values = Values::new(alloc);
     for field in fields {
@@ -198,6 +123,7 @@ fn values_of(alloc: Global, panels: &PanelSet, fields: &[FieldText]) -> Result<V
 /// The number of the panel that a reply names, if it names one.
 fn panel_of(panels: &PanelSet, name: Option<&str>) -> Result<Option<usize>, AnswerFault>
     ensures found { IfOk result (IsNumberOf (panel_number panels.now) (option_map (λ it. it.now) name.entry)) }
+    ensures known { OnOk result (IsKnown (panel_number panels.now) (option_map (λ it. it.now) name.entry)) }
     ensures wrong { IfErr result (λ why. (why ≡ flaw.UnknownPanel) × IsUnknown (panel_number panels.now) (option_map (λ it. it.now) name.entry)) }
 {
     let Some(name) = name else {
@@ -212,6 +138,7 @@ fn panel_of(panels: &PanelSet, name: Option<&str>) -> Result<Option<usize>, Answ
 /// The number of the field that a reply puts the cursor in, if it does.
 fn cursor_of(panels: &PanelSet, name: Option<&str>) -> Result<Option<usize>, AnswerFault>
     ensures found { IfOk result (IsNumberOf (field_number panels.now) (option_map (λ it. it.now) name.entry)) }
+    ensures known { OnOk result (IsKnown (field_number panels.now) (option_map (λ it. it.now) name.entry)) }
     ensures wrong { IfErr result (λ why. (why ≡ flaw.UnknownCursor) × IsUnknown (field_number panels.now) (option_map (λ it. it.now) name.entry)) }
 {
     let Some(name) = name else {
@@ -263,19 +190,26 @@ fn text_of(text: &Option<String>) -> Option<&str>
     }
 }
 
-/// What the host does for a reply: first its panel is found, then its cursor's field, then its message is read, then its fields.
+/// What the host does for a reply: its panel is found first, then its cursor's field, then its message is read, then its fields. The
+/// fault of a refused reply is the first of these.
+#[tactic(auto, using(crate::proofs::Replies::fields_refused))]
 pub(crate) fn answer_of(
     alloc: Global,
     panels: &PanelSet,
     reply: &Reply,
 ) -> Result<Answer, AnswerFault>
     ensures answer { IfOk result (IsAnswerFor panels.now reply.now) }
+    ensures refused { IfErr result (IsAnswerFault panels.now reply.now) }
 {
+    let panel = panel_of(panels, text_of(&reply.panel))?;
+    let cursor = cursor_of(panels, text_of(&reply.cursor))?;
+    let message = message_of(alloc, text_of(&reply.message))?;
+    let values = values_of(alloc, panels, reply.fields.as_slice())?;
     Ok(Answer {
-        panel: panel_of(panels, text_of(&reply.panel))?,
-        cursor: cursor_of(panels, text_of(&reply.cursor))?,
-        message: message_of(alloc, text_of(&reply.message))?,
-        values: values_of(alloc, panels, reply.fields.as_slice())?,
+        panel,
+        values,
+        message,
+        cursor,
     })
 }
 

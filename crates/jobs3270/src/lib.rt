@@ -23,6 +23,7 @@ mod answer_line;
 mod application;
 mod application_fault;
 mod application_reply;
+mod application_request;
 mod check;
 mod command_line;
 mod exchange;

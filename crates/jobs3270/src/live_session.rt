@@ -273,13 +273,15 @@ impl<S: RawRead + RawWrite + Drop, K: Source + Drop, T: Sink + Drop> OperatorSes
 
 // ---- over a socket and a tty
 
-/// A host's address, and the poll that waits for a connection to it.
+/// A host's address, the poll that waits for a connection to it, and the connection that the operator asked for, as long as the host
+/// neither took nor refused it. Until then the session is without a connection, and the operator sees the last screen.
 #[derive(Drop)]
 struct Dialer {
     address: SocketAddr,
     wanted: Option<Lu>,
     poll: Poll,
     events: Events,
+    dialed: Option<TcpStream>,
 }
 
 impl Dialer {
@@ -293,6 +295,7 @@ impl Dialer {
             wanted,
             poll,
             events,
+            dialed: None,
         })
     }
 
@@ -311,6 +314,25 @@ impl Dialer {
         Ok(socket)
     }
 
+    /// Begins a connection, unless one is under way. If that fails at once, there is none.
+    fn redial(&mut self, net: &impl Net) {
+        if self.dialed.is_none() {
+            self.dialed = self.dial(net).ok();
+        }
+    }
+
+    /// The connection that is under way, once the host took it. If the host refused it, there is none.
+    fn take_connected(&mut self) -> Option<TcpStream> {
+        let socket = self.dialed.take()?;
+        if socket.peer_addr().is_ok() {
+            return Some(socket);
+        }
+        if let Ok(None) = socket.take_error() {
+            self.dialed = Some(socket);
+        }
+        None
+    }
+
     /// Waits for the connection: not at all if bytes moved in the turn before, or 10 milliseconds at most.
     fn wait(&mut self, moved: bool) -> Result<(), Fault> {
         match self.poll.poll(&mut self.events, Some(patience(moved))) {
@@ -319,18 +341,6 @@ impl Dialer {
             Err(error) if error.kind() == ErrorKind::Interrupted => Ok(()),
             Err(_) => Err(Fault::SocketFailed),
         }
-    }
-}
-
-/// Connects again. If the host isn't there, the terminal stays without a connection.
-fn redial<N: Net, K: Source + Drop, T: Sink + Drop>(
-    net: &N,
-    dialer: &Dialer,
-    session: &mut OperatorSession<TcpStream, K, T>,
-) -> Result<(), Fault> {
-    match dialer.dial(net) {
-        Ok(socket) => session.connect(socket, dialer.wanted),
-        Err(_) => Ok(()),
     }
 }
 
@@ -348,7 +358,10 @@ fn take_turns<N: Net, K: Source + Drop, T: Sink + Drop>(
         match session.take_asked() {
             Asked::Nothing => {}
             Asked::Quit => return Ok(()),
-            Asked::Connect => redial(net, dialer, session)?,
+            Asked::Connect => dialer.redial(net),
+        }
+        if let Some(socket) = dialer.take_connected() {
+            session.connect(socket, dialer.wanted)?;
         }
     }
     Ok(())

@@ -1,11 +1,12 @@
 //! An operator at a terminal: presses keys, types text, and waits for the host.
-ghost use Rattle.std.specs.Prelude.{◌≡◌, ◌++◌, IfOk, OnOk, chars, false, string_bytes};
+ghost use Rattle.std.specs.Prelude.{◌≡◌, ◌++◌, IfOk, OnOk, chars, false, length, string_bytes};
 ghost use Rattle.term_core.specs.Presses.{after_key, answer_to_key};
 ghost use Rattle.term_core.specs.State.{phase_of};
 ghost use Rattle.jobs3270.specs.Operating.{after_text, is_wait_over, refusal_in, refusal_text, said_of_key, said_of_text};
-ghost use Rattle.jobs3270.specs.Waits.{FeedsAll, HasExchanged, HasWaited, IsFed, SendsAll, SendsLast, is_memory};
+ghost use Rattle.jobs3270.specs.Counting.{GivesWithin, bytes_given};
+ghost use Rattle.jobs3270.specs.Waits.{FeedsAll, HasExchanged, HasWaited, IsFed, SendsAll, SendsLast, is_memory, read_room};
 
-use crate::streams::{Answer, CHUNK, Sink, Source, read_chunk};
+use crate::streams::{Answer, Sink, Source};
 use keyboard::{Key, Lock, Pressed, Refusal};
 use std::alloc::AllocError;
 use term_core::{TermPhase, Terminal};
@@ -13,6 +14,9 @@ use tn3270e_msg::Stop;
 
 /// The most reads of one wait.
 const MOST_READS: usize = 1000;
+
+/// The size of the buffer of each read of a wait: as many bytes as a record may have, so that a screen mostly comes in one read.
+const READ_ROOM: usize = 16_384;
 
 // ---- keys
 
@@ -120,6 +124,16 @@ pub(crate) fn feed_all(terminal: &mut Terminal, bytes: &[u8]) -> Stop
     terminal.feed(bytes).stop
 }
 
+/// Reads a connection once, into a buffer of `READ_ROOM` bytes.
+fn read_host<D: Source>(down: &mut D, buffer: &mut [u8]) -> Answer
+    requires { length buffer.old ≡ read_room }
+    ensures within { GivesWithin result (length buffer.new) }
+    ensures gave { D.gave down.old read_room (bytes_given result buffer.new) result down.new }
+    ensures length { length buffer.new ≡ read_room }
+{
+    down.read(buffer)
+}
+
 /// Feeds a terminal, during a wait, the bytes that a read gave. An error if memory is refused.
 fn take(terminal: &mut Terminal, bytes: &[u8]) -> Result<(), AllocError>
     requires { is_wait_over (phase_of terminal.old.terminal.link) terminal.old.terminal.station.keyboard.lock ≡ false }
@@ -149,7 +163,7 @@ fn exchange<D: Source, U: Sink>(
 ) -> Result<Exchanged, AllocError>
     ensures { IfOk result (λ exchanged. HasExchanged D.gave exchanged terminal.old.terminal terminal.new.terminal down.old down.new (U.seen up.old) (U.seen up.new)) }
 {
-    let mut chunk = [0; CHUNK];
+    let mut buffer = [0; READ_ROOM];
     for _ in 0..MOST_READS {
         if !send_all(terminal, up) {
             return Ok(Exchanged::Over);
@@ -157,8 +171,8 @@ fn exchange<D: Source, U: Sink>(
         if is_wait_over(terminal) {
             return Ok(Exchanged::Over);
         }
-        match read_chunk(down, &mut chunk) {
-            Answer::Gave(count) => take(terminal, &chunk[..count])?,
+        match read_host(down, &mut buffer) {
+            Answer::Gave(count) => take(terminal, &buffer[..count])?,
             Answer::Interrupted => {}
             Answer::Ended | Answer::Failed => {
                 terminal.lost();

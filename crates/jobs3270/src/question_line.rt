@@ -3,7 +3,7 @@ ghost use Rattle.std.specs.Prelude.{◌≡◌, ◌++◌, IfOk, OnOk, string_byte
 ghost use Rattle.std.specs.List.{flat_map};
 ghost use Rattle.jobs3270.specs.QuestionLines.{field_line, heading, panel_text, question_on, question_text, ticket_on};
 
-use crate::application_reply::{key_name, place_of, unicode_of};
+use crate::application_request::{key_name, place_of, unicode_of};
 use host_core::{Host, MOST_CONNECTIONS, Question, Ticket};
 use panels::{Field, Panel, PanelSet, Values};
 use std::alloc::{AllocError, Global};
