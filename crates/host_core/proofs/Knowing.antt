@@ -1,11 +1,9 @@
 -- What is known of fields.
-use Rattle.std.proofs.Common.{◌≡◌, ℕ, ◌≤◌, length, length-append, subst, ◌+◌, ◌-◌, ◌==◌, not, Bool, true, false, List, [], ◌∷◌, ◌++◌, drop, Option, Some, None, refl, ap, sym, ◌∙◌, inl, inr, if◌then◌else◌, append_assoc, append-nil, arith}
-use Rattle.std.specs.Prelude.{All, slice_get, option_and_then}
+use Rattle.std.proofs.Common.{◌≡◌, ℕ, ◌+◌, ◌-◌, ◌==◌, not, Bool, true, false, List, [], ◌∷◌, Option, Some, None, refl, ap, sym, ◌∙◌, if◌then◌else◌, arith}
+use Rattle.std.specs.Prelude.{All, option_and_then}
 use Rattle.std.specs.Option.{option_map_or}
 use Rattle.std.proofs.lemmas.Bool.{and_parts}
-use Rattle.std.proofs.lemmas.List.{drop_more, drop_all}
 use Rattle.std.proofs.lemmas.List.Elements.{All-head, All-tail}
-use Rattle.std.proofs.lemmas.Option.{slice_get_within, get_or_from_slice_get, slice_get_cases}
 use Rattle.datastream.specs.Inbound.{without_nulls}
 use Rattle.codes3270.specs.Storable.{is_storable}
 use Rattle.panels.specs.Characters.{AreCharacters}

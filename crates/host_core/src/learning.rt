@@ -118,15 +118,23 @@ fn put_unless_null(text: &mut TextBuffer, byte: u8)
     }
 }
 
-/// Puts characters in place of a text, without nulls.
+/// Appends characters, but for nulls.
+fn append_text(text: &mut TextBuffer, characters: FieldText<'_>)
+    requires { length text.old.items + length characters ≤ most_cells }
+    ensures { text.new.items ≡ text.old.items ++ without_nulls characters.entry }
+{
+    for byte in characters {
+        put_unless_null(text, byte);
+    }
+}
+
+/// Puts characters, but for nulls, in place of a text.
 fn put_text(text: &mut TextBuffer, characters: FieldText<'_>)
     requires { length characters ≤ most_cells }
     ensures { text.new.items ≡ without_nulls characters.entry }
 {
     text.clear();
-    for byte in characters {
-        put_unless_null(text, byte);
-    }
+    append_text(text, characters);
 }
 
 /// Sets the value of a field whose text is known, by way of a buffer, whatever that has.

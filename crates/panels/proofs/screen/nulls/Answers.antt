@@ -1,8 +1,7 @@
-use Rattle.std.proofs.Common.{◌≡◌, ◌∙◌, ap, get_or, List}
+use Rattle.std.proofs.Common.{◌∙◌, ap, get_or}
 use Rattle.std.proofs.lemmas.List.{get_or-replicate}
 use Rattle.codes3270.specs.Size.{cells_in}
 use Rattle.datastream.specs.Wanted.{WantedScreen}
-use Rattle.datastream.specs.declared.wanted.Want.{Want}
 use Rattle.datastream.specs.declared.wanted.Want.TheVariants.{Char}
 use Rattle.panels.proofs.screen.nulls.Goals as goal
 
