@@ -1,10 +1,10 @@
 -- The characters before the first attribute of a list of cells.
-use Rattle.std.proofs.Common.{◌≡◌, ℕ, ◌+◌, ◌<◌, ◌==◌, not, Bool, true, false, cond, List, [], ◌∷◌, ◌++◌, length, get_or, take, drop, arith, sym, ◌∙◌, ap, refl, suc, zero}
+use Rattle.std.proofs.Common.{◌≡◌, ℕ, ◌+◌, ◌<◌, ◌==◌, not, Bool, true, false, cond, List, [], ◌∷◌, ◌++◌, length, get_or, take, drop, arith, sym, ◌∙◌, ap, refl, suc, zero, ◌≤◌, length-append, length-drop, length-take-le}
 use Rattle.std.specs.List.{list_all, flat_map, prefix_len}
 use Rattle.std.proofs.lemmas.List.{drop_more, append-nil}
 use Rattle.codes3270.specs.declared.attribute.Cell.{Cell}
 use Rattle.codes3270.specs.declared.attribute.Cell.TheVariants.{Char, Attr}
-use Rattle.datastream.specs.Screen.{text_before_attribute, is_char, is_char_at, field_text, places_from}
+use Rattle.datastream.specs.Screen.{text_before_attribute, is_char, is_char_at, ring, field_text, places_from}
 use Rattle.datastream.specs.Inbound.{without_nulls}
 
 -- the bytes before the first null, and those behind it
@@ -73,3 +73,16 @@ pub length-text_before_attribute : (cells : List Cell) → length (text_before_a
 length-text_before_attribute [] = refl
 length-text_before_attribute (Char byte ∷ cells) = omega (arith, length-text_before_attribute cells)
 length-text_before_attribute (Attr attribute ∷ cells) = refl
+
+-- a text ends at the first cell that holds an attribute
+pub text_ends_at : (cells : List Cell) (i : ℕ) → i ≤ length cells → ((j : ℕ) → j < i → is_char_at cells j ≡ true) → (i < length cells → is_char_at cells i ≡ false) → length (text_before_attribute cells) ≡ i
+text_ends_at [] zero b each last = refl
+text_ends_at [] (suc i) b each last = absurd (omega arith)
+text_ends_at (Char byte ∷ cells) zero b each last = let wrong : true ≡ false = last (omega arith) in cc
+text_ends_at (Char byte ∷ cells) (suc i) b each last =
+    ap (λ n. suc n) (text_ends_at cells i (omega arith) (λ j lower. each (suc j) (omega arith)) (λ lower. last (omega arith)))
+text_ends_at (Attr attribute ∷ cells) zero b each last = refl
+text_ends_at (Attr attribute ∷ cells) (suc i) b each last = let wrong : false ≡ true = each 0 (omega arith) in cc
+
+pub length-ring : (cells : List Cell) (from : ℕ) → from ≤ length cells → length (ring from cells) ≡ length cells
+length-ring cells from below = omega (arith, length-append (drop from cells) (take from cells), length-drop from cells, length-take-le from cells below)

@@ -1,11 +1,10 @@
 //! What is read off cells, and what is changed in them.
-ghost use Rattle.std.specs.Prelude.{false, ◌≡◌, ◌<◌, ◌≤◌, ◌+◌, ◌-◌, take, drop, map, zip, length, position, replicate, IfSome, if◌then◌else◌};
+ghost use Rattle.std.specs.Prelude.{◌≡◌, ◌<◌, ◌≤◌, ◌-◌, false, drop, map, zip, length, position, IfSome, if◌then◌else◌};
 ghost use Rattle.codes3270.specs.Size.{cells_in, most_cells};
 ghost use Rattle.codes3270.specs.declared.attribute.Cell.TheVariants.{Char};
 ghost use Rattle.std.specs.List.{list_all, prefix_len};
 ghost use Rattle.datastream.specs.Span.{distance};
-ghost use Rattle.datastream.specs.Screen.{attribute_over, field_text, is_char_at, last_attribute, is_char, is_open_attribute, ring, protects};
-ghost use Rattle.presentation.specs.Runs.{placed};
+ghost use Rattle.datastream.specs.Screen.{attribute_over, field_text, is_char_at, last_attribute, is_char, ring, protects};
 ghost use Rattle.datastream.specs.Meaning.{filled, opened, erased, unmodified, modified, open_unmodified, tab_stop, home, is_start};
 
 use crate::screen_cells::ScreenCells;

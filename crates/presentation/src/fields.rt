@@ -1,10 +1,9 @@
 //! The fields of a screen.
-ghost use Rattle.std.specs.Prelude.{◌≡◌, ◌-◌, ◌<◌, ◌≤◌, ◌%◌, ◌+◌, [], length, slice_get, slice_index_or, false, IsTrue, IfSome, IfNone};
-ghost use Rattle.codes3270.specs.Size.{cells_in, most_cells};
+ghost use Rattle.std.specs.Prelude.{◌≡◌, ◌<◌, length, slice_index_or, false, IsTrue, IfSome, IfNone};
+ghost use Rattle.codes3270.specs.Size.{cells_in};
 ghost use Rattle.std.specs.List.{list_all};
 ghost use Rattle.codes3270.specs.declared.attribute.Cell.TheVariants.{Char};
 ghost use Rattle.datastream.specs.Screen.{field_text, is_char_at, is_char, attribute_in, attribute_over, IsGoverned};
-ghost use Rattle.presentation.specs.Places.{attribute_places};
 ghost use Rattle.presentation.specs.Fields.{field_of, listed_fields};
 
 use crate::screen_cells::ScreenCells;

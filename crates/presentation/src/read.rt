@@ -1,5 +1,5 @@
 //! What reads answer.
-ghost use Rattle.std.specs.Prelude.{◌≡◌, ◌+◌, ◌-◌, ◌%◌, ◌<◌, ◌≤◌, ◌∷◌, slice_index_or, [], ◌++◌, length, take, drop, OnOk, OnErr, ◌&&◌, ◌==◌, not, false};
+ghost use Rattle.std.specs.Prelude.{◌≡◌, ◌+◌, ◌-◌, ◌<◌, ◌≤◌, ◌∷◌, [], ◌++◌, ◌&&◌, ◌==◌, not, false, length, take, drop, slice_index_or};
 ghost use Rattle.codes3270.specs.Size.{cells_in};
 ghost use Rattle.std.specs.List.{flat_map, prefix_len};
 ghost use Rattle.codes3270.specs.Address.{address_bytes};

@@ -1,13 +1,13 @@
 //! The cells of a screen.
-ghost use Rattle.std.specs.Prelude.{◌≡◌, ◌<◌, ◌≤◌, ◌+◌, ℕ, true, false, IfNone, IfSome, IsTrue, length, drop, map, replicate, slice_index_or, slice_set};
+ghost use Rattle.std.specs.Prelude.{◌≡◌, ◌<◌, ◌≤◌, ◌+◌, IfNone, IfSome, IsTrue, length, drop, map, replicate, slice_index_or, slice_set};
 ghost use Rattle.std.specs.List.{list_all, prefix_len};
 ghost use Rattle.codes3270.specs.Size.{cells_in, most_cells};
 ghost use Rattle.codes3270.specs.declared.attribute.Cell.TheVariants.{Char};
 ghost use Rattle.datastream.specs.CellCodes.{code_in};
-ghost use Rattle.datastream.specs.Screen.{IsGoverned, attribute_over, is_char, is_char_at};
+ghost use Rattle.datastream.specs.Screen.{IsGoverned, is_char};
 ghost use Rattle.presentation.specs.Runs.{placed};
 
-use codes3270::{Attr, Cell, Size};
+use codes3270::{Cell, Size};
 use datastream::{PackedCell, PackedCells};
 use std::marker::Model;
 
