@@ -12,9 +12,11 @@ fn glyph_of_code(code: u8) -> char
     ensures { result ≡ glyph_of_code code }
 {
     match code {
+        // Most codes are those of characters.
+        0x40..=0xFE => to_latin1(code).unwrap_or(' '),
         0x1C => '*',
         0x1E => ';',
-        _ => to_latin1(code).unwrap_or(' '),
+        _ => ' ',
     }
 }
 

@@ -292,7 +292,7 @@ one_doing does old one other act reply is none also other_none = one_answering d
 
 one_call : (becomes : Connection → Acted → Connection → Type 0) (number : ℕ) (old new other : ByteWorld) (answer reply : Stepped)
     → ((one two : Connection) (act again : Acted) → becomes (connection_at number old.host) act one → refused_at (answer_acted act) ≡ None
-        → becomes (connection_at number old.host) again two → refused_at (answer_acted again) ≡ None → (act ≡ again) × (one ≡ two))
+    → becomes (connection_at number old.host) again two → refused_at (answer_acted again) ≡ None → (act ≡ again) × (one ≡ two))
     → OnConnection becomes number old answer new → refused_at answer ≡ None → OnConnection becomes number old reply other → refused_at reply ≡ None
     → Alike answer reply new other
 one_call becomes number old new other answer reply alike is none also other_none =
