@@ -171,3 +171,8 @@ word_up_to word ones place are = (
 
     with_none : (x : ℕ) → min x 0 ≡ 0
     with_none x = omega arith
+
+-- cells up to a middle, and from there on
+pub within_two : (from middle to other : ℕ) (bit old : Bool) → from ≤ middle → middle ≤ to
+    → (if is_within middle to other then bit else if is_within from middle other then bit else old) ≡ (if is_within from to other then bit else old)
+within_two from middle to other bit old low high = grind (arith, nat_tests)

@@ -136,10 +136,12 @@ fn order_behind(code: u8, bytes: &[u8], size: Size) -> Result<(Order, &[u8]), Co
 pub(crate) fn order_of(bytes: &[u8], size: Size) -> Result<(Order, &[u8]), CommandFault>
     ensures { Gives (λ x. (x.0, x.1.now)) result (order_at (cells_in size) bytes.now) }
 {
+    // The most frequent order comes first.
+    if let [START_FIELD, code, rest @ ..] = bytes {
+        return Ok((Order::Sf(Attr::from_code(*code)), rest));
+    }
     match bytes {
-        // The most frequent order comes first.
-        [START_FIELD, code, rest @ ..] => Ok((Order::Sf(Attr::from_code(*code)), rest)),
-        [START_FIELD] => Err(CommandFault::Truncated),
+        [START_FIELD, ..] => Err(CommandFault::Truncated),
         [byte, rest @ ..] => {
             if storable(*byte) {
                 Ok((Order::Char(*byte), rest))

@@ -109,8 +109,11 @@ impl CellBits {
         ensures { (other : ℕ) → has_bit self.new other ≡ (if is_within from to other then bit else has_bit self.old other) }
     {
         if from < to {
-            if to <= (from / BITS + 1) * BITS {
+            let middle = (from / BITS + 1) * BITS;
+            if to <= middle {
                 self.put_in_word(from, to, bit);
+            } else if to <= middle + BITS {
+                self.put_in_two_words(from, to, bit);
             } else {
                 self.put_in_words(from, to, bit);
             }
@@ -128,6 +131,18 @@ impl CellBits {
         let start = index * BITS;
         let word = with_bits(self.words[index], from - start, to - start, bit);
         self.words[index] = word;
+    }
+
+    /// The same of cells whose bits are in two words.
+    fn put_in_two_words(&mut self, from: usize, to: usize, bit: bool)
+        requires order { (from / 64 + 1) * 64 < to }
+        requires few { to ≤ most_cells }
+        requires two { to ≤ (from / 64 + 1) * 64 + 64 }
+        ensures { (other : ℕ) → has_bit self.new other ≡ (if is_within from to other then bit else has_bit self.old other) }
+    {
+        let middle = (from / BITS + 1) * BITS;
+        self.put_in_word(from, middle, bit);
+        self.put_in_word(middle, to, bit);
     }
 
     /// The same of cells whose bits are in any words.
