@@ -93,7 +93,7 @@ fn is_high_before_field(word: u64) -> bool
     word % 0x1_0000 / 0x100 == u64::from(START_FIELD) && word % 0x100 >= 0x40
 }
 
-/// Whether a text of eight bytes or more begins with one character and Start Field behind it.
+/// Whether a text of eight bytes or more begins with one character, and Start Field next.
 #[inline(always)]
 fn has_one_character(text: &[u8]) -> bool
     ensures some { IsTrue result → 1 ≤ length text.now }

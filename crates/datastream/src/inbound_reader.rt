@@ -197,7 +197,7 @@ fn check_fields(form: Form, text: &[u8], size: Size) -> Result<(), InboundFault>
     Ok(())
 }
 
-/// Some cells at the front of a text, at least one and at most so many: how many they are, and the bytes after them.
+/// Passes over cells at the front of a text, at least one and at most `most`. Answers how many, and the bytes after them.
 #[inline(always)]
 fn pass_cells(text: &[u8], most: usize) -> Result<(usize, &[u8]), InboundFault>
     requires { 0 < most }

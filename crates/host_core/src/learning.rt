@@ -43,7 +43,7 @@ pub(crate) fn is_in_doubt(shadow: &Shadow, field: &Field) -> bool
     !is_settled(shadow.fact(field.extent.attr()))
 }
 
-/// The characters of a field's text, where that is known: the text without nulls, and nulls among them.
+/// The characters of a field's text, if that is known. There may be nulls among them.
 pub(crate) fn characters_known<'a>(shadow: &'a Shadow, field: &Field) -> Option<FieldText<'a>>
     requires stored { CanBeStored shadow.now }
     requires there { HasField shadow.now field.now }

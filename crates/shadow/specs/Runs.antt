@@ -1,4 +1,4 @@
--- For private functions: characters in places that follow one another, and what comes behind them (our profile).
+-- For private functions: characters in places that follow one another (our profile).
 use Rattle.std.specs.Prelude.{◌+◌, ℕ, Bool, false, List, [], ◌∷◌, ◌++◌, length, map, take, drop, slice_index_or}
 use Rattle.codes3270.specs.declared.attribute.Cell.{Cell}
 use Rattle.shadow.specs.declared.cell_belief.CellBelief.{CellBelief}
