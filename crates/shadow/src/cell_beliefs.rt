@@ -111,28 +111,6 @@ fn no_heads() -> [Head; MOST_CELLS]
     [NO_HEAD; MOST_CELLS]
 }
 
-/// The first attribute from an address to another, or this other.
-fn attribute_within(cells: &PackedCells, from: usize, to: usize) -> usize
-    requires order { from ≤ to }
-    requires few { to ≤ cells_in cells.now.size }
-    ensures from { from ≤ result }
-    ensures within { result ≤ to }
-    ensures clear { (at : ℕ) → from ≤ at → at < result → has_bit cells.now.attributes at ≡ false }
-{
-    // For the contract: there is room for the screen.
-    let _cells = cells.len();
-    let mut at = from;
-    while at < to {
-        let place = at % BITS;
-        let count = clear_bits(cells.attribute_word(at / BITS), place);
-        if place + count < BITS {
-            return (at + count).min(to);
-        }
-        at += count;
-    }
-    to
-}
-
 /// Whether the bits of the cells from one to another are all set.
 fn are_set(bits: &CellBits, from: usize, to: usize) -> bool
     requires { to ≤ most_cells }
@@ -157,23 +135,6 @@ fn codes_between(cells: &PackedCells, from: usize, to: usize) -> &[u8]
     ensures { result.now ≡ take (to - from) (drop from cells.now.codes) }
 {
     &cells.codes()[from..to]
-}
-
-/// Puts nulls in place of the attributes from an address to another.
-fn clear_attributes(cells: &mut PackedCells, from: usize, to: usize)
-    requires order { from ≤ to }
-    requires few { to ≤ cells_in cells.old.size }
-    ensures size { cells.new.size ≡ cells.old.size }
-    ensures codes { (at : ℕ) → (from ≤ at → at < to → ⊥) → slice_index_or cells.new.codes at 0 ≡ slice_index_or cells.old.codes at 0 }
-    ensures len { length cells.new.codes ≡ length cells.old.codes }
-    ensures attributes { (at : ℕ) → (from ≤ at → at < to → ⊥) → has_bit cells.new.attributes at ≡ has_bit cells.old.attributes at }
-    ensures none { (at : ℕ) → from ≤ at → at < to → has_bit cells.new.attributes at ≡ false }
-{
-    let mut at = attribute_within(cells, from, to);
-    while at < to {
-        cells.set(at, PackedCell::character(0));
-        at = attribute_within(cells, at + 1, to);
-    }
 }
 
 impl CellBeliefs {
@@ -379,10 +340,8 @@ impl CellBeliefs {
     {
         // For the contract: there is room for the screen.
         let _cells = self.len();
-        let to = from + text.len();
-        clear_attributes(&mut self.cells, from, to);
-        self.cells.put_characters(from, text);
-        self.known.put_range(from, to, true);
+        self.cells.store_characters(from, text);
+        self.known.put_range(from, from + text.len(), true);
     }
 
     /// Whether these characters, all of them known, are those from an address on before the next attribute. Where no attribute comes
