@@ -62,17 +62,23 @@ pub struct Glyphs<'a> {
     cells: &'a ScreenCells,
     /// The address of the first of them.
     next: usize,
-    /// Whether the cells up to the next attribute are hidden.
+    /// The first attribute from there on, or the number of cells.
+    attribute: usize,
+    /// Whether the cells up to that attribute are hidden.
     hidden: bool,
 }
 
 impl<'a> Model for Glyphs<'a> {
-    ghost use Rattle.std.specs.Prelude.{List, ℕ, drop};
+    ghost use Rattle.std.specs.Prelude.{◌≡◌, ◌≤◌, ◌+◌, List, ℕ, drop, length};
+    ghost use Rattle.std.specs.List.{prefix_len};
+    ghost use Rattle.datastream.specs.Screen.{is_char};
     ghost use Rattle.presentation.specs.Glyph.{glyphs_from};
 
     ghost Value = { List ℕ };
 
     ghost view = { λ glyphs. glyphs_from glyphs.hidden (drop glyphs.next glyphs.cells.now) };
+
+    ghost invariant = { λ glyphs. (glyphs.attribute ≡ glyphs.next + prefix_len is_char (drop glyphs.next glyphs.cells.now)) × (glyphs.attribute ≤ length glyphs.cells.now) };
 }
 
 impl<'a> Iterator for Glyphs<'a> {
@@ -85,9 +91,15 @@ impl<'a> Iterator for Glyphs<'a> {
     ghost remaining = { item_count (λ glyphs. glyphs) };
 
     fn next(&mut self) -> Option<char> {
-        if self.next < self.cells.len() {
-            let cell = self.cells.get(self.next);
-            self.next += 1;
+        let at = self.next;
+        if at < self.attribute {
+            self.next = at + 1;
+            let glyph = glyph_of_code(self.cells.character(at));
+            Some(shown_glyph(self.hidden, glyph))
+        } else if at < self.cells.len() {
+            let cell = self.cells.get(at);
+            self.next = at + 1;
+            self.attribute = self.cells.attribute_from(at + 1);
             self.hidden = is_hidden_from(self.hidden, cell);
             Some(shown_glyph(self.hidden, glyph_of(cell)))
         } else {
@@ -104,9 +116,11 @@ impl Screen {
         let last = Addr::first().backward(1, self.size());
         let hidden = is_hidden(self.attribute_over(last));
         let buffer = &self.buffer;
+        let cells = buffer.cells();
         Glyphs {
-            cells: buffer.cells(),
+            cells,
             next: 0,
+            attribute: cells.attribute_from(0),
             hidden,
         }
     }

@@ -1,10 +1,10 @@
 //! The cells of a screen.
-ghost use Rattle.std.specs.Prelude.{◌≡◌, ◌<◌, ◌≤◌, ◌+◌, IfNone, IfSome, IsTrue, length, drop, map, replicate, slice_index_or, slice_set};
+ghost use Rattle.std.specs.Prelude.{◌≡◌, ◌<◌, ◌≤◌, ◌+◌, true, IfNone, IfSome, IsTrue, length, drop, map, replicate, slice_index_or, slice_set};
 ghost use Rattle.std.specs.List.{list_all, prefix_len};
 ghost use Rattle.codes3270.specs.Size.{cells_in, most_cells};
 ghost use Rattle.codes3270.specs.declared.attribute.Cell.TheVariants.{Char};
 ghost use Rattle.datastream.specs.CellCodes.{code_in};
-ghost use Rattle.datastream.specs.Screen.{IsGoverned, is_char};
+ghost use Rattle.datastream.specs.Screen.{IsGoverned, is_char, is_char_at};
 ghost use Rattle.presentation.specs.Runs.{placed};
 
 use codes3270::{Cell, Size};
@@ -63,6 +63,16 @@ impl ScreenCells {
         ensures { result ≡ slice_index_or self.now at result }
     {
         self.packed.get(at)
+    }
+
+    /// The code of a cell's character.
+    #[inline(always)]
+    pub(crate) fn character(&self, at: usize) -> u8
+        requires placed { at < length self.now }
+        requires character { is_char_at self.now at ≡ true }
+        ensures { slice_index_or self.now at (Char 0) ≡ Char result }
+    {
+        self.codes()[at]
     }
 
     /// Stores a cell.
