@@ -9,7 +9,7 @@ use Rattle.presentation.proofs.screen.Screen.glyphs.Goals as goal
 pub returns : goal.returns
 returns c =
     let cells : List Cell = c.args.self.now.screen.cells in
-    let same : c.cells.result.now ≡ cells = c.cells.ensures.cells ∙ ap (λ (sized : SizedScreen). sized.screen.cells) c.self.view_is in
+    let same : c.cells-cells.result.now ≡ cells = c.cells-cells.ensures.cells ∙ ap (λ (sized : SizedScreen). sized.screen.cells) c.self.view_is in
     let width : cells_in c.size.result ≡ length cells = ap cells_in c.size.ensures.size ∙ sym c.size.ensures.cells in
     let some : 0 < length cells = rw (← width) (omega (arith, c.backward-last.ensures.in_range)) in
     let from_zero : 0 + length cells - 1 ≡ length cells - 1 = omega arith in
