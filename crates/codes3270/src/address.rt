@@ -114,6 +114,17 @@ impl Addr {
         }
     }
 
+    /// The number of cells from this one to the last, on a screen of this size that has this cell. It
+    /// counts this cell, too.
+    #[inline(always)]
+    pub const fn room(self, size: Size) -> usize
+        requires { self < cells_in size }
+        ensures room { result + self ≡ cells_in size }
+        ensures some { 0 < result }
+    {
+        (size.cells() - self.position) as usize
+    }
+
     /// The next address on a screen of this size that has this cell; 0 after the last.
     pub const fn next(self, size: Size) -> Addr
         requires { self < cells_in size }

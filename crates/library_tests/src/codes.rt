@@ -255,6 +255,8 @@ fn goes_round(report: &mut Report, size: Size, wanted: &[u16; 8]) -> bool {
         first.backward(cells, size).get(),
     ];
     report.same(wanted, &places)
+        && report.same(&usize::from(cells), &first.room(size))
+        && report.same(&1, &last.room(size))
 }
 
 /// Whether a walk over all addresses goes from the first to the last.

@@ -67,16 +67,6 @@ impl WritePosition {
     }
 }
 
-/// How many cells there are from an address on.
-#[inline(always)]
-fn room_from(address: Addr, size: Size) -> usize
-    requires { address < cells_in size }
-    ensures room { result + address ≡ cells_in size }
-    ensures some { 0 < result }
-{
-    usize::from(size.cells() - address.get())
-}
-
 impl Buffer {
     /// All cells of a screen of a size null, the cursor at 0; the AID stays.
     pub(crate) fn erase(&mut self, size: Size)
@@ -216,7 +206,7 @@ impl Buffer {
         ensures in_range { result.address < cells_in self.old.size }
         ensures size { self.new ≡ record self.old { screen = self.new.screen } }
     {
-        if text.len() <= room_from(position.address, size) {
+        if text.len() <= position.address.room(size) {
             self.put_front(text, position, size)
         } else {
             self.put_round(text, position, size)
@@ -237,7 +227,7 @@ impl Buffer {
         let mut position = position;
         let mut rest = text;
         while !rest.is_empty() {
-            let room = room_from(position.address, size);
+            let room = position.address.room(size);
             let (front, behind) = rest.split_at(room.min(rest.len()));
             position = self.put_front(front, position, size);
             rest = behind;

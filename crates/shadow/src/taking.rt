@@ -166,16 +166,6 @@ fn store_front(
     at.forward(text.len() as u16, size)
 }
 
-/// How many cells there are from an address on, on a screen of this size.
-#[inline(always)]
-fn room_from(at: Addr, size: Size) -> usize
-    requires { at < cells_in size }
-    ensures room { result + at ≡ cells_in size }
-    ensures some { 0 < result }
-{
-    usize::from(size.cells() - at.get())
-}
-
 /// Stores characters that come one after another from an address on, round the end, on a screen of this size. Answers the next address.
 #[inline(always)]
 fn store_characters(
@@ -197,7 +187,7 @@ fn store_characters(
     let mut at = at;
     let mut rest = text;
     while !rest.is_empty() {
-        let (front, behind) = rest.split_at(room_from(at, size).min(rest.len()));
+        let (front, behind) = rest.split_at(at.room(size).min(rest.len()));
         at = store_front(places, pasts, at, front, size);
         rest = behind;
     }

@@ -1,4 +1,4 @@
-use Rattle.std.proofs.Common.{◌<◌, ◌^◌, ℕ, subst, ap, sym}
+use Rattle.std.proofs.Common.{◌<◌, ◌^◌, ℕ, subst}
 use Rattle.datastream.proofs.CharacterRuns.{high_in_word, high_count, all_high}
 use Rattle.datastream.proofs.characters.count_high.Goals as goal
 

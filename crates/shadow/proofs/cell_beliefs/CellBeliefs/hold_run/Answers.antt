@@ -1,7 +1,6 @@
 use Rattle.std.proofs.Common.{◌≡◌, ◌<◌, ◌≤◌, ◌+◌, ◌-◌, ◌++◌, ◌∙◌, ℕ, List, true, false, arith, ap, sym, subst, length, take, drop, get_or}
 use Rattle.codes3270.specs.Size.{Shape, cells_in}
 use Rattle.datastream.specs.CellBits.{has_bit, kept}
-use Rattle.datastream.specs.CellCodes.{Packed}
 use Rattle.shadow.specs.PackedBeliefs.{place_by, MarksKnown}
 use Rattle.shadow.specs.Runs.{placed}
 use Rattle.shadow.proofs.HeldRuns.{run_held, run_marked, length-placed, copied_inside, copied_apart, length-copied}

@@ -1,4 +1,4 @@
-use Rattle.std.proofs.Common.{◌≡◌, ◌<◌, ◌≤◌, ◌/◌, ◌%◌, ◌+◌, ◌*◌, ℕ, get_or, arith}
+use Rattle.std.proofs.Common.{◌/◌, ◌%◌, ℕ, get_or, arith}
 use Rattle.datastream.proofs.Words.{word_up_to}
 use Rattle.datastream.proofs.cell_store.cell_bits.CellBits.last_to.Goals as goal
 
