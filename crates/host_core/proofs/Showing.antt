@@ -15,13 +15,12 @@ use Rattle.datastream.specs.declared.wanted.Want.TheVariants as want
 use Rattle.shadow.specs.Fits.{is_keep}
 use Rattle.shadow.specs.Openness.{keeps_whole_fields}
 use Rattle.panels.specs.declared.message.Message.{Message}
-use Rattle.panels.specs.declared.message.Message.TheVariants.{Fresh, Plain, KeyNotActive, Required}
 use Rattle.panels.specs.declared.panel.Field.{Field}
 use Rattle.panels.specs.MessageRow.{PanelsLeaveTheRow}
 use Rattle.panels.specs.KeptFields.{FieldsAreKeptWhole, NothingElseIsKept, IsOfField}
 use Rattle.panels.specs.Panel.{PanelParts, Panels, AreLaidOut, HaveOtherwise, IsAbove, IsLaidOut, IsOtherwise, HasItemsApart, AreApart, is_shown, shape_of, shown_in, shown_of}
 use Rattle.panels.proofs.Putting.{cursor_within}
-use Rattle.panels.specs.Screen.{Values, distance_in, item_cell, autoskip_attr, shown, text_cell, field_attr, field_content, field_cell, stopper_cell, message_text, message_cell, first_some, wanted_cell, field_numbered, wanted_cursor, screen_of}
+use Rattle.panels.specs.Screen.{Values, distance_in, item_cell, autoskip_attr, shown, text_cell, field_attr, field_content, field_cell, stopper_cell, message_text, message_cell, first_some, wanted_cell, screen_of}
 use Rattle.panels.specs.Size.{message_start}
 use Rattle.host_core.specs.Application.{IsMessageRow, IsShape, IsShowable, is_wanted_char, message_place, no_panel, panel_at}
 use Rattle.host_core.proofs.KeptWhole.{IsInRun, KeptInRuns, kept_whole}

@@ -21,7 +21,7 @@ use Rattle.datastream.specs.declared.wanted.Want.TheVariants as want
 use Rattle.panels.proofs.Codes.{character_of_code}
 use Rattle.panels.specs.Characters.{is_character, AreCharacters}
 use Rattle.panels.proofs.Putting.{cursor_within}
-use Rattle.panels.specs.Panel.{PanelParts, HasCharacters, IsLaidOut, IsOfCharacters, shape_of, shown_in}
+use Rattle.panels.specs.Panel.{PanelParts, HasCharacters, IsLaidOut, IsOfCharacters, shape_of}
 use Rattle.panels.specs.Screen.{Values, distance_in, item_cell, kept_cell, autoskip_attr, shown, text_cell, is_fresh, field_attr, field_content, field_cell, stopper_cell, coded, field_numbered, message_text, message_cell, first_some, wanted_cell, screen_of}
 use Rattle.panels.specs.Size.{message_start}
 use Rattle.panels.specs.Values.{value_of}

@@ -1,5 +1,5 @@
 -- What a screen would take on the wire, had the host known nothing of what the terminal shows (our profile).
-use Rattle.std.specs.Prelude.{ℕ, List, [], ◌∷◌, false, length, Option, Some, None}
+use Rattle.std.specs.Prelude.{ℕ, [], ◌∷◌, false, length, Option, Some, None}
 use Rattle.datastream.specs.Wanted.{WantedScreen}
 use Rattle.shadow.specs.Belief.{Shadow}
 use Rattle.telnet_wire.specs.Items.{sent_bytes}

@@ -1,6 +1,8 @@
 //! What screens would take on the wire, had the host known nothing of what the terminals show.
-ghost use Rattle.std.specs.Prelude.{◌≡◌, ◌<◌, ◌≤◌, false, length, true};
+ghost use Rattle.std.specs.Prelude.{◌≡◌, ◌<◌, ◌≤◌, false, length, replicate, true};
+ghost use Rattle.codes3270.specs.Size.{cells_in};
 ghost use Rattle.datastream.specs.Wanted.{IsScreen};
+ghost use Rattle.datastream.specs.declared.wanted.Want.TheVariants.{Char};
 ghost use Rattle.shadow.specs.Belief.Shadow.{NothingKnown};
 ghost use Rattle.shadow.specs.Fits.{is_paintable};
 ghost use Rattle.panels.specs.Panel.{shape_of};
@@ -63,7 +65,8 @@ impl ScreenMeasure {
     }
 }
 
-/// Puts the screen of a panel with a message and values. It keeps nothing of what is shown, and is a screen of the profile.
+/// Puts the screen of a panel with a message and values on one with a null in each cell. It keeps nothing of what is shown, and is
+/// a screen of the profile.
 fn put_whole(
     wanted: &mut Wanted,
     panels: &PanelSet,
@@ -73,6 +76,7 @@ fn put_whole(
 )
     requires panel { panel < length panels.now.panels }
     requires size { wanted.old.size ≡ shape_of (panel_at panels.now panel) }
+    requires nulls { wanted.old.cells ≡ replicate (cells_in wanted.old.size) (Char 0) }
     ensures wanted { wanted.new ≡ (application_of panels.now).screen panel values.now message false }
     ensures fits { is_paintable NothingKnown wanted.new ≡ true }
     ensures screen { IsScreen wanted.new }
@@ -94,7 +98,7 @@ impl Session {
         ensures { result ≡ length_over_nothing number (shown_whole (application_of panels.now) self.now) }
     {
         let size = panel_in(panels, self.panel).size();
-        let mut wanted = Wanted::filled(Want::Keep, size);
+        let mut wanted = Wanted::filled(Want::Char(0), size);
         put_whole(&mut wanted, panels, self.panel, self.message, &self.values);
         measure.length(number, &wanted)
     }

@@ -1,9 +1,10 @@
 //! The commands that are sent in the host's turn.
-ghost use Rattle.std.specs.Prelude.{◌≡◌, ◌<◌, ◌≤◌, ◌+◌, ◌*◌, ◌++◌, ◌∷◌, [], ℕ, true, length, vec_len};
+ghost use Rattle.std.specs.Prelude.{◌≡◌, ◌<◌, ◌≤◌, ◌+◌, ◌*◌, ◌++◌, ◌∷◌, [], ℕ, true, length, replicate, vec_len};
 ghost use Rattle.std.specs.Vec.{vec_capacity};
 ghost use Rattle.codes3270.specs.declared.attention.Aid.{Aid as Identifier};
 ghost use Rattle.codes3270.specs.Size.{cells_in};
 ghost use Rattle.datastream.specs.Wanted.{IsScreen};
+ghost use Rattle.datastream.specs.declared.wanted.Want.TheVariants.{Char};
 ghost use Rattle.shadow.specs.Belief.{IsOfSize};
 ghost use Rattle.shadow.specs.Fits.{is_paintable};
 ghost use Rattle.panels.specs.Keys.{IsKey};
@@ -120,28 +121,26 @@ impl Session {
         }
     }
 
-    /// Puts the screen that is wanted: one that keeps fields where that fits what is believed, else a whole one.
+    /// Puts the screen that is wanted on one with a null in each cell: one that keeps fields where that fits what is believed, else a
+    /// whole one.
     fn put_wanted(&self, wanted: &mut Wanted, panels: &PanelSet, shown: &Shown, values: &Values)
         requires shown { CanBeShown (length panels.now.panels) shown.now }
         requires size { wanted.old.size ≡ shape_of (panel_at panels.now shown.now.panel) }
+        requires nulls { wanted.old.cells ≡ replicate (cells_in wanted.old.size) (Char 0) }
         ensures { wanted.new ≡ wanted_by (application_of panels.now) self.now shown.now.panel shown.now.message shown.now.keep values.now }
     {
         let panel = panel_in(panels, shown.panel);
-        if !shown.keep {
-            panel.put_wanted(wanted, values, shown.message, false);
-            return;
+        panel.put_wanted(wanted, values, shown.message, shown.keep);
+        if shown.keep && !self.shadow.fits(wanted) {
+            panel.put_values(wanted, values, shown.message);
         }
-        panel.put_wanted(wanted, values, shown.message, true);
-        if self.shadow.fits(wanted) {
-            return;
-        }
-        panel.put_wanted(wanted, values, shown.message, false);
     }
 
     /// The same. It fits what is believed or keeps nothing, and is a screen of the profile, of the panel's size.
     fn put_fitting(&self, wanted: &mut Wanted, panels: &PanelSet, shown: &Shown, values: &Values)
         requires shown { CanBeShown (length panels.now.panels) shown.now }
         requires size { wanted.old.size ≡ shape_of (panel_at panels.now shown.now.panel) }
+        requires nulls { wanted.old.cells ≡ replicate (cells_in wanted.old.size) (Char 0) }
         ensures wanted { wanted.new ≡ wanted_by (application_of panels.now) self.now shown.now.panel shown.now.message shown.now.keep values.now }
         ensures fits { is_paintable self.now.shadow wanted.new ≡ true }
         ensures screen { IsScreen wanted.new }
@@ -176,7 +175,7 @@ impl Session {
         what_is_wanted_is_painted();
         let shown = self.in_model(panels, asked);
         let size = panel_in(panels, shown.panel).size();
-        let mut wanted = Wanted::filled(Want::Keep, size);
+        let mut wanted = Wanted::filled(Want::Char(0), size);
         self.put_fitting(&mut wanted, panels, &shown, self.values());
         begin_record(&mut self.sent, ALWAYS_RESPONSE, self.next_seq);
         self.shadow.paint(&mut self.sent, &wanted).unwrap();

@@ -23,3 +23,4 @@ pub mod NothingElseKept
 pub mod DefinedOnce
 pub mod Setting
 pub mod MessageTexts
+pub mod ValuesPut

@@ -243,7 +243,7 @@ layered texts fields message stoppers null base one two three four e0 e1 e2 e3 e
     ∙ ap (unwrap_or texts) (over fields (option_or message stoppers) null ∙ ap (unwrap_or fields) (over message stoppers null)))
 
 -- a cell of one screen is one of another of its size
-still : (one other : WantedScreen) (cell : ℕ) → one.size ≡ other.size → cell < cells_in other.size → cell < cells_in one.size
+pub still : (one other : WantedScreen) (cell : ℕ) → one.size ≡ other.size → cell < cells_in other.size → cell < cells_in one.size
 still one other cell same below = subst (λ s. cell < cells_in s) (sym same) below
 
 pub put_all : (panel : PanelParts) (values : Values) (message : Message) (keep : Bool) (name : List ℕ) (texts : List TextItem) (fields : List Field) (base one two three four : WantedScreen)

@@ -41,6 +41,10 @@ same_screen one other size cells cursor reset =
     ap (λ s. screen_with s one.cells one.cursor one.reset) size ∙ ap (λ c. screen_with other.size c one.cursor one.reset) cells
     ∙ ap (λ c. screen_with other.size other.cells c one.reset) cursor ∙ ap (screen_with other.size other.cells other.cursor) reset
 
+-- a screen has all its cells, as its walk does
+pub all_there : (shown cells : List Want) (shape other : Shape) → shown ≡ cells → length shown ≡ cells_in shape → shape ≡ other → length cells ≡ cells_in other
+all_there shown cells shape other same size is = sym (ap length same) ∙ size ∙ ap cells_in is
+
 pub is_screen_of : (panel : PanelParts) (values : Values) (message : Message) (keep : Bool) (screen : WantedScreen) → length screen.cells ≡ cells_in (shape_of panel)
     → IsWantedOf panel values message keep screen → screen ≡ screen_of panel values message keep
 is_screen_of panel values message keep screen long is =
@@ -50,6 +54,10 @@ is_screen_of panel values message keep screen long is =
 pub cell_of_screen : (panel : PanelParts) (values : Values) (message : Message) (keep : Bool) (cell : ℕ) → cell < cells_in (shape_of panel)
     → slice_get (screen_of panel values message keep).cells cell ≡ Some (wanted_cell panel values message keep cell)
 cell_of_screen panel values message keep cell within = counted_at (cells_in (shape_of panel)) (wanted_cell panel values message keep) cell within
+
+pub cell_seen : (panel : PanelParts) (values : Values) (message : Message) (keep : Bool) (cell : ℕ) (default : Want) → cell < cells_in (shape_of panel)
+    → get_or (screen_of panel values message keep).cells cell default ≡ wanted_cell panel values message keep cell
+cell_seen panel values message keep cell default within = counted (cells_in (shape_of panel)) (wanted_cell panel values message keep) cell default within
 
 pub cell_within : (panel : PanelParts) (values : Values) (message : Message) (keep : Bool) (cell : ℕ) (want : Want)
     → slice_get (screen_of panel values message keep).cells cell ≡ Some want → cell < cells_in (shape_of panel)

@@ -1,5 +1,5 @@
 //! The screen that a panel asks for.
-ghost use Rattle.std.specs.Prelude.{◌≡◌, ◌<◌, ℕ, All, true, false, IfSome, option_map, slice_index_or, option_copied};
+ghost use Rattle.std.specs.Prelude.{◌≡◌, ◌<◌, ℕ, All, true, false, IfSome, option_map, replicate, slice_index_or, option_copied};
 ghost use Rattle.codes3270.specs.Size.{cells_in};
 ghost use Rattle.codes3270.specs.Storable.{is_storable};
 ghost use Rattle.datastream.specs.Wanted.{IsProper};
@@ -20,14 +20,6 @@ use crate::values::Values;
 use codes3270::Display::{Bright, Hidden, Normal};
 use codes3270::{Attr, Size, from_latin1};
 use datastream::{Want, Wanted};
-
-/// A screen with a null in each cell.
-fn nulls(size: Size) -> Wanted
-    ensures size { result.size ≡ size }
-    ensures nulls { (cell : ℕ) (default : Wish) → cell < cells_in size → slice_index_or result.cells cell default ≡ Char 0 }
-{
-    Wanted::filled(Want::Char(0), size)
-}
 
 /// A cell of an item with a content; without one it keeps what it has.
 fn cell_of(attr: Attr, content: Option<&[u8]>, distance: u16) -> Want
@@ -184,23 +176,23 @@ impl Panel {
         ensures wanted { IsWantedOf self.now values.now message keep result }
         ensures screen { result ≡ screen_of self.now values.now message keep }
     {
-        let mut wanted = nulls(self.size());
-        self.put_items(&mut wanted, values, message, keep);
+        let mut wanted = Wanted::filled(Want::Char(0), self.size());
+        self.put_wanted(&mut wanted, values, message, keep);
         wanted
     }
 
-    /// Puts that screen in place of another of its size.
+    /// Puts that screen on one of its size that has a null in each cell.
     pub fn put_wanted(&self, wanted: &mut Wanted, values: &Values, message: Message, keep: bool)
         requires size { wanted.old.size ≡ shape_of self.now }
+        requires nulls { wanted.old.cells ≡ replicate (cells_in wanted.old.size) (Char 0) }
         requires fresh { (message ≡ Fresh) → keep ≡ false }
         ensures wanted { IsWantedOf self.now values.now message keep wanted.new }
         ensures screen { wanted.new ≡ screen_of self.now values.now message keep }
     {
-        *wanted = nulls(self.size());
         self.put_items(wanted, values, message, keep);
     }
 
-    /// Puts what the panel has into a screen of its size with a null in each cell.
+    /// The same, where of each cell is said that it has a null.
     fn put_items(&self, wanted: &mut Wanted, values: &Values, message: Message, keep: bool)
         requires size { wanted.old.size ≡ shape_of self.now }
         requires nulls { (cell : ℕ) (default : Wish) → cell < cells_in wanted.old.size → slice_index_or wanted.old.cells cell default ≡ Char 0 }
@@ -219,5 +211,27 @@ impl Panel {
         let _whole = wanted.cells();
         let cursor = spoken.map_or(self.cursor, |field| field.extent.first_cell());
         wanted.set_cursor_and_reset(cursor, message.is_fresh());
+    }
+
+    /// Puts the fields' values on the screen that leaves the fields as they are.
+    pub fn put_values(&self, wanted: &mut Wanted, values: &Values, message: Message)
+        requires { wanted.old ≡ screen_of self.now values.now message true }
+        ensures { wanted.new ≡ screen_of self.now values.now message false }
+    {
+        let (cursor, reset) = (wanted.cursor(), wanted.reset());
+        self.put_fields_and_texts(wanted, values, &message);
+        wanted.set_cursor_and_reset(cursor, reset);
+    }
+
+    /// The same, but for the cursor and the reset of MDT.
+    fn put_fields_and_texts(&self, wanted: &mut Wanted, values: &Values, message: &Message)
+        requires kept { wanted.old ≡ screen_of self.now values.now message.now true }
+        ensures size { wanted.new.size ≡ wanted.old.size }
+        ensures screen { record wanted.new { cursor = wanted.old.cursor; reset = wanted.old.reset } ≡ screen_of self.now values.now message.now false }
+    {
+        put_fields(wanted, values, message, false, self.fields.as_slice());
+        put_texts(wanted, values, self.texts.as_slice());
+        // For the contract: there is a want for each cell.
+        let _whole = wanted.cells();
     }
 }

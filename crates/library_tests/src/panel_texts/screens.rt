@@ -53,6 +53,28 @@ fn keeps(report: &mut Report, cells: Wants<'_>, kept: &[Kept], items: &[Item]) -
     true
 }
 
+/// Whether the values, put on the screen that keeps the fields, give a screen with these items and a cursor. A fresh panel keeps
+/// nothing.
+fn is_filled_in(
+    report: &mut Report,
+    panel: &Panel,
+    values: &Values,
+    message: Message,
+    items: &[Item],
+    cursor: u16,
+) -> bool {
+    let mut screen = match message {
+        Message::Fresh => return true,
+        Message::Plain | Message::KeyNotActive | Message::Required(_) | Message::Told(_, _) => {
+            panel.wanted(values, message, true)
+        }
+    };
+    panel.put_values(&mut screen, values, message);
+    keeps(report, screen.cells(), &[], items)
+        && report.same(&cursor, &screen.cursor().get())
+        && report.same(&false, &screen.reset())
+}
+
 /// Whether a panel asks for a screen with these items and a cursor.
 fn asks_for(
     report: &mut Report,
@@ -66,6 +88,7 @@ fn asks_for(
     keeps(report, screen.cells(), &[], items)
         && report.same(&cursor, &screen.cursor().get())
         && report.same(&matches!(message, Message::Fresh), &screen.reset())
+        && is_filled_in(report, panel, values, message, items, cursor)
 }
 
 /// Whether keys, by the bytes of their identifiers, lead from a panel as is said.

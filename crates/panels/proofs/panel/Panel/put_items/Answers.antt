@@ -1,10 +1,9 @@
-use Rattle.std.proofs.Common.{◌≡◌, ◌<◌, ◌∙◌, List, [], length, ap, sym, subst, rules, Some}
+use Rattle.std.proofs.Common.{◌≡◌, ◌<◌, ◌∙◌, [], length, ap, sym, subst, rules, Some}
 use Rattle.std.specs.Prelude.{All, option_copied}
 use Rattle.std.specs.Option.{option_map_or}
 use Rattle.std.proofs.lemmas.Option.{slice_get-get_or}
-use Rattle.codes3270.specs.Size.{Shape, cells_in}
+use Rattle.codes3270.specs.Size.{cells_in}
 use Rattle.datastream.specs.Wanted.{WantedScreen}
-use Rattle.datastream.specs.declared.wanted.Want.{Want}
 use Rattle.datastream.specs.declared.wanted.Want.TheVariants as want
 use Rattle.panels.specs.declared.panel.Field.{Field}
 use Rattle.panels.specs.declared.panel.TextItem.{TextItem}
@@ -12,7 +11,7 @@ use Rattle.panels.specs.Panel.{PanelParts, IsLaidOut, shape_of}
 use Rattle.panels.specs.Put.{FitsOn, field_spoken}
 use Rattle.panels.specs.Screen.{is_fresh, IsWantedOf, wanted_cursor}
 use Rattle.panels.proofs.Putting.{all_fit, cursor_within, put_all}
-use Rattle.panels.proofs.Screens.{is_screen_of}
+use Rattle.panels.proofs.Screens.{all_there, is_screen_of}
 use Rattle.panels.proofs.panel.Panel.put_items.Goals as goal
 
 pub put_stoppers-requires : goal.put_stoppers-requires
@@ -55,9 +54,6 @@ set_cursor_and_reset-requires c =
     ∙ ap (option_map_or (λ field. field.extent.first) (field_spoken panel.fields c.args.message)) (ap (λ (p : PanelParts). p.cursor) c.self.view_is) in
     subst (λ shape. c.map_or-cursor.result < cells_in shape) (sym sized)
     (subst (λ cursor. cursor < cells_in (shape_of panel)) (sym aimed) (cursor_within panel c.args.message laid))
-
-all_there : (shown cells : List Want) (shape other : Shape) → shown ≡ cells → length shown ≡ cells_in shape → shape ≡ other → length cells ≡ cells_in other
-all_there shown cells shape other same size is = sym (ap length same) ∙ size ∙ ap cells_in is
 
 pub returns-clause-wanted : goal.returns-clause-wanted
 returns-clause-wanted c =
