@@ -9,7 +9,7 @@ use crate::bytes::{Run, spelt};
 use crate::report::Report;
 use codes3270::{Addr, Attr, CELL_COUNT, Cell, Model, Size};
 use datastream::{Command, CommandCode, Form, Inbound, InboundFault, read_command, read_inbound};
-use shadow::{Fact, HeardFault, Shadow, plain};
+use shadow::{Fact, FieldText, HeardFault, Shadow, plain};
 
 // ---- what is asked of a belief
 
@@ -143,6 +143,25 @@ pub(crate) fn value_at(shadow: &Shadow, place: u16, index: usize) -> Option<u8> 
     }
 }
 
+/// Whether the characters that come are those of this text.
+fn are_of(report: &mut Report, characters: FieldText<'_>, text: &[u8]) -> bool {
+    let mut characters = characters;
+    for wanted in text {
+        if !report.same(&Some(*wanted), &characters.next()) {
+            return false;
+        }
+    }
+    report.same(&None, &characters.next())
+}
+
+/// Whether one walk over the text that the fact of a field speaks of gives this one.
+fn has_text(report: &mut Report, shadow: &Shadow, place: u16, text: &[u8]) -> bool {
+    match place_on(shadow, place) {
+        Some(addr) => are_of(report, shadow.text(addr), text),
+        None => false,
+    }
+}
+
 /// Whether the fact of a field speaks of this text.
 fn has_value(report: &mut Report, shadow: &Shadow, place: u16, text: &[u8]) -> bool {
     for index in 0..text.len() {
@@ -151,6 +170,7 @@ fn has_value(report: &mut Report, shadow: &Shadow, place: u16, text: &[u8]) -> b
         }
     }
     report.same(&None, &value_at(shadow, place, text.len()))
+        && has_text(report, shadow, place, text)
 }
 
 /// Whether a field has this fact, which speaks of this text.
