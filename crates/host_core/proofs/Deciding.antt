@@ -1,5 +1,5 @@
 -- When the application is asked.
-use Rattle.std.proofs.Common.{◌≡◌, Bool, true, false, not, Option, Some, None, ℕ, List, refl, ap, sym, subst, ◌∙◌}
+use Rattle.std.proofs.Common.{◌≡◌, Bool, not, Option, Some, None, ℕ, refl, ap, sym, ◌∙◌}
 use Rattle.std.specs.Prelude.{is_some}
 use Rattle.codes3270.specs.declared.attention.Aid.{Aid}
 use Rattle.codes3270.specs.declared.attention.Aid.TheVariants.{Enter}

@@ -16,7 +16,7 @@ use Rattle.host_core.specs.Choices.{CanBeShown}
 use Rattle.host_core.specs.Does.{Grow}
 use Rattle.host_core.specs.Keeps.{DoesOn, IsSentOn, WantsMemory, act_of, decision_of, reads, show_for, show_once, teaches, values_shown}
 use Rattle.host_core.specs.Questions.{is_ask}
-use Rattle.host_core.specs.Rooms.{command_room, note_room, room_for}
+use Rattle.host_core.specs.Rooms.{command_room, note_room}
 use Rattle.host_core.specs.declared.acted.Acted.{Acted}
 use Rattle.host_core.specs.declared.acted.Acted.TheVariants.{Sent as IsSent, Nothing, Memory as NoMemory}
 use Rattle.host_core.specs.declared.acting.Shown.{Shown}

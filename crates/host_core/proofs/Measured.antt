@@ -1,5 +1,5 @@
 -- A screen that is measured.
-use Rattle.std.proofs.Common.{◌≡◌, ◌++◌, ◌∷◌, [], ℕ, List, Option, Some, ap, sym, ◌∙◌, length}
+use Rattle.std.proofs.Common.{◌≡◌, ◌++◌, ◌∷◌, [], ℕ, List, Some, ap, sym, ◌∙◌, length}
 use Rattle.codes3270.specs.Size.{cells_in}
 use Rattle.datastream.specs.Grammar.{CommandParts}
 use Rattle.datastream.specs.Wanted.{WantedScreen}

@@ -1,12 +1,12 @@
 -- A note, as it is written.
-use Rattle.std.proofs.Common.{◌≡◌, ◌≤◌, ◌-◌, ◌+◌, ◌*◌, ℕ, zero, suc, true, List, [], ◌∷◌, ◌++◌, length, map, take, drop, Some, refl, ap, sym, ◌∙◌, arith, append_assoc, inl, inr, Vec}
+use Rattle.std.proofs.Common.{◌≡◌, ◌≤◌, ◌-◌, ◌+◌, ◌*◌, ℕ, zero, suc, true, List, [], ◌∷◌, ◌++◌, length, map, take, drop, Some, refl, ap, sym, ◌∙◌, arith, append_assoc, inr, Vec}
 use Rattle.std.specs.Prelude.{replicate, All, slice_index_or}
 use Rattle.std.specs.List.{list_all}
 use Rattle.std.specs.declared.alloc.Global.{Global}
 use Rattle.std.proofs.lemmas.List.{take-replicate}
 use Rattle.std.proofs.lemmas.List.Elements.{All-take}
 use Rattle.codes3270.proofs.RoundTrips.{wcc_read_back}
-use Rattle.codes3270.specs.Size.{Shape, cells_in, model_2, most_columns}
+use Rattle.codes3270.specs.Size.{Shape, cells_in, most_columns}
 use Rattle.datastream.proofs.Written.{orders_written, orders_bytes-chars}
 use Rattle.datastream.specs.Grammar.{CommandParts, IsCommand, write}
 use Rattle.datastream.specs.Note.{quiet}

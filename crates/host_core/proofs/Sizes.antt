@@ -1,16 +1,15 @@
 -- What is believed has the size of the screen, and so has what is shown there.
-use Rattle.std.proofs.Common.{◌≡◌, ◌≢◌, ◌<◌, ◌≤◌, ◌-◌, ◌+◌, ◌*◌, ℕ, zero, suc, Bool, true, false, List, [], Option, Some, None, length, refl, ap, sym, subst, ◌∙◌, arith}
-use Rattle.std.specs.Prelude.{All, IfSome, slice_index_or}
-use Rattle.codes3270.specs.Size.{Shape, cells_in, most_cells, most_columns}
-use Rattle.datastream.specs.declared.command_code.CommandCode.TheVariants.{Write}
+use Rattle.std.proofs.Common.{◌≡◌, ◌<◌, ◌≤◌, ◌-◌, ◌*◌, ℕ, zero, suc, List, Option, Some, None, sym, subst, arith}
+use Rattle.std.specs.Prelude.{IfSome, slice_index_or}
+use Rattle.codes3270.specs.Size.{Shape, cells_in, most_cells}
 use Rattle.panels.specs.Panel.{PanelParts, Panels, AreLaidOut, IsAbove, IsLaidOut, shape_of}
-use Rattle.panels.specs.Size.{item_rows, message_start}
+use Rattle.panels.specs.Size.{message_start}
 use Rattle.panels.specs.declared.panel.Field.{Field}
-use Rattle.shadow.specs.Belief.{HasCell, IsOfSize, Shadow, cells_believed}
+use Rattle.shadow.specs.Belief.{IsOfSize, Shadow, cells_believed}
 use Rattle.host_core.proofs.Showing.{laid_out_at}
 use Rattle.host_core.specs.Application.{IsShape, panel_at}
 use Rattle.host_core.specs.Keeps.{BelievesTheSize}
-use Rattle.host_core.specs.Learning.{HasField, HaveFields}
+use Rattle.host_core.specs.Learning.{HaveFields}
 use Rattle.host_core.specs.Session.{Conn}
 use Rattle.host_core.specs.Sound.{IsShownOn}
 use Rattle.host_core.specs.declared.pending.Pending.{Pending as Unanswered}

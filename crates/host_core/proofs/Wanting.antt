@@ -4,7 +4,7 @@ use Rattle.datastream.specs.Wanted.{WantedScreen}
 use Rattle.panels.specs.Panel.{PanelParts, Panels}
 use Rattle.panels.specs.Screen.{Values, screen_of}
 use Rattle.panels.specs.declared.message.Message.{Message}
-use Rattle.host_core.specs.Application.{Application, application_of, panel_at}
+use Rattle.host_core.specs.Application.{application_of, panel_at}
 
 -- the screen of a panel of the set is the application's
 pub screen_asked : (set : Panels) (panel : ℕ) (shown : PanelParts) (values : Values) (message : Message) (keep : Bool) (wanted : WantedScreen)

@@ -1,17 +1,16 @@
 -- Questions and answers (our profile): an application decides on keys that a panel asks it about, and it learns what the operator sees.
-use Rattle.std.specs.Prelude.{◌==◌, ◌&&◌, not, ℕ, Bool, true, false, List, [], Option, Some, None, is_some, option_map, option_and_then, if◌then◌else◌}
+use Rattle.std.specs.Prelude.{◌==◌, ◌&&◌, not, ℕ, Bool, true, false, List, [], Option, Some, None, is_some, option_map, if◌then◌else◌}
 use Rattle.std.specs.List.{list_any}
 use Rattle.std.specs.Option.{option_map_or}
 use Rattle.codes3270.specs.declared.attention.Aid.{Aid}
 use Rattle.codes3270.specs.declared.attention.Aid.TheVariants.{NoAid}
-use Rattle.panels.specs.declared.message.Message.{Message}
 use Rattle.panels.specs.declared.message.Message.TheVariants.{Told}
 use Rattle.panels.specs.declared.panel.Field.{Field}
 use Rattle.panels.specs.Screen.{Values}
 use Rattle.panels.specs.Values.{value_of, with_values, without_fields}
 use Rattle.host_core.specs.Acts.{Act, Decision, Sent, decision_on, done, learned, may_act}
 use Rattle.host_core.specs.Application.{Application}
-use Rattle.host_core.specs.State.{Service, Host, service_at, session_at}
+use Rattle.host_core.specs.State.{Service}
 use Rattle.host_core.specs.Session.{Conn, agreed_lu, is_agreed, model_in}
 use Rattle.host_core.specs.declared.question.Answer.{Answer}
 use Rattle.host_core.specs.declared.question.Question.{Question}

@@ -1,4 +1,4 @@
-use Rattle.std.proofs.Common.{◌-◌, sym, arith}
+use Rattle.std.proofs.Common.{sym, arith}
 use Rattle.std.proofs.lemmas.List.{take_all}
 use Rattle.host_core.proofs.NoteBytes.{front_stored}
 use Rattle.host_core.proofs.noting.front_of.Goals as goal

@@ -1,4 +1,4 @@
-use Rattle.std.proofs.Common.{length, subst, sym}
+use Rattle.std.proofs.Common.{subst, sym}
 use Rattle.host_core.specs.Sound.{IsShown, HoldsJust}
 use Rattle.host_core.specs.State.{Host, Connection, lu_of}
 use Rattle.host_core.proofs.Hosts.{changed_sound, gave_none, gave_others}

@@ -1,4 +1,4 @@
-use Rattle.std.proofs.Common.{ap, sym, subst, ◌∙◌, arith}
+use Rattle.std.proofs.Common.{ap, sym, subst, ◌∙◌}
 use Rattle.host_core.specs.Sound.{IsSound}
 use Rattle.host_core.specs.State.{Host, Sessions, lu_of}
 use Rattle.host_core.proofs.Hosts.{changed, changed_sound, counted_sound, held_here, connection_got, others_stay, is_free}

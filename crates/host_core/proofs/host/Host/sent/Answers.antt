@@ -1,4 +1,4 @@
-use Rattle.std.proofs.Common.{ap, length, subst, sym}
+use Rattle.std.proofs.Common.{ap, subst, sym}
 use Rattle.host_core.specs.Sound.{IsShown}
 use Rattle.host_core.specs.State.{Host, Connection, lu_of}
 use Rattle.host_core.proofs.Hosts.{changed_sound, held_here, connection_got, others_stay, shown_here}

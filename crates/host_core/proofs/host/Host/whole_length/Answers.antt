@@ -1,6 +1,4 @@
-use Rattle.std.proofs.Common.{length, subst}
-use Rattle.host_core.specs.Sound.{IsShown}
-use Rattle.host_core.specs.State.{Host, Connection}
+use Rattle.host_core.specs.State.{Host}
 use Rattle.host_core.proofs.Hosts.{connection_got}
 use Rattle.host_core.proofs.host.Host.whole_length.Goals as goal
 

@@ -1,6 +1,6 @@
 use Rattle.std.proofs.Common.{◌≡◌, ◌++◌, ℕ, List, ap, arith, ◌∙◌, length, refl, ◌≤◌}
 use Rattle.std.specs.Vec.{vec_capacity}
-use Rattle.codes3270.specs.Size.{Shape, cells_in, model_2, most_cells}
+use Rattle.codes3270.specs.Size.{cells_in, most_cells}
 use Rattle.shadow.specs.Belief.{Shadow}
 use Rattle.shadow.specs.Paint.{paint_bytes}
 use Rattle.telnet_wire.proofs.Lengths.{ok_with_room}

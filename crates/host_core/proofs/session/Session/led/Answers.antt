@@ -1,7 +1,3 @@
-use Rattle.std.proofs.Common.{◌≡◌, ◌<◌, ℕ, Option, Some, List, length, ap, refl, sym, subst}
-use Rattle.std.specs.Prelude.{IfSome}
-use Rattle.host_core.specs.Choices.{CanBeShown}
-use Rattle.host_core.specs.declared.acting.Shown.{Shown}
 use Rattle.host_core.proofs.Doings.{fresh_can_be_shown}
 use Rattle.host_core.proofs.session.Session.led.Goals as goal
 

@@ -1,10 +1,9 @@
 use Rattle.std.proofs.Common.{◌≡◌, ◌++◌, ◌∷◌, [], ℕ, List, ap, refl, arith, subst, drop, inr, ◌∙◌, length, sym, ◌≤◌}
-use Rattle.host_core.specs.Session.{Conn, model_in}
 use Rattle.host_core.specs.declared.acting.Shown.{Shown}
 use Rattle.datastream.specs.Wanted.{WantedScreen}
 use Rattle.panels.specs.Panel.{PanelParts, Panels, shape_of}
 use Rattle.std.specs.Vec.{vec_capacity}
-use Rattle.codes3270.specs.Size.{Shape, cells_in, model_2, most_cells}
+use Rattle.codes3270.specs.Size.{Shape, cells_in, most_cells}
 use Rattle.shadow.specs.Paint.{paint_bytes}
 use Rattle.telnet_wire.proofs.Lengths.{ok_with_room}
 use Rattle.telnet_wire.specs.Items.{Record, sent_bytes}

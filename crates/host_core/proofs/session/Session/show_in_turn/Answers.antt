@@ -1,7 +1,7 @@
 use Rattle.std.proofs.Common.{ap, sym, ◌∙◌}
 use Rattle.host_core.specs.Application.{application_of}
 use Rattle.host_core.specs.Keeps.{decision_of}
-use Rattle.host_core.proofs.Doings.{shows_once, shows_without_room, shows_without_values, shown_something}
+use Rattle.host_core.proofs.Doings.{shows_once, shows_without_room, shows_without_values}
 use Rattle.host_core.proofs.session.Session.show_in_turn.Goals as goal
 
 pub returns-then-is_err-clause-acted : goal.returns-then-is_err-clause-acted

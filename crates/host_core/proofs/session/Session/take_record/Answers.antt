@@ -1,5 +1,4 @@
-use Rattle.std.proofs.Common.{refl, subst, ◌∙◌, ap}
-use Rattle.host_core.specs.Session.{Conn}
+use Rattle.std.proofs.Common.{refl, subst, ◌∙◌}
 use Rattle.codes3270.specs.Size.{Shape}
 use Rattle.datastream.specs.InboundText.{IsNoInbound}
 use Rattle.host_core.specs.Items.{TakesRecord}
