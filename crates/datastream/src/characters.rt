@@ -140,5 +140,10 @@ pub(crate) fn count_characters(text: &[u8]) -> usize
     ensures value { result ≡ prefix_len is_storable text.now }
     ensures bound { result ≤ length text.now }
 {
-    text.len() - behind_characters(text).len()
+    // One character has its own case here, too, so that callers need not test for it again.
+    if has_one_character(text) {
+        1
+    } else {
+        text.len() - behind_run(text).len()
+    }
 }

@@ -39,23 +39,18 @@ fn is_start(before: Cell, cell: Cell) -> bool
 }
 
 /// The first start behind a cell, round the end; its own is the last. 0 if there is none.
+#[tactic(auto, using(crate::proofs::Homes::start_found, crate::proofs::Homes::home_round))]
 pub(crate) fn next_start(screen: &Screen, at: Addr) -> Addr
     requires { at < cells_in screen.now.size }
     ensures value { result ≡ start_behind screen.now.screen.cells at }
     ensures in_range { result < cells_in screen.now.size }
 {
-    let size = screen.size();
-    let mut place = at;
-    let mut before = screen.cell(at);
-    for _step in 0..size.cells() {
-        place = place.next(size);
-        let cell = screen.cell(place);
-        if is_start(before, cell) {
-            return place;
-        }
-        before = cell;
+    // For the contract: the screen has a cell for each address.
+    let _size = screen.size();
+    match screen.start_behind(at) {
+        Some(start) => start,
+        None => screen.home(),
     }
-    Addr::first()
 }
 
 /// The first start before a cell, round the end; its own is the last. 0 if there is none.

@@ -5,6 +5,7 @@ use Rattle.std.specs.List.{prefix_len}
 use Rattle.std.proofs.lemmas.Bool.{ne_eqb, eq-eqb}
 use Rattle.std.proofs.lemmas.Bool.Decides.{nat_tests}
 use Rattle.std.proofs.lemmas.List.{get_or-drop, get_or_default, length-drop, length-take-le, take-map, drop-map, map-append, map-set}
+use Rattle.codes3270.specs.Attribute.{attr_of}
 use Rattle.codes3270.specs.declared.attribute.Cell.{Cell}
 use Rattle.codes3270.specs.declared.attribute.Cell.TheVariants.{Char, Attr}
 use Rattle.codes3270.proofs.RoundTrips.{attr_read_back}
@@ -82,6 +83,17 @@ module _ (attributes codes : List ℕ) (now : List Cell) (view : kept (cell_by a
 
   pub character_read : (at : ℕ) (d : Cell) → at < length codes → is_char (get_or now at d) ≡ not (has_bit attributes at)
   character_read at d inside = ap is_char (cell_read at d inside) ∙ char_bit (has_bit attributes at) (get_or codes at 0)
+
+  -- an attribute
+  pub attribute_bit : (at : ℕ) → at < length codes → is_char (get_or now at (Char 0)) ≡ false → has_bit attributes at ≡ true
+  attribute_bit at inside holds = by_bit (has_bit attributes at) (sym (character_read at (Char 0) inside) ∙ holds)
+    where
+      by_bit : (bit : Bool) → not bit ≡ false → bit ≡ true
+      by_bit true is = refl
+      by_bit false is = cc
+
+  pub attribute_read : (at : ℕ) → at < length codes → is_char (get_or now at (Char 0)) ≡ false → get_or now at (Char 0) ≡ Attr (attr_of (get_or codes at 0))
+  attribute_read at inside holds = cell_read at (Char 0) inside ∙ ap (λ (bit : Bool). cell_of bit (get_or codes at 0)) (attribute_bit at inside holds)
 
   -- the first attribute from an address on
   pub first_read : (n from to : ℕ) → length codes ≡ n → from ≤ to → to ≤ n → ((at : ℕ) → from ≤ at → at < to → has_bit attributes at ≡ false) → (to < n → has_bit attributes to ≡ true)

@@ -6,8 +6,14 @@ pub mod FieldLists
 pub mod Sent
 pub mod Sized
 pub mod KeptCells
+pub mod LowestBit
 pub mod Governing
 pub mod Steps
 pub mod Changes
 pub mod Printing
 pub mod CellRuns
+pub mod AttributePlaces
+pub mod FieldLengths
+pub mod Nearest
+pub mod WordPlaces
+pub mod IndexedStarts

@@ -1,6 +1,7 @@
 pub mod Sizes
 pub mod Applied
 pub mod Places
+pub mod Index
 pub mod Fields
 pub mod Glyph
 pub mod Answering

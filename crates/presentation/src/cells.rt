@@ -1,11 +1,13 @@
 //! What is read off cells, and what is changed in them.
-ghost use Rattle.std.specs.Prelude.{◌≡◌, ◌<◌, ◌≤◌, ◌-◌, false, drop, map, zip, length, position, IfSome, if◌then◌else◌};
+ghost use Rattle.std.specs.Prelude.{◌≡◌, ◌<◌, ◌≤◌, ◌+◌, ◌-◌, ℕ, true, false, drop, map, zip, length, position, slice_index_or, IfNone, IfSome, if◌then◌else◌};
 ghost use Rattle.codes3270.specs.Size.{cells_in, most_cells};
 ghost use Rattle.codes3270.specs.declared.attribute.Cell.TheVariants.{Char};
 ghost use Rattle.std.specs.List.{list_all, prefix_len};
 ghost use Rattle.datastream.specs.Span.{distance};
-ghost use Rattle.datastream.specs.Screen.{attribute_over, field_text, is_char_at, last_attribute, is_char, ring, protects};
+ghost use Rattle.datastream.specs.Screen.{attribute_over, last_attribute, is_char, is_char_at, ring, protects};
 ghost use Rattle.datastream.specs.Meaning.{filled, opened, erased, unmodified, modified, open_unmodified, tab_stop, home, is_start};
+ghost use Rattle.presentation.specs.Index.{HaveNoStart, IsFirstWithStart};
+ghost use Rattle.presentation.specs.Places.{attribute_places, starts_at};
 
 use crate::screen_cells::ScreenCells;
 use codes3270::{Addr, Attr, Cell, Size};
@@ -241,18 +243,54 @@ fn is_start_behind(before: Cell, cell: Cell) -> bool
     before.is_unprotected_attribute() && cell.is_character()
 }
 
-/// How many cells the field has whose attribute is at an address.
-pub(crate) fn field_length(cells: &ScreenCells, attr: usize) -> usize
-    requires placed { attr < length cells.now }
-    requires attribute { is_char_at cells.now attr ≡ false }
-    ensures length { result ≡ length (field_text cells.now attr) }
-    ensures few { result ≤ most_cells }
+/// Whether the first cell is a start.
+pub(crate) fn is_start_first(cells: &ScreenCells) -> bool
+    ensures start { result ≡ is_start (slice_index_or cells.now (length cells.now - 1) (Char 0), slice_index_or cells.now 0 (Char 0)) }
+    ensures some { 0 < length cells.now }
+{
+    let before = cells.get(cells.len() - 1);
+    let cell = cells.get(0);
+    is_start_behind(before, cell)
+}
+
+/// The number of the first attribute from one on, by the list of attributes, that has a start behind it, up to the last cell.
+pub(crate) fn first_with_start(
+    cells: &ScreenCells,
+    attributes: &[u16],
+    from: usize,
+) -> Option<usize>
+    requires { attributes.now ≡ attribute_places cells.now 0 }
+    ensures none { IfNone result (HaveNoStart cells.now from (length attributes.now)) }
+    ensures first { IfSome result (λ index. IsFirstWithStart cells.now from index) }
+{
+    for index in from..attributes.len() {
+        if has_start_behind(cells, place_in(attributes, index)) {
+            return Some(index);
+        }
+    }
+    None
+}
+
+#[inline(always)]
+fn place_in(attributes: &[u16], index: usize) -> usize
+    requires { index < length attributes.now }
+    ensures { result ≡ slice_index_or attributes.now index 0 }
+{
+    usize::from(attributes[index])
+}
+
+/// Whether the cell behind an attribute is a start; behind the last cell is none.
+#[inline(always)]
+fn has_start_behind(cells: &ScreenCells, at: usize) -> bool
+    requires placed { at < length cells.now }
+    requires attribute { is_char_at cells.now at ≡ false }
+    ensures within { result ≡ true → at + 1 < length cells.now }
+    ensures start { result ≡ true → starts_at cells.now (at + 1) ≡ true }
+    ensures none { result ≡ false → at + 1 < length cells.now → starts_at cells.now (at + 1) ≡ false }
 {
     let count = cells.len();
-    let next = cells.attribute_from(attr + 1);
-    if next < count {
-        next - attr - 1
-    } else {
-        count - attr - 1 + cells.attribute_from(0)
+    if cells.attribute(at).protected || at + 1 == count {
+        return false;
     }
+    cells.get(at + 1).is_character()
 }

@@ -1,13 +1,15 @@
 //! The fields of a screen.
-ghost use Rattle.std.specs.Prelude.{◌≡◌, ◌<◌, length, slice_index_or, false, IsTrue, IfSome, IfNone};
-ghost use Rattle.codes3270.specs.Size.{cells_in};
+ghost use Rattle.std.specs.Prelude.{◌≡◌, ◌<◌, ◌≤◌, ◌+◌, ◌%◌, [], length, slice_index_or, false, IsTrue, IfSome, IfNone};
+ghost use Rattle.codes3270.specs.Size.{cells_in, most_cells};
 ghost use Rattle.std.specs.List.{list_all};
 ghost use Rattle.codes3270.specs.declared.attribute.Cell.TheVariants.{Char};
-ghost use Rattle.datastream.specs.Screen.{field_text, is_char_at, is_char, attribute_in, attribute_over, IsGoverned};
+ghost use Rattle.datastream.specs.Screen.{field_text, is_char, attribute_in, attribute_over, IsGoverned};
 ghost use Rattle.presentation.specs.Fields.{field_of, listed_fields};
+ghost use Rattle.presentation.specs.Index.{AreAscending, IsNearest, place_of};
+ghost use Rattle.presentation.specs.Places.{attribute_places};
 
 use crate::screen_cells::ScreenCells;
-use crate::{Screen, cells};
+use crate::{Screen, cells, index};
 use codes3270::{Addr, Attr};
 use std::marker::Model;
 
@@ -20,23 +22,22 @@ pub struct Field {
     pub length: u16,
 }
 
-/// The fields of a screen that are left, by the addresses of their attributes: those from `next` on. Contracts see their list.
+/// The fields of a screen that are left, by the addresses of their attributes. Contracts see their list.
 #[derive(Drop)]
 pub struct Fields<'a> {
     screen: &'a Screen,
+    /// The number of the first of them in the index of attributes.
     next: usize,
 }
 
 impl<'a> Model for Fields<'a> {
-    ghost use Rattle.std.specs.Prelude.{◌≤◌, List, length};
+    ghost use Rattle.std.specs.Prelude.{List, drop};
     ghost use Rattle.presentation.specs.Fields.{fields_from};
     ghost use Rattle.presentation.specs.declared.fields.Field.{Field};
 
     ghost Value = { List Field };
 
-    ghost view = { λ fields. fields_from fields.screen.now.screen.cells fields.next };
-
-    ghost invariant = { λ fields. fields.next ≤ length fields.screen.now.screen.cells };
+    ghost view = { λ fields. drop fields.next (fields_from fields.screen.now.screen.cells 0) };
 }
 
 impl<'a> Iterator for Fields<'a> {
@@ -49,39 +50,107 @@ impl<'a> Iterator for Fields<'a> {
     ghost remaining = { item_count (λ fields. fields) };
 
     fn next(&mut self) -> Option<Field> {
-        let cells = self.screen.cells();
-        let attr = cells.attribute_from(self.next);
-        if attr < cells.len() {
-            self.next = attr + 1;
-            Some(self.screen.field_of(attr))
+        let screen = self.screen;
+        if self.next < screen.field_count() {
+            let field = screen.field_number(self.next);
+            self.next += 1;
+            Some(field)
         } else {
             None
         }
     }
 }
 
+/// The number behind one of some numbers; 0 follows the last.
+fn number_behind(number: usize, count: usize) -> usize
+    requires { number < count }
+    ensures { result ≡ (number + 1) % count }
+{
+    if number + 1 < count { number + 1 } else { 0 }
+}
+
 impl Screen {
     /// The cells.
-    fn cells(&self) -> &ScreenCells
+    pub(crate) fn cells(&self) -> &ScreenCells
         ensures cells { result.now ≡ self.now.screen.cells }
         ensures count { length result.now ≡ cells_in self.now.size }
     {
         self.buffer.cells()
     }
 
-    /// The field whose attribute is at an address.
-    fn field_of(&self, attr: usize) -> Field
-        requires placed { attr < length self.now.screen.cells }
-        requires attribute { is_char_at self.now.screen.cells attr ≡ false }
-        ensures { result ≡ field_of self.now.screen.cells attr }
+    /// The addresses of the attributes, ascending.
+    #[inline(always)]
+    pub(crate) fn places(&self) -> &[u16]
+        ensures value { result.now ≡ attribute_places self.now.screen.cells 0 }
+        ensures ascending { AreAscending (cells_in self.now.size) result.now }
+        ensures few { length result.now ≤ most_cells }
+        ensures size { length self.now.screen.cells ≡ cells_in self.now.size }
     {
-        let cells = self.cells();
-        // For the contract: two bytes hold each address.
-        let _count = cells.len();
+        let buffer = &self.buffer;
+        // For the contract: the cells are those of the size.
+        let _cells = buffer.cells();
+        self.attributes.places()
+    }
+
+    /// How many fields there are.
+    fn field_count(&self) -> usize
+        ensures count { result ≡ length (attribute_places self.now.screen.cells 0) }
+        ensures few { result ≤ most_cells }
+        ensures size { length self.now.screen.cells ≡ cells_in self.now.size }
+    {
+        self.places().len()
+    }
+
+    /// Where the attribute of a field is, by the field's number in the list of fields, from 0 on.
+    #[inline(always)]
+    fn field_place(&self, number: usize) -> Addr
+        requires { number < length (attribute_places self.now.screen.cells 0) }
+        ensures place { result ≡ place_of self.now.screen.cells number }
+        ensures in_range { result < cells_in self.now.size }
+    {
+        let place = self.places()[number];
+        Addr::new(place, self.size()).unwrap_or(Addr::first())
+    }
+
+    /// The cell behind the attribute of a field that isn't in the last cell, by the field's number.
+    #[inline(always)]
+    pub(crate) fn field_start(&self, number: usize) -> Addr
+        requires listed { number < length (attribute_places self.now.screen.cells 0) }
+        requires within { place_of self.now.screen.cells number + 1 < cells_in self.now.size }
+        ensures start { result ≡ place_of self.now.screen.cells number + 1 }
+        ensures in_range { result < cells_in self.now.size }
+    {
+        let size = self.size();
+        // For the contract: the sum has room.
+        let _cells = size.cells();
+        let place = self.places()[number];
+        Addr::new(place + 1, size).unwrap_or(Addr::first())
+    }
+
+    /// A field by its number.
+    #[inline(always)]
+    fn field_number(&self, number: usize) -> Field
+        requires { number < length (attribute_places self.now.screen.cells 0) }
+        ensures { result ≡ field_of self.now.screen.cells (place_of self.now.screen.cells number) }
+    {
+        let count = self.field_count();
+        let attr = self.field_place(number);
+        let next = self.field_place(number_behind(number, count));
         Field {
-            attr: Addr::first().forward(attr as u16, self.size()),
-            length: cells::field_length(cells, attr) as u16,
+            attr,
+            length: cells::distance_to(attr, next, self.size()) - 1,
         }
+    }
+
+    /// The number of the field that a cell lies in, or whose attribute it holds; None on an unformatted screen.
+    #[inline(always)]
+    fn field_number_at(&self, at: Addr) -> Option<usize>
+        requires { at < cells_in self.now.size }
+        ensures none { IfNone result (attribute_places self.now.screen.cells 0 ≡ []) }
+        ensures nearest { IfSome result (λ number. IsNearest (cells_in self.now.size) (attribute_places self.now.screen.cells 0) at number) }
+        ensures size { length self.now.screen.cells ≡ cells_in self.now.size }
+    {
+        index::nearest_before(self.places(), at, self.size())
     }
 
     /// The attribute that governs a cell: its own, or the nearest before it, round the end; None on an unformatted screen.
@@ -116,7 +185,7 @@ impl Screen {
         // Its cells run to the next attribute, round the end.
         ensures length { IfSome result (λ field. field.length ≡ length (field_text self.now.screen.cells field.attr)) }
     {
-        let attr = self.cells().governing(at.get() as usize)?;
-        Some(self.field_of(attr))
+        let number = self.field_number_at(at)?;
+        Some(self.field_number(number))
     }
 }

@@ -16,6 +16,7 @@ mod buffer;
 mod cells;
 mod fields;
 mod glyph;
+mod index;
 mod read;
 mod screen;
 mod screen_cells;

@@ -164,6 +164,14 @@ fn put_field_if_modified(
     }
 }
 
+/// The first attribute, whose field is listed first, or the number of cells.
+fn first_listed(cells: &ScreenCells) -> usize
+    ensures place { result ≡ 0 + prefix_len is_char (drop 0 cells.now) }
+    ensures within { result ≤ length cells.now }
+{
+    cells.attribute_from(0)
+}
+
 /// The modified fields, by the addresses of their attributes.
 fn put_modified_fields(out: &mut Vec<u8>, cells: &ScreenCells, size: Size) -> Result<(), Memory>
     requires { length cells.now ≡ cells_in size }
@@ -171,7 +179,7 @@ fn put_modified_fields(out: &mut Vec<u8>, cells: &ScreenCells, size: Size) -> Re
         AppendsSome out.old out.new result (flat_map (modified_field cells.now) places) }
 {
     let count = cells.len();
-    let mut attr = cells.attribute_from(0);
+    let mut attr = first_listed(cells);
     while attr < count {
         let next = cells.attribute_from(attr + 1);
         put_field_if_modified(out, cells, attr, next, size)?;

@@ -1,5 +1,5 @@
 //! The screen, and the changes to it that keys are made of.
-ghost use Rattle.std.specs.Prelude.{◌≡◌, ◌<◌, false, true, length, slice_get, slice_index_or, slice_set, Some, IsTrue};
+ghost use Rattle.std.specs.Prelude.{◌≡◌, ◌<◌, ℕ, IfNone, IfSome, false, true, length, slice_get, slice_index_or, slice_set, Some, IsTrue};
 ghost use Rattle.codes3270.specs.Size.{cells_in};
 ghost use Rattle.codes3270.specs.Storable.{is_storable};
 ghost use Rattle.codes3270.specs.declared.attribute.Cell.TheVariants.{Char};
@@ -8,10 +8,12 @@ ghost use Rattle.datastream.specs.Screen.{is_char_at};
 ghost use Rattle.codes3270.specs.Aid.{IsRealAid};
 ghost use Rattle.datastream.specs.InboundFields.{IsSendable, IsStorableCell};
 ghost use Rattle.presentation.specs.Applied.{asked_by};
+ghost use Rattle.presentation.specs.Places.{IsFirstStart, starts_at};
 ghost use Rattle.presentation.specs.Sizes.{HasSize, IsReadFor, applied, blank_of};
 
 use crate::buffer::{Buffer, with_real_key};
-use crate::{Applied, cells};
+use crate::index::AttributeIndex;
+use crate::{Applied, cells, index};
 use codes3270::{Addr, Aid, Cell, Model, Size};
 use datastream::Command;
 use std::marker;
@@ -24,14 +26,20 @@ use std::marker;
 #[derive(Clone, Debug, Drop)]
 pub struct Screen {
     pub(crate) buffer: Buffer,
+    /// The addresses of its attributes, ascending.
+    pub(crate) attributes: AttributeIndex,
 }
 
 impl marker::Model for Screen {
+    ghost use Rattle.std.specs.Prelude.{◌≡◌};
+    ghost use Rattle.presentation.specs.Places.{attribute_places};
     ghost use Rattle.presentation.specs.Sizes.{SizedScreen};
 
     ghost Value = { SizedScreen };
 
     ghost view = { λ s. s.buffer };
+
+    ghost invariant = { λ s. s.attributes ≡ attribute_places s.buffer.screen.cells 0 };
 }
 
 impl Screen {
@@ -42,6 +50,7 @@ impl Screen {
     {
         Screen {
             buffer: Buffer::blank(model),
+            attributes: AttributeIndex::empty(),
         }
     }
 
@@ -124,8 +133,26 @@ impl Screen {
         ensures value { result ≡ home self.now.screen.cells }
         ensures in_range { result < cells_in self.now.size }
     {
-        let buffer = &self.buffer;
-        cells::home_of(buffer.cells(), buffer.size)
+        if cells::is_start_first(self.cells()) {
+            return Addr::first();
+        }
+        match self.start_behind(Addr::first()) {
+            Some(start) => start,
+            None => Addr::first(),
+        }
+    }
+
+    /// The first place to type at behind a cell, up to the last cell.
+    pub fn start_behind(&self, at: Addr) -> Option<Addr>
+        requires { at < cells_in self.now.size }
+        ensures none { IfNone result ((place : ℕ) → at < place → place < length self.now.screen.cells → starts_at self.now.screen.cells place ≡ false) }
+        ensures first { IfSome result (λ start. IsFirstStart self.now.screen.cells at start) }
+        ensures in_range { IfSome result (λ start. start < cells_in self.now.size) }
+    {
+        let attributes = self.places();
+        let from = index::first_from(attributes, at, self.size());
+        let number = cells::first_with_start(self.cells(), attributes, from)?;
+        Some(self.field_start(number))
     }
 
     /// Moves the cursor.
@@ -150,6 +177,7 @@ impl Screen {
         ensures { self.new ≡ record self.old { screen = cleared (cells_in self.old.size) self.old.screen } }
     {
         self.buffer.clear();
+        self.attributes.clear();
     }
 
     /// What the Erase Input key does to the screen: the characters of unprotected fields null, MDT off in their attributes,
@@ -166,11 +194,17 @@ impl Screen {
     ///
     /// The command must have been read for this screen, as by `read_command(bytes, screen.size(),
     /// screen.model().alternate())`.
+    #[tactic(auto, using(crate::proofs::AttributePlaces::attributes_left))]
     pub fn apply(&mut self, command: &Command<'_>) -> Applied
         requires { IsReadFor self.old command.now }
         ensures screen { self.new ≡ applied command.now self.old }
         ensures applied { result ≡ asked_by command.now }
     {
-        self.buffer.apply(command)
+        let applied = self.buffer.apply(command);
+        // Any other command leaves each attribute in its cell.
+        if command.code().has_orders() {
+            self.attributes.rebuild(self.buffer.cells());
+        }
+        applied
     }
 }

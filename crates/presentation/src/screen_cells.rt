@@ -1,15 +1,20 @@
 //! The cells of a screen.
-ghost use Rattle.std.specs.Prelude.{◌≡◌, ◌<◌, ◌≤◌, ◌+◌, true, IfNone, IfSome, IsTrue, length, drop, map, replicate, slice_index_or, slice_set};
+ghost use Rattle.std.specs.Prelude.{◌≡◌, ◌<◌, ◌≤◌, ◌+◌, ◌*◌, ℕ, true, false, not, nat_lt, IfNone, IfSome, IsTrue, length, drop, map, replicate, slice_index_or, slice_set};
+ghost use Rattle.std.specs.Int.{bit_at};
 ghost use Rattle.std.specs.List.{list_all, prefix_len};
 ghost use Rattle.codes3270.specs.Size.{cells_in, most_cells};
-ghost use Rattle.codes3270.specs.declared.attribute.Cell.TheVariants.{Char};
+ghost use Rattle.codes3270.specs.declared.attribute.Cell.TheVariants.{Char, Attr as Held};
+ghost use Rattle.datastream.specs.CellBits.{bit_of};
 ghost use Rattle.datastream.specs.CellCodes.{code_in};
 ghost use Rattle.datastream.specs.Screen.{IsGoverned, is_char, is_char_at};
 ghost use Rattle.presentation.specs.Runs.{placed};
 
-use codes3270::{Cell, Size};
+use codes3270::{Attr, Cell, Size};
 use datastream::{PackedCell, PackedCells};
 use std::marker::Model;
+
+/// How many cells' bits a word has.
+pub(crate) const BITS: usize = 64;
 
 /// The cells of a screen of any size, kept as a byte and a bit each. Contracts see their list.
 #[derive(Clone, Debug, Drop)]
@@ -75,6 +80,16 @@ impl ScreenCells {
         self.codes()[at]
     }
 
+    /// The attribute that a cell holds.
+    #[inline(always)]
+    pub(crate) fn attribute(&self, at: usize) -> Attr
+        requires placed { at < length self.now }
+        requires attribute { is_char_at self.now at ≡ false }
+        ensures { slice_index_or self.now at (Char 0) ≡ Held result }
+    {
+        self.packed.attribute_at(at)
+    }
+
     /// Stores a cell.
     #[inline(always)]
     pub(crate) fn set(&mut self, at: usize, cell: Cell)
@@ -110,6 +125,25 @@ impl ScreenCells {
         self.packed.attribute_from(from)
     }
 
+    /// A bit for each of 64 cells, set where an attribute is.
+    #[inline(always)]
+    pub(crate) fn attribute_word(&self, word: usize) -> u64
+        requires { 64 * word + 64 ≤ length self.now }
+        ensures { (place : ℕ) → place < 64 → bit_at result place ≡ bit_of (not (is_char_at self.now (64 * word + place))) }
+    {
+        self.packed.attribute_word(word)
+    }
+
+    /// The same of the last cells, at most 64. The bits behind the last cell are clear.
+    pub(crate) fn last_attribute_word(&self, word: usize) -> u64
+        requires some { 64 * word < length self.now }
+        requires last { length self.now ≤ 64 * word + 64 }
+        ensures { (place : ℕ) → place < 64 → bit_at result place ≡ bit_of (not (is_char_at self.now (64 * word + place))) }
+    {
+        let left = self.packed.len() - BITS * word;
+        self.packed.attribute_word(word) & ones_below(left)
+    }
+
     /// The attribute that governs a cell: the last up to it, itself included, or else the last of all. None if there is none.
     pub(crate) fn governing(&self, at: usize) -> Option<usize>
         requires { at < length self.now }
@@ -122,4 +156,13 @@ impl ScreenCells {
             .attribute_to(at)
             .or(self.packed.attribute_to(last))
     }
+}
+
+/// A word whose bits below a place are set, at least one.
+fn ones_below(place: usize) -> u64
+    requires some { 0 < place }
+    requires few { place ≤ 64 }
+    ensures { (other : ℕ) → other < 64 → bit_at result other ≡ bit_of (nat_lt other place) }
+{
+    u64::MAX >> (BITS - place)
 }

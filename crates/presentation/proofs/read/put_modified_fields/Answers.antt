@@ -13,14 +13,14 @@ use Rattle.presentation.proofs.read.put_modified_fields.Goals as goal
 pub loop-attr-init : goal.loop-attr-init
 loop-attr-init c =
     let cells : List Cell = c.args.cells.now in
-    let found = c.attribute_from-attr.ensures in
+    let found = c.first_listed-attr.ensures in
     record {
       so_far =
           subst (λ (places : List ℕ). IsAppending c.args.out.now c.args.out.now (flat_map (modified_field cells) places) (flat_map (modified_field cells) (places_from is_modified 0 cells)))
-          (sym (places_passed is_modified (λ code. refl) cells 0 c.attribute_from-attr.result found.place found.within))
+          (sym (places_passed is_modified (λ code. refl) cells 0 c.first_listed-attr.result found.place found.within))
           (appending_from c.args.out.now (flat_map (modified_field cells) (places_from is_modified 0 cells)));
       within = found.within;
-      stands = λ below. attribute_stands cells 0 c.attribute_from-attr.result found.place below;
+      stands = λ below. attribute_stands cells 0 c.first_listed-attr.result found.place below;
     }
 
 pub returns-in_err-put_field_if_modified : goal.returns-in_err-put_field_if_modified
