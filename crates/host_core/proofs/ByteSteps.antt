@@ -23,7 +23,7 @@ use Rattle.host_core.specs.Sound.{HoldsJust}
 use Rattle.host_core.specs.Session.{Conn}
 use Rattle.host_core.specs.State.{Service}
 use Rattle.host_core.specs.Takes.{HostStep, freed_if}
-use Rattle.host_core.specs.declared.rejection.Rejection.{Rejection}
+use Rattle.host_core.specs.Reports.{Reports}
 
 -- ---- the pool
 
@@ -52,20 +52,20 @@ pub left_running : (closes : Option Cause) (held after : Held) (byte : ℕ) → 
 left_running None held after byte running takes = still_running record_limit held after byte running takes
 left_running (Some cause) held after byte running takes = tt
 
-pub byte_breaks : (number : ℕ) (pool left : List Entry) (held after : Held) (conn : Conn) (out : Vec ℕ Global) (rejections : List Rejection) (byte : ℕ) (fault : WireFault)
+pub byte_breaks : (number : ℕ) (pool left : List Entry) (held after : Held) (conn : Conn) (out : Vec ℕ Global) (reports : Reports) (byte : ℕ) (fault : WireFault)
     → IsRunning held → Refuses held byte fault → left ≡ given_back number pool
-    → TakesByte number (counter_of pool held conn None out rejections) byte (counter_of left after conn (Some Wire) out rejections)
-byte_breaks number pool left held after conn out rejections byte fault running refused back =
+    → TakesByte number (counter_of pool held conn None out reports) byte (counter_of left after conn (Some Wire) out reports)
+byte_breaks number pool left held after conn out reports byte fault running refused back =
     TakesByte.breaks held.rest conn fault refl (goes_wrong record_limit held byte fault running refused)
-    (ap (λ (p : List Entry). counter_of p after conn (Some Wire) out rejections) back)
+    (ap (λ (p : List Entry). counter_of p after conn (Some Wire) out reports) back)
 
-pub byte_goes_on : (number : ℕ) (pool : List Entry) (held after : Held) (conn : Conn) (out : Vec ℕ Global) (rejections : List Rejection) (byte : ℕ)
+pub byte_goes_on : (number : ℕ) (pool : List Entry) (held after : Held) (conn : Conn) (out : Vec ℕ Global) (reports : Reports) (byte : ℕ)
     → IsRunning held → Takes held byte after → More ≡ step_of after.ready
-    → TakesByte number (counter_of pool held conn None out rejections) byte (counter_of pool after conn None out rejections)
-byte_goes_on number pool held after conn out rejections byte running takes more =
+    → TakesByte number (counter_of pool held conn None out reports) byte (counter_of pool after conn None out reports)
+byte_goes_on number pool held after conn out reports byte running takes more =
     TakesByte.goes_on held.rest after.rest conn refl (delivers_none record_limit held after byte running takes more) refl
 
-pub byte_completes : (number : ℕ) (pool mid left : List Entry) (held after : Held) (old new : Conn) (before out : Vec ℕ Global) (kept keeps : List Rejection) (byte : ℕ) (item : WireItem) (closes : Option Cause)
+pub byte_completes : (number : ℕ) (pool mid left : List Entry) (held after : Held) (old new : Conn) (before out : Vec ℕ Global) (kept keeps : Reports) (byte : ℕ) (item : WireItem) (closes : Option Cause)
     → IsRunning held → Takes held byte after → after.ready ≡ Some item → ItemTaken number pool old item before out closes mid new kept keeps → left ≡ freed_if number closes mid
     → TakesByte number (counter_of pool held old None before kept) byte (counter_of left after new closes out keeps)
 byte_completes number pool mid left held after old new before out kept keeps byte item closes running takes ready taken freed =
@@ -73,10 +73,10 @@ byte_completes number pool mid left held after old new before out kept keeps byt
     TakesByte.completes held.rest after.rest old item step refl
     (delivers_item record_limit held after byte item running takes ready) taken.takes
     (ap (λ (p : List Entry). counter_of p after new closes out keeps) (freed ∙ ap (freed_if number closes) taken.pool_is)
-    ∙ ap (λ (c : Option Cause). record { pool = freed_if number c (granted_if number step.grants pool); connection = record { service = service_after after.rest new c; out = out.items; rejections = keeps } }) taken.ends
-    ∙ ap (λ (conn : Conn). record { pool = freed_if number step.closes (granted_if number step.grants pool); connection = record { service = service_after after.rest conn step.closes; out = out.items; rejections = keeps } }) taken.conn
-    ∙ ap (λ (bytes : List ℕ). record { pool = freed_if number step.closes (granted_if number step.grants pool); connection = record { service = service_after after.rest step.conn step.closes; out = bytes; rejections = keeps } }) taken.sent
-    ∙ ap (λ (rejections : List Rejection). record { pool = freed_if number step.closes (granted_if number step.grants pool); connection = record { service = service_after after.rest step.conn step.closes; out = before.items ++ sent_bytes (map item_sent step.sends); rejections = rejections } }) taken.rejections)
+    ∙ ap (λ (c : Option Cause). record { pool = freed_if number c (granted_if number step.grants pool); connection = record { service = service_after after.rest new c; out = out.items; reports = keeps } }) taken.ends
+    ∙ ap (λ (conn : Conn). record { pool = freed_if number step.closes (granted_if number step.grants pool); connection = record { service = service_after after.rest conn step.closes; out = out.items; reports = keeps } }) taken.conn
+    ∙ ap (λ (bytes : List ℕ). record { pool = freed_if number step.closes (granted_if number step.grants pool); connection = record { service = service_after after.rest step.conn step.closes; out = bytes; reports = keeps } }) taken.sent
+    ∙ ap (λ (reports : Reports). record { pool = freed_if number step.closes (granted_if number step.grants pool); connection = record { service = service_after after.rest step.conn step.closes; out = before.items ++ sent_bytes (map item_sent step.sends); reports = reports } }) taken.reports)
 
 -- ---- bytes
 
@@ -101,28 +101,28 @@ more_bytes number old mid new [] more taken then_taken = subst (λ (from : Count
 more_bytes number old mid new (byte ∷ bytes) more taken then_taken = (taken.0, taken.1, more_bytes number taken.0 mid new bytes more taken.2 then_taken)
 
 -- room was made, and some bytes were taken
-pub some_more : (number : ℕ) (start : Counter) (bytes : List ℕ) (place count : ℕ) (pool left : List Entry) (held after : Held) (conn new : Conn) (out roomy sent : Vec ℕ Global) (rejections keeps : List Rejection) (closes is : Option Cause)
-    → closes ≡ is → roomy.items ≡ out.items → TakesBytes number start (take place bytes) (counter_of pool held conn None out rejections)
-    → TakesBytes number (counter_of pool held conn None roomy rejections) (take count (take (length bytes - place) (drop place bytes))) (counter_of left after new closes sent keeps)
+pub some_more : (number : ℕ) (start : Counter) (bytes : List ℕ) (place count : ℕ) (pool left : List Entry) (held after : Held) (conn new : Conn) (out roomy sent : Vec ℕ Global) (reports keeps : Reports) (closes is : Option Cause)
+    → closes ≡ is → roomy.items ≡ out.items → TakesBytes number start (take place bytes) (counter_of pool held conn None out reports)
+    → TakesBytes number (counter_of pool held conn None roomy reports) (take count (take (length bytes - place) (drop place bytes))) (counter_of left after new closes sent keeps)
     → TakesBytes number start (take (place + count) bytes) (counter_of left after new is sent keeps)
-some_more number start bytes place count pool left held after conn new out roomy sent rejections keeps closes is ends same taken more =
-    let as_before : counter_of pool held conn None roomy rejections ≡ counter_of pool held conn None out rejections =
-    ap (λ (items : List ℕ). record { pool = pool; connection = record { service = Service.Open held.rest conn; out = items; rejections = rejections } }) same in
+some_more number start bytes place count pool left held after conn new out roomy sent reports keeps closes is ends same taken more =
+    let as_before : counter_of pool held conn None roomy reports ≡ counter_of pool held conn None out reports =
+    ap (λ (items : List ℕ). record { pool = pool; connection = record { service = Service.Open held.rest conn; out = items; reports = reports } }) same in
     let rest : take (length bytes - place) (drop place bytes) ≡ drop place bytes = take_all (length bytes - place) (drop place bytes) (omega (arith, length-drop place bytes)) in
     subst (λ (some : List ℕ). TakesBytes number start some (counter_of left after new is sent keeps)) (sym (take-add place count bytes))
-    (more_bytes number start (counter_of pool held conn None out rejections) (counter_of left after new is sent keeps) (take place bytes) (take count (drop place bytes)) taken
+    (more_bytes number start (counter_of pool held conn None out reports) (counter_of left after new is sent keeps) (take place bytes) (take count (drop place bytes)) taken
     (subst (λ (from : Counter). TakesBytes number from (take count (drop place bytes)) (counter_of left after new is sent keeps)) as_before
-    (subst (λ (cause : Option Cause). TakesBytes number (counter_of pool held conn None roomy rejections) (take count (drop place bytes)) (counter_of left after new cause sent keeps)) ends
-    (subst (λ (some : List ℕ). TakesBytes number (counter_of pool held conn None roomy rejections) (take count some) (counter_of left after new closes sent keeps)) rest more))))
+    (subst (λ (cause : Option Cause). TakesBytes number (counter_of pool held conn None roomy reports) (take count (drop place bytes)) (counter_of left after new cause sent keeps)) ends
+    (subst (λ (some : List ℕ). TakesBytes number (counter_of pool held conn None roomy reports) (take count some) (counter_of left after new closes sent keeps)) rest more))))
 
 -- data up to the next IAC
-pub data_taken : (number : ℕ) (run : List ℕ) (pool : List Entry) (held after : Held) (conn : Conn) (out : Vec ℕ Global) (rejections : List Rejection) → IsRunning held → TakesAll held run [] after
-    → TakesBytes number (counter_of pool held conn None out rejections) run (counter_of pool after conn None out rejections)
-data_taken number [] pool held after conn out rejections running taken = ap (λ (h : Held). counter_of pool h conn None out rejections) taken.1
-data_taken number (byte ∷ run) pool held after conn out rejections running taken =
+pub data_taken : (number : ℕ) (run : List ℕ) (pool : List Entry) (held after : Held) (conn : Conn) (out : Vec ℕ Global) (reports : Reports) → IsRunning held → TakesAll held run [] after
+    → TakesBytes number (counter_of pool held conn None out reports) run (counter_of pool after conn None out reports)
+data_taken number [] pool held after conn out reports running taken = ap (λ (h : Held). counter_of pool h conn None out reports) taken.1
+data_taken number (byte ∷ run) pool held after conn out reports running taken =
     let none = none_completed taken.0.ready taken.1 taken.3 in (
-      counter_of pool taken.0 conn None out rejections,
-      byte_goes_on number pool held taken.0 conn out rejections byte running taken.2 none.0,
-      data_taken number run pool taken.0 after conn out rejections (still_running record_limit held taken.0 byte running taken.2)
+      counter_of pool taken.0 conn None out reports,
+      byte_goes_on number pool held taken.0 conn out reports byte running taken.2 none.0,
+      data_taken number run pool taken.0 after conn out reports (still_running record_limit held taken.0 byte running taken.2)
           (subst (λ (items : List WireItem). TakesAll taken.0 run items after) none.1 taken.4),
     )

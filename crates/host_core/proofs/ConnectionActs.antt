@@ -7,8 +7,8 @@ use Rattle.telnet_wire.specs.Reading.{Rest}
 use Rattle.tn3270e_msg.specs.HostTable.{granted}
 use Rattle.host_core.specs.Acts.{Act, Decision, Sent, acted, decided, decision_on, done, may_act}
 use Rattle.host_core.specs.Application.{Application}
-use Rattle.host_core.specs.Does.{Does, DoesAnswer, MayWantMemory}
-use Rattle.host_core.specs.Keeps.{AnswersOn, DoesOn, WantsMemory}
+use Rattle.host_core.specs.Does.{AnswerMayWantMemory, Does, DoesAnswer, MayWantMemory}
+use Rattle.host_core.specs.Keeps.{AnswerWantsMemory, AnswersOn, DoesOn, WantsMemory}
 use Rattle.host_core.specs.Connections.{IsSoundConnection, service_of}
 use Rattle.host_core.specs.Notes.{noted, noted_as, may_note}
 use Rattle.host_core.specs.Questions.{act_by, answered_in, has_its_panel, is_asking, is_ticket, ticket_of}
@@ -20,18 +20,18 @@ use Rattle.host_core.specs.declared.acted.Acted.TheVariants as answer
 use Rattle.host_core.specs.declared.connection.HostEnd.{HostEnd}
 use Rattle.host_core.specs.declared.question.Answer.{Answer}
 use Rattle.host_core.specs.declared.question.Ticket.{Ticket}
-use Rattle.host_core.specs.declared.rejection.Rejection.{Rejection}
+use Rattle.host_core.specs.Reports.{Reports}
 use Rattle.host_core.specs.declared.connection.Service.{Service as Kept}
 use Rattle.host_core.specs.declared.connection.Service.TheVariants as kept
 use Rattle.std.proofs.Common.{Box}
 
-abbrev open_connection : Rest → Conn → List ℕ → List Rejection → Connection
-open_connection rest conn out rejections = record { service = Service.Open rest conn; out = out; rejections = rejections }
+abbrev open_connection : Rest → Conn → List ℕ → Reports → Connection
+open_connection rest conn out reports = record { service = Service.Open rest conn; out = out; reports = reports }
 
-same_connection : (rest : Rest) (one other : Conn) (bytes others : List ℕ) (rejections : List Rejection) → one ≡ other → bytes ≡ others
-    → open_connection rest one bytes rejections ≡ open_connection rest other others rejections
-same_connection rest one other bytes others rejections conns outs =
-    ap (λ c. open_connection rest c bytes rejections) conns ∙ ap (λ b. open_connection rest other b rejections) outs
+same_connection : (rest : Rest) (one other : Conn) (bytes others : List ℕ) (reports : Reports) → one ≡ other → bytes ≡ others
+    → open_connection rest one bytes reports ≡ open_connection rest other others reports
+same_connection rest one other bytes others reports conns outs =
+    ap (λ c. open_connection rest c bytes reports) conns ∙ ap (λ b. open_connection rest other b reports) outs
 
 -- more room does as well
 pub still_sound : (service : Kept) (before after : Vec ℕ Global) → vec_capacity before ≤ vec_capacity after → IsSoundConnection service before → IsSoundConnection service after
@@ -46,51 +46,59 @@ pub room_of_open : (service : Kept) (box : Box HostEnd Global) (out : Vec ℕ Gl
 room_of_open service box out is sound = (subst (λ (s : Kept). IsSoundConnection s out) is sound).1
 
 -- a connection has kept its room, so that this didn't do either
-may_want : (sent : Sent) (rest : Rest) (old : Conn) (before : Vec ℕ Global) (rejections : List Rejection) → out_room ≤ vec_capacity before → WantsMemory sent old before
-    → MayWantMemory sent (open_connection rest old before.items rejections)
-may_want sent rest old before rejections roomy (WantsMemory.room short) =
+may_want : (sent : Sent) (rest : Rest) (old : Conn) (before : Vec ℕ Global) (reports : Reports) → out_room ≤ vec_capacity before → WantsMemory sent old before
+    → MayWantMemory sent (open_connection rest old before.items reports)
+may_want sent rest old before reports roomy (WantsMemory.room short) =
     let len = before.ok.0 in
     MayWantMemory.room (omega (arith, roomy, short, len))
-may_want sent rest old before rejections roomy (WantsMemory.values changes) = MayWantMemory.values changes
+may_want sent rest old before reports roomy (WantsMemory.values changes) = MayWantMemory.values changes
 
-on_connection : (what : Option Sent) (rest : Rest) (old new : Conn) (before after : Vec ℕ Global) (answered : Acted) (rejections : List Rejection) → out_room ≤ vec_capacity before → DoesOn what old before answered new after
-    → Does what (open_connection rest old before.items rejections) answered (open_connection rest new after.items rejections)
-on_connection None rest old new before after answered rejections roomy does = (does.0, same_connection rest new old after.items before.items rejections does.1 does.2)
-on_connection (Some sent) rest old new before after answer.Sent rejections roomy does = same_connection rest new sent.conn after.items _ rejections does.conn does.bytes
-on_connection (Some sent) rest old new before after answer.Memory rejections roomy does = (same_connection rest new old after.items before.items rejections does.0 does.1, may_want sent rest old before rejections roomy does.2)
-on_connection (Some sent) rest old new before after answer.Nothing rejections roomy does = absurd does
+on_connection : (what : Option Sent) (rest : Rest) (old new : Conn) (before after : Vec ℕ Global) (answered : Acted) (reports : Reports) → out_room ≤ vec_capacity before → DoesOn what old before answered new after
+    → Does what (open_connection rest old before.items reports) answered (open_connection rest new after.items reports)
+on_connection None rest old new before after answered reports roomy does = (does.0, same_connection rest new old after.items before.items reports does.1 does.2)
+on_connection (Some sent) rest old new before after answer.Sent reports roomy does = same_connection rest new sent.conn after.items _ reports does.conn does.bytes
+on_connection (Some sent) rest old new before after answer.Memory reports roomy does = (same_connection rest new old after.items before.items reports does.0 does.1, may_want sent rest old before reports roomy does.2)
+on_connection (Some sent) rest old new before after answer.Nothing reports roomy does = absurd does
 
 -- the line of an open connection, from its parts
-connection_is : (now : Connection) (service : Kept) (box : Box HostEnd Global) (old : HostEnd) (before : Vec ℕ Global) (rejections : List Rejection)
-    → now ≡ record { service = service_of service; out = before.items; rejections = rejections } → service ≡ kept.Open box → old ≡ box.value
-    → now ≡ open_connection old.decoder.rest old.session before.items rejections
-connection_is now service box old before rejections view is value =
-    view ∙ ap (λ (s : Kept). record { service = service_of s; out = before.items; rejections = rejections }) is
-    ∙ ap (λ (x : HostEnd). open_connection x.decoder.rest x.session before.items rejections) (sym value)
+connection_is : (now : Connection) (service : Kept) (box : Box HostEnd Global) (old : HostEnd) (before : Vec ℕ Global) (reports : Reports)
+    → now ≡ record { service = service_of service; out = before.items; reports = reports } → service ≡ kept.Open box → old ≡ box.value
+    → now ≡ open_connection old.decoder.rest old.session before.items reports
+connection_is now service box old before reports view is value =
+    view ∙ ap (λ (s : Kept). record { service = service_of s; out = before.items; reports = reports }) is
+    ∙ ap (λ (x : HostEnd). open_connection x.decoder.rest x.session before.items reports) (sym value)
 
-pub does_connection : (what : Service → Option Sent) (now : Connection) (service : Kept) (box : Box HostEnd Global) (old : HostEnd) (new : Conn) (before after : Vec ℕ Global) (answered : Acted) (rejections : List Rejection)
-    → now ≡ record { service = service_of service; out = before.items; rejections = rejections } → IsSoundConnection service before → service ≡ kept.Open box → old ≡ box.value
+pub does_connection : (what : Service → Option Sent) (now : Connection) (service : Kept) (box : Box HostEnd Global) (old : HostEnd) (new : Conn) (before after : Vec ℕ Global) (answered : Acted) (reports : Reports)
+    → now ≡ record { service = service_of service; out = before.items; reports = reports } → IsSoundConnection service before → service ≡ kept.Open box → old ≡ box.value
     → DoesOn (what (Service.Open old.decoder.rest old.session)) old.session before answered new after
-    → Does (what now.service) now answered (open_connection old.decoder.rest new after.items rejections)
-does_connection what now service box old new before after answered rejections view sound is value does =
-    subst (λ (l : Connection). Does (what l.service) l answered (open_connection old.decoder.rest new after.items rejections)) (sym (connection_is now service box old before rejections view is value))
-    (on_connection (what (Service.Open old.decoder.rest old.session)) old.decoder.rest old.session new before after answered rejections (subst (λ (s : Kept). IsSoundConnection s before) is sound).1 does)
+    → Does (what now.service) now answered (open_connection old.decoder.rest new after.items reports)
+does_connection what now service box old new before after answered reports view sound is value does =
+    subst (λ (l : Connection). Does (what l.service) l answered (open_connection old.decoder.rest new after.items reports)) (sym (connection_is now service box old before reports view is value))
+    (on_connection (what (Service.Open old.decoder.rest old.session)) old.decoder.rest old.session new before after answered reports (subst (λ (s : Kept). IsSoundConnection s before) is sound).1 does)
 
 -- an answer, likewise
-answer_on_connection : (what : Option Sent) (rest : Rest) (old new : Conn) (before after : Vec ℕ Global) (answered : Acted) (rejections : List Rejection) → AnswersOn what old before answered new after
-    → DoesAnswer what (open_connection rest old before.items rejections) answered (open_connection rest new after.items rejections)
-answer_on_connection None rest old new before after answered rejections does = (does.0, same_connection rest new old after.items before.items rejections does.1 does.2)
-answer_on_connection (Some sent) rest old new before after answer.Sent rejections does = same_connection rest new sent.conn after.items _ rejections does.conn does.bytes
-answer_on_connection (Some sent) rest old new before after answer.Memory rejections does = same_connection rest new old after.items before.items rejections does.0 does.1
-answer_on_connection (Some sent) rest old new before after answer.Nothing rejections does = absurd does
+answer_may_want : (app : Application) (said : Answer) (sent : Sent) (rest : Rest) (old : Conn) (before : Vec ℕ Global) (reports : Reports) → out_room ≤ vec_capacity before
+    → AnswerWantsMemory app said sent old before → AnswerMayWantMemory app said sent (open_connection rest old before.items reports)
+answer_may_want app said sent rest old before reports roomy (AnswerWantsMemory.room short) =
+    let len = before.ok.0 in
+    AnswerMayWantMemory.room (omega (arith, roomy, short, len))
+answer_may_want app said sent rest old before reports roomy (AnswerWantsMemory.values want) = AnswerMayWantMemory.values want
 
-pub answers_connection : (what : Service → Option Sent) (now : Connection) (service : Kept) (box : Box HostEnd Global) (old : HostEnd) (new : Conn) (before after : Vec ℕ Global) (answered : Acted) (rejections : List Rejection)
-    → now ≡ record { service = service_of service; out = before.items; rejections = rejections } → service ≡ kept.Open box → old ≡ box.value
-    → AnswersOn (what (Service.Open old.decoder.rest old.session)) old.session before answered new after
-    → DoesAnswer (what now.service) now answered (open_connection old.decoder.rest new after.items rejections)
-answers_connection what now service box old new before after answered rejections view is value does =
-    subst (λ (l : Connection). DoesAnswer (what l.service) l answered (open_connection old.decoder.rest new after.items rejections)) (sym (connection_is now service box old before rejections view is value))
-    (answer_on_connection (what (Service.Open old.decoder.rest old.session)) old.decoder.rest old.session new before after answered rejections does)
+answer_on_connection : (app : Application) (said : Answer) (what : Option Sent) (rest : Rest) (old new : Conn) (before after : Vec ℕ Global) (did : Acted) (reports : Reports) → out_room ≤ vec_capacity before
+    → AnswersOn app said what old before did new after → DoesAnswer app said what (open_connection rest old before.items reports) did (open_connection rest new after.items reports)
+answer_on_connection app said None rest old new before after did reports roomy does = (does.0, same_connection rest new old after.items before.items reports does.1 does.2)
+answer_on_connection app said (Some sent) rest old new before after answer.Sent reports roomy does = same_connection rest new sent.conn after.items _ reports does.conn does.bytes
+answer_on_connection app said (Some sent) rest old new before after answer.Memory reports roomy does =
+    (same_connection rest new old after.items before.items reports does.0 does.1, answer_may_want app said sent rest old before reports roomy does.2)
+answer_on_connection app said (Some sent) rest old new before after answer.Nothing reports roomy does = absurd does
+
+pub answers_connection : (app : Application) (said : Answer) (what : Service → Option Sent) (now : Connection) (service : Kept) (box : Box HostEnd Global) (old : HostEnd) (new : Conn) (before after : Vec ℕ Global) (did : Acted) (reports : Reports)
+    → now ≡ record { service = service_of service; out = before.items; reports = reports } → IsSoundConnection service before → service ≡ kept.Open box → old ≡ box.value
+    → AnswersOn app said (what (Service.Open old.decoder.rest old.session)) old.session before did new after
+    → DoesAnswer app said (what now.service) now did (open_connection old.decoder.rest new after.items reports)
+answers_connection app said what now service box old new before after did reports view sound is value does =
+    subst (λ (l : Connection). DoesAnswer app said (what l.service) l did (open_connection old.decoder.rest new after.items reports)) (sym (connection_is now service box old before reports view is value))
+    (answer_on_connection app said (what (Service.Open old.decoder.rest old.session)) old.decoder.rest old.session new before after did reports (subst (λ (s : Kept). IsSoundConnection s before) is sound).1 does)
 
 -- ---- the talk stays
 
@@ -104,11 +112,11 @@ keeps (Some sent) old new before after answer.Sent same does = ap (λ (c : Conn)
 keeps (Some sent) old new before after answer.Memory same does = ap (λ (c : Conn). c.talk) does.0
 keeps (Some sent) old new before after answer.Nothing same does = absurd does
 
-answer_keeps : (what : Option Sent) (old new : Conn) (before after : Vec ℕ Global) (answered : Acted) → Talks old what → AnswersOn what old before answered new after → new.talk ≡ old.talk
-answer_keeps None old new before after answered same does = ap (λ (c : Conn). c.talk) does.1
-answer_keeps (Some sent) old new before after answer.Sent same does = ap (λ (c : Conn). c.talk) does.conn ∙ same
-answer_keeps (Some sent) old new before after answer.Memory same does = ap (λ (c : Conn). c.talk) does.0
-answer_keeps (Some sent) old new before after answer.Nothing same does = absurd does
+answer_keeps : (app : Application) (said : Answer) (what : Option Sent) (old new : Conn) (before after : Vec ℕ Global) (did : Acted) → Talks old what → AnswersOn app said what old before did new after → new.talk ≡ old.talk
+answer_keeps app said None old new before after did same does = ap (λ (c : Conn). c.talk) does.1
+answer_keeps app said (Some sent) old new before after answer.Sent same does = ap (λ (c : Conn). c.talk) does.conn ∙ same
+answer_keeps app said (Some sent) old new before after answer.Memory same does = ap (λ (c : Conn). c.talk) does.0
+answer_keeps app said (Some sent) old new before after answer.Nothing same does = absurd does
 
 done_keeps : (app : Application) (conn : Conn) (act : Act) → (done app conn act).conn.talk ≡ conn.talk
 done_keeps app conn Act.Read = refl
@@ -128,20 +136,20 @@ note_talks : (text : List ℕ) (conn : Conn) (may : Bool) → Talks conn (if may
 note_talks text conn false = tt
 note_talks text conn true = refl
 
-module _ (now : Connection) (service : Kept) (box : Box HostEnd Global) (old : HostEnd) (new : Conn) (before after : Vec ℕ Global) (answered : Acted) (rejections : List Rejection)
-    (view : now ≡ record { service = service_of service; out = before.items; rejections = rejections }) (is : service ≡ kept.Open box) (value : old ≡ box.value) where
+module _ (now : Connection) (service : Kept) (box : Box HostEnd Global) (old : HostEnd) (new : Conn) (before after : Vec ℕ Global) (answered : Acted) (reports : Reports)
+    (view : now ≡ record { service = service_of service; out = before.items; reports = reports }) (is : service ≡ kept.Open box) (value : old ≡ box.value) where
   same_claim : new.talk ≡ old.session.talk → granted new.talk.state ≡ lu_of now.service
-  same_claim same = ap (λ t. granted t.state) same ∙ sym (ap (λ (l : Connection). lu_of l.service) (connection_is now service box old before rejections view is value))
+  same_claim same = ap (λ t. granted t.state) same ∙ sym (ap (λ (l : Connection). lu_of l.service) (connection_is now service box old before reports view is value))
 
   pub act_holds : (app : Application) → DoesOn (acted app old.session) old.session before answered new after → granted new.talk.state ≡ lu_of now.service
   act_holds app does =
       same_claim (keeps (acted app old.session) old.session new before after answered
       (decided_talks app old.session (may_act old.session.turn old.session.pending (is_agreed old.session.talk.state)) (decision_on app old.session old.session.turn_reason)) does)
 
-  pub answer_holds : (app : Application) (session : ℕ) (ticket : Ticket) (said : Answer) → AnswersOn (answered_in app session ticket said old.session) old.session before answered new after
+  pub answer_holds : (app : Application) (session : ℕ) (ticket : Ticket) (said : Answer) → AnswersOn app said (answered_in app session ticket said old.session) old.session before answered new after
       → granted new.talk.state ≡ lu_of now.service
   answer_holds app session ticket said does =
-      same_claim (answer_keeps (answered_in app session ticket said old.session) old.session new before after answered
+      same_claim (answer_keeps app said (answered_in app session ticket said old.session) old.session new before after answered
       (answered_talks app old.session (act_by app old.session said said.panel) (is_ticket ticket (ticket_of session old.session)) (is_asking app old.session && has_its_panel app said)) does)
 
   pub note_holds : (text : List ℕ) → DoesOn (noted text old.session) old.session before answered new after → granted new.talk.state ≡ lu_of now.service

@@ -1,5 +1,5 @@
 -- What a host paints fits what it believes.
-use Rattle.std.proofs.Common.{◌≡◌, ◌+◌, ℕ, Bool, true, false, not, ◌||◌, List, [], ◌∷◌, ◌++◌, refl, ap, sym, ◌∙◌, if◌then◌else◌}
+use Rattle.std.proofs.Common.{◌≡◌, ◌+◌, ℕ, Bool, true, false, not, ◌||◌, List, [], ◌∷◌, ◌++◌, refl, ap, sym, subst, ◌∙◌, if◌then◌else◌}
 use Rattle.std.specs.List.{list_any}
 use Rattle.std.proofs.lemmas.Bool.{and_parts}
 use Rattle.codes3270.specs.Size.{cells_in}
@@ -14,8 +14,12 @@ use Rattle.panels.specs.declared.message.Message.{Message}
 use Rattle.panels.specs.Screen.{Values}
 use Rattle.host_core.specs.Application.{Application, IsApplication, IsSizeOf, KeepsNothing}
 use Rattle.host_core.specs.Session.{Conn, model_in}
-use Rattle.host_core.specs.Acts.{Act, wanted_by}
-use Rattle.host_core.specs.Laws.{IsPaintable, ActsFit, SizesAreTheModels}
+use Rattle.host_core.specs.Acts.{known_despite, Act, wanted_by, when_shown}
+use Rattle.host_core.specs.Laws.{IsPaintable, ActsFit, SizesAreTheModels, MayBeNow, UnheardIsAllowed}
+use Rattle.host_core.specs.declared.unheard.Unheard.{Unheard}
+use Rattle.host_core.specs.declared.unheard.Unheard.TheVariants as unheards
+use Rattle.shadow.specs.Doubt.{DoubtAllowsInput}
+use Rattle.shadow.specs.Meets.{Meets}
 
 none_kept-append : (xs ys : List Want) → list_any is_keep xs ≡ false → list_any is_keep ys ≡ false → list_any is_keep (xs ++ ys) ≡ false
 none_kept-append [] ys h k = k
@@ -81,7 +85,7 @@ paints app conn panel message true values is = by_fit (fits conn.shadow kept) re
 
 pub acts_fit : ActsFit
 acts_fit app conn Act.Read is = tt
-acts_fit app conn (Act.Show panel message keep values) is = (paints app conn (app.shown (model_in conn) panel) message keep values is, refl)
+acts_fit app conn (Act.Show panel message keep values) is = (paints app (when_shown conn) (app.shown (model_in conn) panel) message keep values is, refl)
 
 -- what is wanted has one of the sizes of the session's model
 wanted_size : (app : Application) (conn : Conn) (model : Model) (panel : ℕ) (message : Message) (keep : Bool) (values : Values) → IsApplication app
@@ -98,4 +102,14 @@ wanted_size app conn model panel message true values is = by_fit (fits conn.shad
 
 pub sizes_are : SizesAreTheModels
 sizes_are app conn Act.Read is sized = sized
-sizes_are app conn (Act.Show panel message keep values) is sized = wanted_size app conn (model_in conn) panel message keep values is
+sizes_are app conn (Act.Show panel message keep values) is sized = wanted_size app (when_shown conn) (model_in conn) panel message keep values is
+
+-- ---- what may have happened unheard
+
+pub unheard_allowed : DoubtAllowsInput → UnheardIsAllowed
+unheard_allowed input conn told now meets may = by_unheard conn.unheard may
+  where
+    by_unheard : (unheard : Unheard) → MayBeNow unheard told now → Meets (known_despite unheard conn.shadow) now
+    by_unheard unheards.Nothing same = subst (Meets conn.shadow) (sym same) meets
+    by_unheard unheards.Input (erased, held) = input erased conn.shadow told now meets held
+    by_unheard unheards.Clear any = tt

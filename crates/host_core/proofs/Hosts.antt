@@ -10,9 +10,10 @@ use Rattle.host_core.specs.Connections.{service_of}
 use Rattle.host_core.specs.declared.connection.Service.{Service as Kept}
 use Rattle.host_core.specs.Session.{agreed_lu}
 use Rattle.host_core.specs.Sound.{HoldsJust, IsShown, IsSound, NobodyShares}
+use Rattle.host_core.specs.declared.terminals.Terminals.{Terminals}
 use Rattle.host_core.specs.State.{Service, Connection, Host, Sessions, counted, most_connections, unused, connection_at, service_at, lu_of, phase_of, phase_agreed}
 use Rattle.host_core.specs.declared.phase.Phase.TheVariants as phase
-use Rattle.host_core.specs.declared.rejection.Rejection.{Rejection}
+use Rattle.host_core.specs.Reports.{Reports}
 
 -- a host with another pool, and another line at a number
 abbrev pub changed : ℕ → List Entry → Connection → Host → Host
@@ -149,10 +150,10 @@ one_more_unused index old connections connection is below so_far =
     ap (λ ls. set ls index connection) so_far ∙ one_put index old connection is below ∙ sym (ap (λ n. replicate n unused ++ drop n old) next)
 
 -- a host whose numbers are all free, where nobody holds an LU
-pub unused_sound : (panels : Panels) (pool : List Entry) (connections : List Connection) (sessions : Sessions) → connections ≡ replicate most_connections unused
+pub unused_sound : (panels : Panels) (pool : List Entry) (connections : List Connection) (sessions : Sessions) (terminals : Terminals) → connections ≡ replicate most_connections unused
     → length sessions.latest ≡ most_connections → ((number : ℕ) → HoldsNone pool number)
-    → IsSound (record { panels = panels; pool = pool; connections = connections; sessions = sessions })
-unused_sound panels pool connections sessions are counted nobody =
+    → IsSound (record { panels = panels; pool = pool; connections = connections; sessions = sessions; terminals = terminals })
+unused_sound panels pool connections sessions terminals are counted nobody =
     let there : (number : ℕ) → get_or connections number unused ≡ unused = λ number. ap (λ (ls : List Connection). get_or ls number unused) are ∙ always_unused most_connections number in
     record {
       connections = ap length are ∙ all_unused most_connections;
@@ -164,7 +165,7 @@ unused_sound panels pool connections sessions are counted nobody =
 -- ---- a line
 
 -- what is held of a line is held of its parts
-pub held_of_parts : (number : ℕ) (pool : List Entry) (now : Connection) (service : Kept) (out : List ℕ) (rejections : List Rejection) (held : Option (List ℕ))
-    → now ≡ record { service = service_of service; out = out; rejections = rejections } → lu_of (service_of service) ≡ held
+pub held_of_parts : (number : ℕ) (pool : List Entry) (now : Connection) (service : Kept) (out : List ℕ) (reports : Reports) (held : Option (List ℕ))
+    → now ≡ record { service = service_of service; out = out; reports = reports } → lu_of (service_of service) ≡ held
     → HoldsJust number pool (lu_of now.service) → HoldsJust number pool held
-held_of_parts number pool now service out rejections held is same h = subst (HoldsJust number pool) (ap (λ (l : Connection). lu_of l.service) is ∙ same) h
+held_of_parts number pool now service out reports held is same h = subst (HoldsJust number pool) (ap (λ (l : Connection). lu_of l.service) is ∙ same) h

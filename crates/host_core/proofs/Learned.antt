@@ -1,6 +1,6 @@
 -- What a host learns of fields, and when their values have to grow.
 use Rattle.std.proofs.Common.{◌≡◌, ◌≢◌, ◌<◌, ◌≤◌, ◌+◌, ℕ, zero, suc, Bool, true, false, List, [], ◌∷◌, length, drop, get_or, Option, Some, None, refl, ap, sym, subst, ◌∙◌, arith, lt-ltb, ltb-true}
-use Rattle.std.specs.Prelude.{slice_get, ◌||◌, ◌&&◌, is_some, unwrap_or, if◌then◌else◌}
+use Rattle.std.specs.Prelude.{Result, Ok, Err, OnErr, slice_get, ◌||◌, ◌&&◌, is_some, unwrap_or, if◌then◌else◌}
 use Rattle.std.specs.List.{list_any}
 use Rattle.std.specs.Option.{option_map_or, option_or}
 use Rattle.std.proofs.lemmas.List.{drop_more}
@@ -146,6 +146,17 @@ values_grow shadow fields values apart some =
     let (k, one, at_k, needs) = some_at (needs_room shadow values) fields some in
     let (text, known, grows) = needing (value_of values one.number) (text_known shadow one) needs in
     (one.number, text, learns shadow fields values k one text apart at_k known, grows)
+
+-- a text of a field that had no value
+some_learned : (shadow : Shadow) (fields : List Field) → HaveNumbersApart fields → list_any (needs_room shadow []) fields ≡ true → learned shadow fields [] ≢ []
+some_learned shadow fields apart some =
+    let (n, text, is, grows) = values_grow shadow fields [] apart some in
+    λ empty. absurd (let nothing : None ≡ Some text = ap (λ (values : Values). value_of values n) (sym empty) ∙ is in cc)
+
+pub texts_want : {T E : Type 0} (result : Result T E) (shadow : Shadow) (fields : List Field) → HaveNumbersApart fields → list_any (needs_room shadow []) fields ≡ true
+    → OnErr result (learned shadow fields [] ≢ [])
+texts_want (Ok value) shadow fields apart some = tt
+texts_want (Err error) shadow fields apart some = some_learned shadow fields apart some
 
 -- ---- one field after another
 

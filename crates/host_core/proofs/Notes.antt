@@ -123,7 +123,7 @@ each_place P size at (byte ∷ other ∷ text) few each =
 in_row : (cells columns count : ℕ) → 1 < columns → columns ≤ cells → count ≤ columns - 1 → cells - columns + 1 + count ≤ cells
 in_row cells columns count room row few = omega arith
 
-each_noted : (P : ℕ → Type 0) (shape : Shape) (command : CommandParts) (size : ℕ) → IsShape shape → IsNoteOf shape command → size ≡ cells_in shape
+pub each_noted : (P : ℕ → Type 0) (shape : Shape) (command : CommandParts) (size : ℕ) → IsShape shape → IsNoteOf shape command → size ≡ cells_in shape
     → ((place : ℕ) → message_place shape < place → place < size → P place) → All P (places_noted size command)
 each_noted P shape command size shaped note sized each =
     subst (λ (c : CommandParts). All P (places_noted size c)) (sym note.is)

@@ -5,6 +5,7 @@ use Rattle.codes3270.specs.Size.{Shape}
 use Rattle.datastream.specs.InboundText.{InboundParts, IsInbound, IsNoInbound}
 use Rattle.datastream.specs.Laws.{OneInbound}
 use Rattle.datastream.specs.declared.inbound_part.Form.{Form}
+use Rattle.datastream.specs.declared.inbound_part.Form.TheVariants.{Modified}
 use Rattle.datastream.specs.declared.inbound_part.InboundFault.{InboundFault}
 use Rattle.lu_pool.specs.Asking.{answer_to}
 use Rattle.telnet_wire.specs.Items.{WireItem, Record, Opt, Sub, Other}
@@ -18,7 +19,7 @@ use Rattle.tn3270e_msg.specs.declared.header.DataType.{DataType}
 use Rattle.tn3270e_msg.specs.declared.header.DataType.TheVariants.{Data3270, Response}
 use Rattle.tn3270e_msg.specs.declared.header.Header.{Header}
 use Rattle.host_core.specs.Bytes.{Counter, TakesByte, TakesBytes, stepped}
-use Rattle.host_core.specs.Items.{IsOther, TakesItem, TakesRecord, TakesRecordIf, Talks, verdict_of}
+use Rattle.host_core.specs.Items.{IsNoSecondKey, IsOther, TakesData, TakesItem, TakesRecord, TakesRecordIf, Talks, may_be_second_key, verdict_of}
 use Rattle.host_core.specs.Machine.{OneOutcome, PiecesCompose, PiecesPart}
 use Rattle.host_core.specs.Session.{Conn, is_agreed}
 use Rattle.host_core.specs.State.{Service}
@@ -38,6 +39,10 @@ data_or_response kind data_is response_is = cc
 inbound_or_fault : (size : Shape) (form : Form) (parts : InboundParts) (fault : InboundFault) (bytes : List ℕ) → parts.form ≡ form → parts.size ≡ size → IsInbound parts bytes → IsNoInbound size form fault bytes → ⊥
 inbound_or_fault size form parts fault bytes read sized is wrong = let both = first_inbound_fault form size (Ok parts) bytes (read, sized, is) fault wrong in cc
 
+key_or_none : (size : Shape) (may : Bool) (parts : InboundParts) (body : List ℕ) → may ≡ true → parts.form ≡ Modified → parts.size ≡ size → IsInbound parts body → IsNoSecondKey may size body → ⊥
+key_or_none size true parts body may read sized is none = inbound_or_fault size Modified parts none.0 body read sized is none.1
+key_or_none size false parts body may read sized is none = cc
+
 module _ (one_header : OneHeader) (fault_or_header : FaultIsNoHeader) (one_hearing : OneHearing) (one_inbound : OneInbound) (one_delivery : OneDelivery) (wrong_is_final : WrongIsFinal) where
   same_kind : (bytes : List ℕ) (header other : Header) (body rest : List ℕ) → Begins bytes header body → Begins bytes other rest → header.kind ≡ other.kind
   same_kind bytes header other body rest first second = ap (λ (h : Header). h.kind) (one_header bytes header other body rest first second).0
@@ -45,14 +50,30 @@ module _ (one_header : OneHeader) (fault_or_header : FaultIsNoHeader) (one_heari
   same_body : (bytes : List ℕ) (header other : Header) (body rest : List ℕ) → Begins bytes header body → Begins bytes other rest → body ≡ rest
   same_body bytes header other body rest first second = (one_header bytes header other body rest first second).1
 
+  one_data : (conn : Conn) (body : List ℕ) (step other : HostStep) → TakesData conn body step → TakesData conn body other → step ≡ other
+  one_data conn body step other (TakesData.hears parts1 form1 size1 is1 e1) (TakesData.hears parts2 form2 size2 is2 e2) =
+      e1 ∙ ap (λ (parts : InboundParts). data_came parts conn.turn conn.pending conn) (one_inbound body parts1 parts2 (form1 ∙ sym form2) (size1 ∙ sym size2) is1 is2) ∙ sym e2
+  one_data conn body step other (TakesData.hears parts1 form1 size1 is1 e1) (TakesData.is_second_key fault2 parts2 wrong2 may2 form2 size2 is2 e2) =
+      absurd (inbound_or_fault conn.shape (form_awaited conn.pending) parts1 fault2 body form1 size1 is1 wrong2)
+  one_data conn body step other (TakesData.hears parts1 form1 size1 is1 e1) (TakesData.no_data fault2 wrong2 no_key2 e2) =
+      absurd (inbound_or_fault conn.shape (form_awaited conn.pending) parts1 fault2 body form1 size1 is1 wrong2)
+  one_data conn body step other (TakesData.is_second_key fault1 parts1 wrong1 may1 form1 size1 is1 e1) (TakesData.hears parts2 form2 size2 is2 e2) =
+      absurd (inbound_or_fault conn.shape (form_awaited conn.pending) parts2 fault1 body form2 size2 is2 wrong1)
+  one_data conn body step other (TakesData.is_second_key fault1 parts1 wrong1 may1 form1 size1 is1 e1) (TakesData.is_second_key fault2 parts2 wrong2 may2 form2 size2 is2 e2) =
+      e1 ∙ ap (λ (parts : InboundParts). data_came parts conn.turn conn.pending conn) (one_inbound body parts1 parts2 (form1 ∙ sym form2) (size1 ∙ sym size2) is1 is2) ∙ sym e2
+  one_data conn body step other (TakesData.is_second_key fault1 parts1 wrong1 may1 form1 size1 is1 e1) (TakesData.no_data fault2 wrong2 no_key2 e2) =
+      absurd (key_or_none conn.shape (may_be_second_key conn) parts1 body may1 form1 size1 is1 no_key2)
+  one_data conn body step other (TakesData.no_data fault1 wrong1 no_key1 e1) (TakesData.hears parts2 form2 size2 is2 e2) =
+      absurd (inbound_or_fault conn.shape (form_awaited conn.pending) parts2 fault1 body form2 size2 is2 wrong1)
+  one_data conn body step other (TakesData.no_data fault1 wrong1 no_key1 e1) (TakesData.is_second_key fault2 parts2 wrong2 may2 form2 size2 is2 e2) =
+      absurd (key_or_none conn.shape (may_be_second_key conn) parts2 body may2 form2 size2 is2 no_key1)
+  one_data conn body step other (TakesData.no_data fault1 wrong1 no_key1 e1) (TakesData.no_data fault2 wrong2 no_key2 e2) =
+      e1 ∙ sym e2
+
   one_record : (conn : Conn) (bytes : List ℕ) (step other : HostStep) → TakesRecord conn bytes step → TakesRecord conn bytes other → step ≡ other
   one_record conn bytes step other (TakesRecord.no_header fault1 has1 e1) (TakesRecord.no_header fault2 has2 e2) =
       e1 ∙ sym e2
   one_record conn bytes step other (TakesRecord.no_header fault1 has1 e1) (TakesRecord.dropped header2 body2 begins2 kind2 e2) =
-      absurd (fault_or_header bytes fault1 header2 body2 has1 begins2)
-  one_record conn bytes step other (TakesRecord.no_header fault1 has1 e1) (TakesRecord.no_data header2 body2 fault2 begins2 kind2 wrong2 e2) =
-      absurd (fault_or_header bytes fault1 header2 body2 has1 begins2)
-  one_record conn bytes step other (TakesRecord.no_header fault1 has1 e1) (TakesRecord.hears header2 body2 parts2 begins2 kind2 form2 size2 is2 e2) =
       absurd (fault_or_header bytes fault1 header2 body2 has1 begins2)
   one_record conn bytes step other (TakesRecord.no_header fault1 has1 e1) (TakesRecord.answered header2 body2 begins2 kind2 e2) =
       absurd (fault_or_header bytes fault1 header2 body2 has1 begins2)
@@ -60,43 +81,28 @@ module _ (one_header : OneHeader) (fault_or_header : FaultIsNoHeader) (one_heari
       absurd (fault_or_header bytes fault2 header1 body1 has2 begins1)
   one_record conn bytes step other (TakesRecord.dropped header1 body1 begins1 kind1 e1) (TakesRecord.dropped header2 body2 begins2 kind2 e2) =
       e1 ∙ sym e2
-  one_record conn bytes step other (TakesRecord.dropped header1 body1 begins1 kind1 e1) (TakesRecord.no_data header2 body2 fault2 begins2 kind2 wrong2 e2) =
-      absurd (no_other_data header1.kind kind1 ((same_kind bytes header1 header2 body1 body2 begins1 begins2) ∙ kind2))
-  one_record conn bytes step other (TakesRecord.dropped header1 body1 begins1 kind1 e1) (TakesRecord.hears header2 body2 parts2 begins2 kind2 form2 size2 is2 e2) =
-      absurd (no_other_data header1.kind kind1 ((same_kind bytes header1 header2 body1 body2 begins1 begins2) ∙ kind2))
   one_record conn bytes step other (TakesRecord.dropped header1 body1 begins1 kind1 e1) (TakesRecord.answered header2 body2 begins2 kind2 e2) =
       absurd (no_other_response header1.kind kind1 ((same_kind bytes header1 header2 body1 body2 begins1 begins2) ∙ kind2))
-  one_record conn bytes step other (TakesRecord.no_data header1 body1 fault1 begins1 kind1 wrong1 e1) (TakesRecord.no_header fault2 has2 e2) =
-      absurd (fault_or_header bytes fault2 header1 body1 has2 begins1)
-  one_record conn bytes step other (TakesRecord.no_data header1 body1 fault1 begins1 kind1 wrong1 e1) (TakesRecord.dropped header2 body2 begins2 kind2 e2) =
-      absurd (no_other_data header2.kind kind2 (sym (same_kind bytes header1 header2 body1 body2 begins1 begins2) ∙ kind1))
-  one_record conn bytes step other (TakesRecord.no_data header1 body1 fault1 begins1 kind1 wrong1 e1) (TakesRecord.no_data header2 body2 fault2 begins2 kind2 wrong2 e2) =
-      e1 ∙ sym e2
-  one_record conn bytes step other (TakesRecord.no_data header1 body1 fault1 begins1 kind1 wrong1 e1) (TakesRecord.hears header2 body2 parts2 begins2 kind2 form2 size2 is2 e2) =
-      absurd (inbound_or_fault conn.shape (form_awaited conn.pending) parts2 fault1 body2 form2 size2 is2 (subst (λ (b : List ℕ). IsNoInbound conn.shape (form_awaited conn.pending) fault1 b) (same_body bytes header1 header2 body1 body2 begins1 begins2) wrong1))
-  one_record conn bytes step other (TakesRecord.no_data header1 body1 fault1 begins1 kind1 wrong1 e1) (TakesRecord.answered header2 body2 begins2 kind2 e2) =
-      absurd (data_or_response header1.kind kind1 ((same_kind bytes header1 header2 body1 body2 begins1 begins2) ∙ kind2))
-  one_record conn bytes step other (TakesRecord.hears header1 body1 parts1 begins1 kind1 form1 size1 is1 e1) (TakesRecord.no_header fault2 has2 e2) =
-      absurd (fault_or_header bytes fault2 header1 body1 has2 begins1)
-  one_record conn bytes step other (TakesRecord.hears header1 body1 parts1 begins1 kind1 form1 size1 is1 e1) (TakesRecord.dropped header2 body2 begins2 kind2 e2) =
-      absurd (no_other_data header2.kind kind2 (sym (same_kind bytes header1 header2 body1 body2 begins1 begins2) ∙ kind1))
-  one_record conn bytes step other (TakesRecord.hears header1 body1 parts1 begins1 kind1 form1 size1 is1 e1) (TakesRecord.no_data header2 body2 fault2 begins2 kind2 wrong2 e2) =
-      absurd (inbound_or_fault conn.shape (form_awaited conn.pending) parts1 fault2 body1 form1 size1 is1 (subst (λ (b : List ℕ). IsNoInbound conn.shape (form_awaited conn.pending) fault2 b) (sym (same_body bytes header1 header2 body1 body2 begins1 begins2)) wrong2))
-  one_record conn bytes step other (TakesRecord.hears header1 body1 parts1 begins1 kind1 form1 size1 is1 e1) (TakesRecord.hears header2 body2 parts2 begins2 kind2 form2 size2 is2 e2) =
-      let is = subst (λ (b : List ℕ). IsInbound parts2 b) (sym (same_body bytes header1 header2 body1 body2 begins1 begins2)) is2 in
-      e1 ∙ ap (λ (parts : InboundParts). data_came parts conn.turn conn.pending conn) (one_inbound body1 parts1 parts2 (form1 ∙ sym form2) (size1 ∙ sym size2) is1 is) ∙ sym e2
-  one_record conn bytes step other (TakesRecord.hears header1 body1 parts1 begins1 kind1 form1 size1 is1 e1) (TakesRecord.answered header2 body2 begins2 kind2 e2) =
-      absurd (data_or_response header1.kind kind1 ((same_kind bytes header1 header2 body1 body2 begins1 begins2) ∙ kind2))
   one_record conn bytes step other (TakesRecord.answered header1 body1 begins1 kind1 e1) (TakesRecord.no_header fault2 has2 e2) =
       absurd (fault_or_header bytes fault2 header1 body1 has2 begins1)
   one_record conn bytes step other (TakesRecord.answered header1 body1 begins1 kind1 e1) (TakesRecord.dropped header2 body2 begins2 kind2 e2) =
       absurd (no_other_response header2.kind kind2 (sym (same_kind bytes header1 header2 body1 body2 begins1 begins2) ∙ kind1))
-  one_record conn bytes step other (TakesRecord.answered header1 body1 begins1 kind1 e1) (TakesRecord.no_data header2 body2 fault2 begins2 kind2 wrong2 e2) =
-      absurd (data_or_response header1.kind ((same_kind bytes header1 header2 body1 body2 begins1 begins2) ∙ kind2) kind1)
-  one_record conn bytes step other (TakesRecord.answered header1 body1 begins1 kind1 e1) (TakesRecord.hears header2 body2 parts2 begins2 kind2 form2 size2 is2 e2) =
-      absurd (data_or_response header1.kind ((same_kind bytes header1 header2 body1 body2 begins1 begins2) ∙ kind2) kind1)
   one_record conn bytes step other (TakesRecord.answered header1 body1 begins1 kind1 e1) (TakesRecord.answered header2 body2 begins2 kind2 e2) =
       e1 ∙ ap (λ (h : Header). response_came h.seq (verdict_of h.flag) conn.pending conn) (one_header bytes header1 header2 body1 body2 begins1 begins2).0 ∙ sym e2
+  one_record conn bytes step other (TakesRecord.no_header fault1 has1 e1) (TakesRecord.data_is header2 body2 begins2 kind2 takes2) =
+      absurd (fault_or_header bytes fault1 header2 body2 has1 begins2)
+  one_record conn bytes step other (TakesRecord.data_is header1 body1 begins1 kind1 takes1) (TakesRecord.no_header fault2 has2 e2) =
+      absurd (fault_or_header bytes fault2 header1 body1 has2 begins1)
+  one_record conn bytes step other (TakesRecord.dropped header1 body1 begins1 kind1 e1) (TakesRecord.data_is header2 body2 begins2 kind2 takes2) =
+      absurd (no_other_data header1.kind kind1 ((same_kind bytes header1 header2 body1 body2 begins1 begins2) ∙ kind2))
+  one_record conn bytes step other (TakesRecord.data_is header1 body1 begins1 kind1 takes1) (TakesRecord.dropped header2 body2 begins2 kind2 e2) =
+      absurd (no_other_data header2.kind kind2 (sym (same_kind bytes header1 header2 body1 body2 begins1 begins2) ∙ kind1))
+  one_record conn bytes step other (TakesRecord.data_is header1 body1 begins1 kind1 takes1) (TakesRecord.data_is header2 body2 begins2 kind2 takes2) =
+      one_data conn body1 step other takes1 (subst (λ (b : List ℕ). TakesData conn b other) (sym (same_body bytes header1 header2 body1 body2 begins1 begins2)) takes2)
+  one_record conn bytes step other (TakesRecord.data_is header1 body1 begins1 kind1 takes1) (TakesRecord.answered header2 body2 begins2 kind2 e2) =
+      absurd (data_or_response header1.kind kind1 ((same_kind bytes header1 header2 body1 body2 begins1 begins2) ∙ kind2))
+  one_record conn bytes step other (TakesRecord.answered header1 body1 begins1 kind1 e1) (TakesRecord.data_is header2 body2 begins2 kind2 takes2) =
+      absurd (data_or_response header1.kind ((same_kind bytes header1 header2 body1 body2 begins1 begins2) ∙ kind2) kind1)
 
   -- ---- an item
 

@@ -15,7 +15,7 @@ use Rattle.shadow.specs.Stores.{is_plain}
 use Rattle.telnet_wire.specs.Items.{Record, sent_bytes}
 use Rattle.tn3270e_msg.specs.Header.{spelling, always_response, next_number}
 use Rattle.host_core.proofs.Commands.{IsSentCode, sent_command, read_behind, plain_behind}
-use Rattle.host_core.specs.Acts.{Act, done, wanted_by}
+use Rattle.host_core.specs.Acts.{painted, wanted_by}
 use Rattle.host_core.specs.Application.{Application}
 use Rattle.host_core.specs.Keeps.{BelievesTheSize, command_in, pending_in, IsPlainWrite, IsSentOn}
 use Rattle.host_core.specs.Messages.{ToTerminal}
@@ -132,7 +132,7 @@ pub shows : (app : Application) (conn new : Conn) (asked : ℕ) (message : Messa
       values = values;
     }
     → after.items ≡ before.items ++ sent_bytes (Record sent ∷ [])
-    → IsSentOn (done app conn (Act.Show asked message keep values)) before after new
+    → IsSentOn (painted app conn asked message keep values) before after new
 unfolding shown_conn
 shows app conn new asked message keep values wanted sent before after chosen spelt begun is put =
     let panel : ℕ = app.shown (model_in conn) asked in

@@ -1,22 +1,22 @@
 -- What a record makes of a connection, as the code takes it.
-use Rattle.std.proofs.Common.{◌≡◌, ◌≢◌, ◌-◌, ℕ, true, false, List, length, take, drop, refl, ap, sym, ◌∙◌, subst, Option, Some, None, Result, Ok, Err, arith}
+use Rattle.std.proofs.Common.{◌≡◌, ◌≢◌, ◌-◌, ℕ, Bool, true, false, List, length, take, drop, refl, ap, ◌∙◌, Option, Some, None, Result, Ok, Err, arith}
 use Rattle.std.specs.Option.{is_some}
 use Rattle.std.proofs.lemmas.List.{take_all, length-drop}
 use Rattle.codes3270.specs.Size.{Shape}
 use Rattle.datastream.specs.InboundText.{InboundParts, IsInbound, IsNoInbound}
 use Rattle.datastream.specs.declared.inbound_part.Form.{Form}
-use Rattle.datastream.specs.declared.inbound_part.Form.TheVariants.{Buffer}
+use Rattle.datastream.specs.declared.inbound_part.Form.TheVariants.{Buffer, Modified}
 use Rattle.datastream.specs.declared.inbound_part.InboundFault.{InboundFault}
 use Rattle.shadow.specs.Belief.{Shadow}
 use Rattle.shadow.specs.declared.fault.HeardFault.{HeardFault}
-use Rattle.tn3270e_msg.specs.Header.{Begins}
 use Rattle.tn3270e_msg.specs.declared.cause.Cause.{Cause}
 use Rattle.tn3270e_msg.specs.declared.cause.Cause.TheVariants.{BadInbound}
 use Rattle.tn3270e_msg.specs.declared.header.DataType.{DataType}
 use Rattle.tn3270e_msg.specs.declared.header.DataType.TheVariants.{Data3270, ScsData, Response, BindImage, Unbind, NvtData, Request, SscpLuData, Unnamed}
-use Rattle.tn3270e_msg.specs.declared.header.Header.{Header}
-use Rattle.host_core.specs.Items.{TakesRecord, IsOther}
-use Rattle.host_core.specs.Keeps.{IsKept, IsPlainWrite, pending_in, silent}
+use Rattle.host_core.specs.declared.after_record.AfterRecord.{AfterRecord}
+use Rattle.host_core.specs.declared.after_record.AfterRecord.TheVariants.{Closes}
+use Rattle.host_core.specs.Items.{IsNoSecondKey, IsOther, TakesData, may_be_second_key}
+use Rattle.host_core.specs.Keeps.{IsKept, IsPlainWrite, pending_in, silent, step_of}
 use Rattle.host_core.specs.Parts.{IsWrite}
 use Rattle.host_core.specs.Session.{Conn, Pending}
 use Rattle.host_core.specs.Takes.{HostStep, believed, buffer_came, data_came, form_awaited, hears, once_read}
@@ -42,20 +42,17 @@ refuses (Ok shadow) turn_reason cursor old mid cause came some =
     absurd (let closes : is_some cause ≡ false = ap (λ (c : Option Cause). is_some c) goes in cc)
 refuses (Err fault) turn_reason cursor old mid cause came some = came
 
-came_in : (parts : InboundParts) (old : Conn) → parts.form ≡ Buffer → believed (once_read old.turn_reason) Pending.Nothing parts.cursor old (hears parts old) ≡ buffer_came parts parts.form old
-came_in parts old form = ap (λ (f : Form). buffer_came parts f old) (sym form)
-
-pub buffer_believed : (parts : InboundParts) (turn_reason : TurnReason) (old mid : Conn) (cause : Option Cause) → parts.form ≡ Buffer → turn_reason ≡ once_read old.turn_reason
+pub buffer_believed : (parts : InboundParts) (turn_reason : TurnReason) (old mid : Conn) (cause : Option Cause) → turn_reason ≡ once_read old.turn_reason
     → silent mid cause ≡ believed turn_reason old.pending parts.cursor old (hears parts old) → is_some cause ≡ false
-    → silent (record mid { pending = Pending.Nothing }) cause ≡ buffer_came parts parts.form old
-buffer_believed parts turn_reason old mid cause form read came none =
-    ends (hears parts old) turn_reason parts.cursor old mid cause came none ∙ ap (λ (o : TurnReason). believed o Pending.Nothing parts.cursor old (hears parts old)) read ∙ came_in parts old form
+    → silent (record mid { pending = Pending.Nothing }) cause ≡ buffer_came parts Buffer old
+buffer_believed parts turn_reason old mid cause read came none =
+    ends (hears parts old) turn_reason parts.cursor old mid cause came none ∙ ap (λ (o : TurnReason). believed o Pending.Nothing parts.cursor old (hears parts old)) read
 
-pub buffer_refused : (parts : InboundParts) (turn_reason : TurnReason) (old mid : Conn) (cause : Option Cause) → parts.form ≡ Buffer → turn_reason ≡ once_read old.turn_reason
+pub buffer_refused : (parts : InboundParts) (turn_reason : TurnReason) (old mid : Conn) (cause : Option Cause) → turn_reason ≡ once_read old.turn_reason
     → silent mid cause ≡ believed turn_reason old.pending parts.cursor old (hears parts old) → is_some cause ≡ true
-    → silent mid cause ≡ buffer_came parts parts.form old
-buffer_refused parts turn_reason old mid cause form read came some =
-    refuses (hears parts old) turn_reason parts.cursor old mid cause came some ∙ ap (λ (o : TurnReason). believed o Pending.Nothing parts.cursor old (hears parts old)) read ∙ came_in parts old form
+    → silent mid cause ≡ buffer_came parts Buffer old
+buffer_refused parts turn_reason old mid cause read came some =
+    refuses (hears parts old) turn_reason parts.cursor old mid cause came some ∙ ap (λ (o : TurnReason). believed o Pending.Nothing parts.cursor old (hears parts old)) read
 
 -- ---- the write that waits for its answer
 
@@ -82,13 +79,28 @@ other_type Request no_data no_response = tt
 other_type SscpLuData no_data no_response = tt
 other_type (Unnamed code) no_data no_response = tt
 
-pub of_no_data : (old : Conn) (bytes : List ℕ) (header : Header) (body : List ℕ) (form : Form) (fault : InboundFault) → Begins bytes header body → header.kind ≡ Data3270
-    → form ≡ form_awaited old.pending → IsNoInbound old.shape form fault body → TakesRecord old bytes (silent old (Some BadInbound))
-of_no_data old bytes header body form fault begins kind awaited wrong =
-    TakesRecord.no_data header body fault begins kind (subst (λ (f : Form). IsNoInbound old.shape f fault body) awaited wrong) refl
-
-pub of_data : (old new : Conn) (bytes : List ℕ) (cause : Option Cause) (header : Header) (body : List ℕ) (form : Form) (parts : InboundParts) → Begins bytes header body → header.kind ≡ Data3270
+pub of_data : (old new : Conn) (after : AfterRecord) (body : List ℕ) (form : Form) (parts : InboundParts)
     → form ≡ form_awaited old.pending → parts.form ≡ form → parts.size ≡ old.shape → IsInbound parts body
-    → silent new cause ≡ data_came parts old.turn old.pending old → TakesRecord old bytes (silent new cause)
-of_data old new bytes cause header body form parts begins kind awaited read sized is came =
-    TakesRecord.hears header body parts begins kind (read ∙ awaited) sized is came
+    → step_of new after ≡ data_came parts old.turn old.pending old → TakesData old body (step_of new after)
+of_data old new after body form parts awaited read sized is came = TakesData.hears parts (read ∙ awaited) sized is came
+
+pub of_second_key : (old new : Conn) (after : AfterRecord) (body : List ℕ) (fault : InboundFault) (parts : InboundParts) → IsNoInbound old.shape (form_awaited old.pending) fault body
+    → may_be_second_key old ≡ true → parts.form ≡ Modified → parts.size ≡ old.shape → IsInbound parts body
+    → step_of new after ≡ data_came parts old.turn old.pending old → TakesData old body (step_of new after)
+of_second_key old new after body fault parts wrong may form sized is came = TakesData.is_second_key fault parts wrong may form sized is came
+
+no_second_key : (may : Bool) (shape : Shape) (body : List ℕ) → may ≡ false → IsNoSecondKey may shape body
+no_second_key true shape body is = absurd (cc)
+no_second_key false shape body is = tt
+
+still_no_key : (may : Bool) (shape : Shape) (body : List ℕ) (fault : InboundFault) → IsNoInbound shape Modified fault body → IsNoSecondKey may shape body
+still_no_key true shape body fault wrong = (fault, wrong)
+still_no_key false shape body fault wrong = tt
+
+pub of_no_key : (old : Conn) (body : List ℕ) (fault : InboundFault) → IsNoInbound old.shape (form_awaited old.pending) fault body → may_be_second_key old ≡ false
+    → TakesData old body (step_of old (Closes BadInbound))
+of_no_key old body fault wrong may = TakesData.no_data fault wrong (no_second_key (may_be_second_key old) old.shape body may) refl
+
+pub of_no_data : (old : Conn) (body : List ℕ) (fault other : InboundFault) → IsNoInbound old.shape (form_awaited old.pending) fault body → IsNoInbound old.shape Modified other body
+    → TakesData old body (step_of old (Closes BadInbound))
+of_no_data old body fault other wrong no_key = TakesData.no_data fault wrong (still_no_key (may_be_second_key old) old.shape body other no_key) refl

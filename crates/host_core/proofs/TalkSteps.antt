@@ -30,14 +30,16 @@ use Rattle.tn3270e_msg.specs.declared.reply.Reply.{Reply}
 use Rattle.tn3270e_msg.specs.declared.reply.Reply.TheVariants as reply
 use Rattle.tn3270e_msg.specs.declared.reply.OwnedMessage.TheVariants as sent
 use Rattle.host_core.specs.Items.{TakesItem, TakesRecord, TakesRecordIf, Talks}
-use Rattle.host_core.specs.Keeps.{ItemTaken, OthersHold, silent}
+use Rattle.host_core.specs.Keeps.{ItemTaken, OthersHold, step_of}
+use Rattle.host_core.specs.declared.after_record.AfterRecord.{AfterRecord}
+use Rattle.host_core.specs.declared.after_record.AfterRecord.TheVariants.{GoesOn, Closes, Drops}
 use Rattle.host_core.specs.Sound.{HoldsJust}
 use Rattle.host_core.specs.Parts.{TalkTaken}
 use Rattle.host_core.specs.Messages.{ToTerminal}
-use Rattle.host_core.specs.Rejections.{kept_with, lu_asked, rejection_by}
+use Rattle.host_core.specs.Rejections.{lu_asked, rejection_by}
 use Rattle.host_core.specs.Says.{item_sent}
 use Rattle.host_core.specs.Session.{Conn, is_agreed}
-use Rattle.host_core.specs.declared.rejection.Rejection.{Rejection}
+use Rattle.host_core.specs.Reports.{Reports, reported}
 use Rattle.host_core.specs.Takes.{Answers, HostStep, asked, granted_by, quiet, replied, talked, talked_on, with_talk}
 
 -- ---- the table
@@ -264,8 +266,8 @@ sent_down : (answer : Reply) (before after : List ℕ) → after ≡ before ++ s
 sent_down answer before after sent = sent ∙ ap (λ (items : List WireItem). before ++ sent_bytes items) (sends_down answer)
 
 -- the rejection of what came is kept, if the reply to it is one
-abbrev pub KeepsRejection : WireItem → Reply → List Rejection → List Rejection → Type 0
-KeepsRejection item answer kept keeps = (comes : Comes) → Hears item comes → keeps ≡ kept_with (rejection_by (lu_asked comes) answer) kept
+abbrev pub KeepsRejection : WireItem → Reply → Reports → Reports → Type 0
+KeepsRejection item answer kept keeps = (comes : Comes) → Hears item comes → keeps ≡ reported (rejection_by (lu_asked comes) answer) None kept
 
 -- the talk replied by itself
 talked_by : (pool : Answers) (conn : Conn) (lu : Option (List ℕ)) (new : Talk HostState) (answer : Reply) → ((name : Option (List ℕ)) → answer ≡ reply.AskPool name → ⊥)
@@ -289,7 +291,7 @@ with_closes step closes is = ap (λ (c : Option Cause). record step { closes = c
 
 pub replies : (number : ℕ) (pool : List Entry) (old new : Talk HostState) (item : WireItem) (answer : Reply) (before after : Vec ℕ Global) (closes : Option Cause)
     → ((name : Option (List ℕ)) → answer ≡ reply.AskPool name → ⊥) → HostTakes old item answer new → closes ≡ closing answer
-    → after.items ≡ before.items ++ sent_bytes (items_sent answer) → (kept keeps : List Rejection) → KeepsRejection item answer kept keeps
+    → after.items ≡ before.items ++ sent_bytes (items_sent answer) → (kept keeps : Reports) → KeepsRejection item answer kept keeps
     → TalkTaken number pool old item before after closes pool new kept keeps
 replies number pool old new item answer before after closes other takes ends sent kept keeps rejection = record {
   sends = map ToTerminal.TalksDown (sayings answer);
@@ -302,7 +304,7 @@ replies number pool old new item answer before after closes other takes ends sen
   );
   pool_is = refl;
   sent = sent_down answer before.items after.items sent;
-  rejections = rejection takes.comes takes.hears;
+  reports = rejection takes.comes takes.hears;
 }
 
 -- the pool was asked, and the talk replied by its answer
@@ -316,7 +318,7 @@ answered_by pool conn lu mid new name answer said answered is =
 pub replies_by_pool : (number : ℕ) (pool left : List Entry) (old mid new : Talk HostState) (item : WireItem) (name : Option (List ℕ)) (answer : Result (List ℕ) Reason) (said : Reply)
     (before after : Vec ℕ Global) (closes : Option Cause) → HostTakes old item (reply.AskPool name) mid → answer ≡ answer_to pool name → HostAnswered mid answer said new
     → left ≡ granted_if number (granted_by answer) pool → closes ≡ closing said → after.items ≡ before.items ++ sent_bytes (items_sent said)
-    → (kept keeps : List Rejection) → KeepsRejection item said kept keeps → TalkTaken number pool old item before after closes left new kept keeps
+    → (kept keeps : Reports) → KeepsRejection item said kept keeps → TalkTaken number pool old item before after closes left new kept keeps
 replies_by_pool number pool left old mid new item name answer said before after closes takes is answered granting ends sent kept keeps rejection = record {
   sends = map ToTerminal.TalksDown (sayings said);
   grants = granted_by answer;
@@ -329,7 +331,7 @@ replies_by_pool number pool left old mid new item name answer said before after 
   );
   pool_is = granting;
   sent = sent_down said before.items after.items sent;
-  rejections = rejection takes.comes takes.hears;
+  reports = rejection takes.comes takes.hears;
 }
 
 -- what is granted by the answer
@@ -385,18 +387,18 @@ for_talk pool conn (Other code) step other talks = talks
 
 -- all but a record is for the talk
 pub talk_taken : (number : ℕ) (pool left : List Entry) (before old new : Conn) (talk : Talk HostState) (item : WireItem) (said out : Vec ℕ Global) (closes : Option Cause)
-    → ((bytes : List ℕ) → item ≡ Record bytes → ⊥) → before ≡ old → (kept keeps : List Rejection) → TalkTaken number pool before.talk item said out closes left talk kept keeps → new ≡ with_talk before talk
+    → ((bytes : List ℕ) → item ≡ Record bytes → ⊥) → before ≡ old → (kept keeps : Reports) → TalkTaken number pool before.talk item said out closes left talk kept keeps → new ≡ with_talk before talk
     → ItemTaken number pool old item said out closes left new kept keeps
 talk_taken number pool left before old new talk item said out closes other same kept keeps taken is =
     subst (λ (from : Conn). ItemTaken number pool from item said out closes left new kept keeps) same
     (record {
-      step = record { conn = with_talk before talk; sends = taken.sends; grants = taken.grants; rejects = taken.rejects; closes = closes };
+      step = record { conn = with_talk before talk; sends = taken.sends; grants = taken.grants; rejects = taken.rejects; drops = None; closes = closes };
       takes = for_talk (answer_to pool) before item _ other (taken.talks before refl);
       conn = is;
       ends = refl;
       pool_is = taken.pool_is;
       sent = taken.sent;
-      rejections = taken.rejections;
+      reports = taken.reports;
     })
 
 if_agreed : (state : HostState) (bytes : List ℕ) (old : Conn) (step : HostStep) → is_agreed state ≡ true → TakesRecord old bytes step → TakesRecordIf (is_agreed state) old bytes step
@@ -412,20 +414,39 @@ none_sent : (bytes : List ℕ) → bytes ≡ bytes ++ sent_bytes []
 none_sent bytes = sym (append-nil bytes)
 
 -- a record that is taken
-pub record_taken : (number : ℕ) (pool : List Entry) (old new : Conn) (item : WireItem) (bytes : List ℕ) (out : Vec ℕ Global) (closes : Option Cause) (kept : List Rejection)
-    → item ≡ Record bytes → is_agreed old.talk.state ≡ true → TakesRecord old bytes (silent new closes) → ItemTaken number pool old item out out closes pool new kept kept
-record_taken number pool old new item bytes out closes kept is agreed takes = record {
-  step = silent new closes;
-  takes = of_record (answer_to pool) old item bytes (silent new closes) is (if_agreed old.talk.state bytes old (silent new closes) agreed takes);
+pub record_taken : (number : ℕ) (pool : List Entry) (old new : Conn) (item : WireItem) (bytes : List ℕ) (out : Vec ℕ Global) (after : AfterRecord) (closes : Option Cause) (kept keeps : Reports)
+    → item ≡ Record bytes → is_agreed old.talk.state ≡ true → TakesRecord old bytes (step_of new after) → closes ≡ (step_of new after).closes → keeps ≡ reported None (step_of new after).drops kept
+    → ItemTaken number pool old item out out closes pool new kept keeps
+record_taken number pool old new item bytes out GoesOn closes kept keeps is agreed takes ends reports = record {
+  step = step_of new GoesOn;
+  takes = of_record (answer_to pool) old item bytes (step_of new GoesOn) is (if_agreed old.talk.state bytes old (step_of new GoesOn) agreed takes);
   conn = refl;
-  ends = refl;
+  ends = ends;
   pool_is = refl;
   sent = none_sent out.items;
-  rejections = refl;
+  reports = reports;
+}
+record_taken number pool old new item bytes out (Closes cause) closes kept keeps is agreed takes ends reports = record {
+  step = step_of new (Closes cause);
+  takes = of_record (answer_to pool) old item bytes (step_of new (Closes cause)) is (if_agreed old.talk.state bytes old (step_of new (Closes cause)) agreed takes);
+  conn = refl;
+  ends = ends;
+  pool_is = refl;
+  sent = none_sent out.items;
+  reports = reports;
+}
+record_taken number pool old new item bytes out (Drops aid) closes kept keeps is agreed takes ends reports = record {
+  step = step_of new (Drops aid);
+  takes = of_record (answer_to pool) old item bytes (step_of new (Drops aid)) is (if_agreed old.talk.state bytes old (step_of new (Drops aid)) agreed takes);
+  conn = refl;
+  ends = ends;
+  pool_is = refl;
+  sent = none_sent out.items;
+  reports = reports;
 }
 
 -- one that is dropped
-pub record_dropped : (number : ℕ) (pool : List Entry) (old : Conn) (item : WireItem) (bytes : List ℕ) (out : Vec ℕ Global) (kept : List Rejection)
+pub record_dropped : (number : ℕ) (pool : List Entry) (old : Conn) (item : WireItem) (bytes : List ℕ) (out : Vec ℕ Global) (kept : Reports)
     → item ≡ Record bytes → is_agreed old.talk.state ≡ false → ItemTaken number pool old item out out None pool old kept kept
 record_dropped number pool old item bytes out kept is other = record {
   step = quiet old;
@@ -434,7 +455,7 @@ record_dropped number pool old item bytes out kept is other = record {
   ends = refl;
   pool_is = refl;
   sent = none_sent out.items;
-  rejections = refl;
+  reports = refl;
 }
 
 pub same_talk : (number : ℕ) (pool : List Entry) (old new : Conn) → new.talk ≡ old.talk → HoldsJust number pool (granted old.talk.state) → HoldsJust number pool (granted new.talk.state)

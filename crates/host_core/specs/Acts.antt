@@ -8,6 +8,7 @@ use Rattle.codes3270.specs.Size.{cells_in}
 use Rattle.datastream.specs.Wanted.{WantedScreen}
 use Rattle.shadow.specs.Asked.{field_at}
 use Rattle.shadow.specs.Belief.{Fact, Belief, Shadow}
+use Rattle.shadow.specs.Doubt.{doubted}
 use Rattle.shadow.specs.Fits.{fits}
 use Rattle.shadow.specs.Meets.{told}
 use Rattle.shadow.specs.Paint.{paint}
@@ -25,6 +26,8 @@ use Rattle.host_core.specs.declared.turn.Turn.{Turn}
 use Rattle.host_core.specs.declared.turn.Turn.TheVariants as whose
 use Rattle.host_core.specs.declared.turn_reason.TurnReason.{TurnReason}
 use Rattle.host_core.specs.declared.turn_reason.TurnReason.TheVariants as turn_reasons
+use Rattle.host_core.specs.declared.unheard.Unheard.{Unheard}
+use Rattle.host_core.specs.declared.unheard.Unheard.TheVariants as unheards
 use Rattle.host_core.specs.Session.{Conn, Pending, is_agreed, model_in}
 
 -- what the host may do: read the whole screen, or show a panel, in the form for the terminal's model, with a message and with these
@@ -122,6 +125,25 @@ decision_on app conn turn_reasons.Agreement = Decision.Do (Act.Show app.start Fr
 decision_on app conn (turn_reasons.Key aid buffered) = after_key app conn aid buffered
 decision_on app conn turn_reasons.Refusal = Decision.Do (Act.Show conn.panel (repeated conn.message) false conn.values)
 
+-- ---- what is believed when a panel is shown
+
+-- of what may have happened unheard nothing is known: not the input that may have been changed, nor the screen that was cleared
+abbrev pub known_despite : Unheard → Shadow → Shadow
+known_despite unheards.Nothing shadow = shadow
+known_despite unheards.Input shadow = doubted shadow
+known_despite unheards.Clear shadow = Shadow.NothingKnown
+
+-- what may happen unheard once a panel is shown: after an erase a screen isn't cleared any more
+abbrev pub unheard_next : Unheard → Unheard
+unheard_next unheards.Nothing = unheards.Nothing
+unheard_next unheards.Input = unheards.Input
+unheard_next unheards.Clear = unheards.Input
+
+-- the connection when a panel is shown on it: paint and fields that are kept are over this belief. What the host decides, asks and learns
+-- is by the belief of before, which is what it was told.
+abbrev pub when_shown : Conn → Conn
+when_shown conn = record conn { shadow = known_despite conn.unheard conn.shadow; unheard = unheard_next conn.unheard }
+
 -- ---- what is sent
 
 -- the screen that is wanted: one that keeps fields where that fits what is believed
@@ -136,14 +158,10 @@ pub record Sent : Type 0 where
   pub conn : Conn
   pub message : ToTerminal
 
--- What is believed stays as it is until the command is answered. The size of the connection changes when the command is sent: it is an
--- erase unless what is believed has that size.
-abbrev pub done : Application → Conn → Act → Sent
-done app conn Act.Read = record {
-  conn = record conn { pending = Pending.Reading conn.next_seq; next_seq = next_number conn.next_seq };
-  message = ToTerminal.ReadBuffer conn.next_seq;
-}
-done app conn (Act.Show panel message keep values) =
+-- A panel is painted over what is believed, which stays so until the paint is answered. The size of the connection changes when the
+-- paint is sent: it is an erase unless what is believed has that size.
+abbrev pub painted : Application → Conn → ℕ → Message → Bool → Values → Sent
+painted app conn panel message keep values =
     let shown = app.shown (model_in conn) panel in
     let wanted = wanted_by app conn shown message keep values in
     record {
@@ -158,6 +176,13 @@ done app conn (Act.Show panel message keep values) =
       };
       message = ToTerminal.Paint conn.next_seq wanted conn.shadow;
     }
+
+abbrev pub done : Application → Conn → Act → Sent
+done app conn Act.Read = record {
+  conn = record conn { pending = Pending.Reading conn.next_seq; next_seq = next_number conn.next_seq };
+  message = ToTerminal.ReadBuffer conn.next_seq;
+}
+done app conn (Act.Show panel message keep values) = painted app (when_shown conn) panel message keep values
 
 -- it acts in its turn, once the session is agreed and its last command answered
 abbrev pub may_act : Turn → Pending → Bool → Bool

@@ -3,16 +3,21 @@
 use Rattle.std.specs.Prelude.{◌≡◌, ◌≢◌, true, ℕ, List, Option, None, Some}
 use Rattle.tn3270e_msg.specs.declared.cause.Cause.TheVariants.{BadResponse}
 use Rattle.tn3270e_msg.specs.Header.{next_number}
-use Rattle.host_core.specs.Acts.{Act, Sent, done}
+use Rattle.shadow.specs.Belief.{Shadow}
+use Rattle.host_core.specs.Acts.{Act, Sent, done, known_despite}
 use Rattle.host_core.specs.Notes.{noted_as}
 use Rattle.host_core.specs.Application.{Application}
 use Rattle.host_core.specs.Messages.{ToTerminal, ToHost, Verdict}
 use Rattle.host_core.specs.Session.{Conn, Pending, is_agreed}
 use Rattle.host_core.specs.Takes.{Answers, closed_by, took}
 
--- What is shown isn't believed before it is answered.
+-- What is shown isn't believed before it is answered: until then what was believed still is, but for what may have happened unheard.
+abbrev pub believed_meanwhile : Conn → Act → Shadow
+believed_meanwhile conn Act.Read = conn.shadow
+believed_meanwhile conn (Act.Show panel message keep values) = known_despite conn.unheard conn.shadow
+
 abbrev pub BelievesNoSooner : Type 0
-BelievesNoSooner = (app : Application) (conn : Conn) (act : Act) → (done app conn act).conn.shadow ≡ conn.shadow
+BelievesNoSooner = (app : Application) (conn : Conn) (act : Act) → (done app conn act).conn.shadow ≡ believed_meanwhile conn act
 
 -- Nor is a note.
 abbrev pub BelievesNotesNoSooner : Type 0

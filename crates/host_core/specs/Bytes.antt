@@ -11,7 +11,7 @@ use Rattle.tn3270e_msg.specs.Header.{record_limit}
 use Rattle.tn3270e_msg.specs.declared.cause.Cause.{Cause}
 use Rattle.tn3270e_msg.specs.declared.cause.Cause.TheVariants.{Wire}
 use Rattle.host_core.specs.Items.{TakesItem}
-use Rattle.host_core.specs.Rejections.{kept_with}
+use Rattle.host_core.specs.Reports.{reported}
 use Rattle.host_core.specs.Says.{item_sent}
 use Rattle.host_core.specs.Session.{Conn}
 use Rattle.host_core.specs.State.{Service, Connection}
@@ -26,14 +26,14 @@ abbrev pub service_after : Rest → Conn → Option Cause → Service
 service_after rest conn None = Service.Open rest conn
 service_after rest conn (Some cause) = Service.Closed cause
 
--- after an item: what is said is behind what is still to be sent, and a rejection behind those that weren't reported
+-- after an item: what is said is behind what is still to be sent, and a rejection or a dropped key behind those that weren't reported
 abbrev pub stepped : ℕ → Rest → HostStep → Counter → Counter
 stepped number rest step old = record {
   pool = pool_after number step old.pool;
   connection = record {
     service = service_after rest step.conn step.closes;
     out = old.connection.out ++ sent_bytes (map item_sent step.sends);
-    rejections = kept_with step.rejects old.connection.rejections;
+    reports = reported step.rejects step.drops old.connection.reports;
   };
 }
 

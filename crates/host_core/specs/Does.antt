@@ -1,15 +1,16 @@
 -- What acts and notes make of a connection number (our profile).
-use Rattle.std.specs.Prelude.{◌≡◌, ◌<◌, ◌+◌, ℕ, List, [], ◌∷◌, ◌++◌, length, Option, Some, None}
+use Rattle.std.specs.Prelude.{◌≡◌, ◌≢◌, ◌<◌, ◌+◌, ℕ, List, [], ◌∷◌, ◌++◌, length, Option, Some, None}
 use Rattle.panels.specs.Screen.{Values}
 use Rattle.panels.specs.Values.{HasToGrow, value_of}
 use Rattle.telnet_wire.specs.Items.{sent_bytes}
-use Rattle.host_core.specs.Acts.{Sent, acted}
+use Rattle.host_core.specs.Acts.{Sent, acted, learned}
 use Rattle.host_core.specs.Application.{Application}
 use Rattle.host_core.specs.Notes.{noted}
 use Rattle.host_core.specs.Rooms.{out_room, room_for}
 use Rattle.host_core.specs.Says.{item_sent}
 use Rattle.host_core.specs.Session.{Conn}
 use Rattle.host_core.specs.State.{Service, Connection}
+use Rattle.host_core.specs.declared.question.Answer.{Answer}
 use Rattle.host_core.specs.declared.acted.Acted.{Acted}
 use Rattle.host_core.specs.declared.acted.Acted.TheVariants.{Sent as IsSent, Nothing, Memory}
 
@@ -56,9 +57,25 @@ Does (Some sent) old IsSent new = new ≡ sent_on sent old
 Does (Some sent) old Memory new = (new ≡ old) × MayWantMemory sent old
 Does (Some sent) old Nothing new = ⊥
 
--- The same of what an application answers; but that takes memory for its values.
-abbrev pub DoesAnswer : Option Sent → Connection → Acted → Connection → Type 0
-DoesAnswer None old answer new = (answer ≡ Nothing) × (new ≡ old)
-DoesAnswer (Some sent) old IsSent new = new ≡ sent_on sent old
-DoesAnswer (Some sent) old Memory new = new ≡ old
-DoesAnswer (Some sent) old Nothing new = ⊥
+-- The values that an answer leads to can want memory for two reasons alone: the text that is known of some field is longer than the
+-- value that the host has of it, or the answer has values, which are set in a copy of all.
+pub data ValuesMayWantMemory (app : Application) (answer : Answer) (conn : Conn) : Type 0 where
+  known : Grow conn.values (learned conn.shadow (app.fields conn.panel) conn.values) → ValuesMayWantMemory app answer conn
+  copied : answer.values ≢ [] → ValuesMayWantMemory app answer conn
+
+abbrev pub MayWantValues : Application → Answer → Service → Type 0
+MayWantValues app answer Service.Free = ⊥
+MayWantValues app answer (Service.Open rest conn) = ValuesMayWantMemory app answer conn
+MayWantValues app answer (Service.Closed cause) = ⊥
+
+-- An answer can want memory for the room, as above, or for these values.
+pub data AnswerMayWantMemory (app : Application) (answer : Answer) (sent : Sent) (old : Connection) : Type 0 where
+  room : out_room < length old.out + room_for sent.message → AnswerMayWantMemory app answer sent old
+  values : MayWantValues app answer old.service → AnswerMayWantMemory app answer sent old
+
+-- If an answer is taken what it says is shown, or memory is refused and nothing has changed.
+abbrev pub DoesAnswer : Application → Answer → Option Sent → Connection → Acted → Connection → Type 0
+DoesAnswer app answer None old did new = (did ≡ Nothing) × (new ≡ old)
+DoesAnswer app answer (Some sent) old IsSent new = new ≡ sent_on sent old
+DoesAnswer app answer (Some sent) old Memory new = (new ≡ old) × AnswerMayWantMemory app answer sent old
+DoesAnswer app answer (Some sent) old Nothing new = ⊥

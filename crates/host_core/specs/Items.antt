@@ -1,7 +1,9 @@
 -- What a host makes of what the stream hands out: options and subnegotiations (RFC 1647, section 7), and records (sections 8.1 and
 -- 10.4). That others are dropped, and the causes, are our profile.
-use Rattle.std.specs.Prelude.{◌≡◌, ◌==◌, ⊤, ℕ, Bool, true, false, List, if◌then◌else◌}
+use Rattle.std.specs.Prelude.{◌≡◌, ◌==◌, ◌&&◌, ⊤, ℕ, Bool, true, false, List, if◌then◌else◌}
+use Rattle.codes3270.specs.Size.{Shape}
 use Rattle.datastream.specs.InboundText.{InboundParts, IsInbound, IsNoInbound}
+use Rattle.datastream.specs.declared.inbound_part.Form.TheVariants.{Modified}
 use Rattle.datastream.specs.declared.inbound_part.InboundFault.{InboundFault}
 use Rattle.telnet_wire.specs.Items.{WireItem, Record, Opt, Sub, Other}
 use Rattle.tn3270e_msg.specs.Header.{Begins, HasFault, positive}
@@ -12,8 +14,8 @@ use Rattle.tn3270e_msg.specs.declared.header.HeadFault.{HeadFault}
 use Rattle.tn3270e_msg.specs.declared.header.DataType.{DataType}
 use Rattle.tn3270e_msg.specs.declared.header.DataType.TheVariants.{Data3270, Response}
 use Rattle.host_core.specs.Messages.{Verdict}
-use Rattle.host_core.specs.Session.{Conn, is_agreed}
-use Rattle.host_core.specs.Takes.{Answers, HostStep, quiet, closed_by, form_awaited, data_came, response_came, talked}
+use Rattle.host_core.specs.Session.{Conn, Pending, is_agreed}
+use Rattle.host_core.specs.Takes.{Answers, HostStep, quiet, closed_by, form_awaited, data_came, may_have_changed, response_came, talked}
 
 -- what the flag of a response says
 abbrev pub verdict_of : ℕ → Verdict
@@ -25,16 +27,35 @@ IsOther Data3270 = ⊥
 IsOther Response = ⊥
 IsOther _ = ⊤
 
--- A record comes, once both ends agreed. Without a header the host closes; data is read in the form that it awaits, by the size of the
--- terminal's screen; of a response the header counts alone; other types are dropped.
+-- While a read is pending, data that isn't its answer may be a second key's, unless the host relies on the terminal's wait.
+abbrev pub is_read_pending : Pending → Bool
+is_read_pending Pending.Nothing = false
+is_read_pending (Pending.Writing number command) = false
+is_read_pending (Pending.Reading number) = true
+is_read_pending (Pending.Noting number command) = false
+
+abbrev pub may_be_second_key : Conn → Bool
+may_be_second_key conn = may_have_changed conn.unheard && is_read_pending conn.pending
+
+abbrev pub IsNoSecondKey : Bool → Shape → List ℕ → Type 0
+IsNoSecondKey false size body = ⊤
+IsNoSecondKey true size body = (fault : InboundFault) × IsNoInbound size Modified fault body
+
+-- Data comes. It is read in the form that the host awaits, by the size of the terminal's screen.
+pub data TakesData (conn : Conn) (body : List ℕ) (step : HostStep) : Type 0 where
+  hears : (parts : InboundParts) → parts.form ≡ form_awaited conn.pending → parts.size ≡ conn.shape → IsInbound parts body
+      → step ≡ data_came parts conn.turn conn.pending conn → TakesData conn body step
+  is_second_key : (fault : InboundFault) (parts : InboundParts) → IsNoInbound conn.shape (form_awaited conn.pending) fault body → may_be_second_key conn ≡ true
+      → parts.form ≡ Modified → parts.size ≡ conn.shape → IsInbound parts body → step ≡ data_came parts conn.turn conn.pending conn → TakesData conn body step
+  no_data : (fault : InboundFault) → IsNoInbound conn.shape (form_awaited conn.pending) fault body → IsNoSecondKey (may_be_second_key conn) conn.shape body
+      → step ≡ closed_by BadInbound conn → TakesData conn body step
+
+-- A record comes, once both ends agreed. Without a header the host closes; of a response the header counts alone; types other than it and
+-- data are dropped.
 pub data TakesRecord (conn : Conn) (bytes : List ℕ) (step : HostStep) : Type 0 where
   no_header : (fault : HeadFault) → HasFault bytes fault → step ≡ closed_by BadRecord conn → TakesRecord conn bytes step
   dropped : (header : Header) (body : List ℕ) → Begins bytes header body → IsOther header.kind → step ≡ quiet conn → TakesRecord conn bytes step
-  no_data : (header : Header) (body : List ℕ) (fault : InboundFault) → Begins bytes header body → header.kind ≡ Data3270
-      → IsNoInbound conn.shape (form_awaited conn.pending) fault body → step ≡ closed_by BadInbound conn → TakesRecord conn bytes step
-  hears : (header : Header) (body : List ℕ) (parts : InboundParts) → Begins bytes header body → header.kind ≡ Data3270
-      → parts.form ≡ form_awaited conn.pending → parts.size ≡ conn.shape → IsInbound parts body → step ≡ data_came parts conn.turn conn.pending conn
-      → TakesRecord conn bytes step
+  data_is : (header : Header) (body : List ℕ) → Begins bytes header body → header.kind ≡ Data3270 → TakesData conn body step → TakesRecord conn bytes step
   answered : (header : Header) (body : List ℕ) → Begins bytes header body → header.kind ≡ Response
       → step ≡ response_came header.seq (verdict_of header.flag) conn.pending conn → TakesRecord conn bytes step
 

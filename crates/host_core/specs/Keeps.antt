@@ -25,21 +25,23 @@ use Rattle.tn3270e_msg.specs.declared.cause.Stop.{Stop}
 use Rattle.tn3270e_msg.specs.declared.cause.Stop.TheVariants.{Going, Memory, Closed as ClosedStop}
 use Rattle.host_core.specs.Acts.{Act, Decision, Sent, is_to_be_read, learned, led, repeated, target_or}
 use Rattle.host_core.specs.Application.{Application}
-use Rattle.host_core.specs.Does.{Grow}
+use Rattle.host_core.specs.Does.{Grow, ValuesMayWantMemory}
 use Rattle.host_core.specs.Bytes.{Counter, service_after}
 use Rattle.host_core.specs.Items.{TakesItem}
-use Rattle.host_core.specs.Rejections.{kept_with}
+use Rattle.host_core.specs.Reports.{Reports, reported}
 use Rattle.host_core.specs.Rooms.{room_for}
 use Rattle.host_core.specs.Says.{item_sent}
 use Rattle.host_core.specs.Session.{Conn, Pending}
-use Rattle.host_core.specs.Takes.{HostStep, pool_after}
+use Rattle.host_core.specs.Takes.{HostStep, closed_by, dropping, pool_after, quiet}
 use Rattle.host_core.specs.declared.acting.Shown.{Shown}
+use Rattle.host_core.specs.declared.question.Answer.{Answer}
 use Rattle.host_core.specs.declared.acted.Acted.{Acted}
 use Rattle.host_core.specs.declared.acted.Acted.TheVariants.{Sent as IsSent, Nothing, Memory as NoMemory}
 use Rattle.host_core.specs.declared.pending.Pending.{Pending as Unanswered}
 use Rattle.host_core.specs.declared.turn_reason.TurnReason.{TurnReason}
 use Rattle.host_core.specs.declared.turn_reason.TurnReason.TheVariants.{Agreement, Key, Refusal}
-use Rattle.host_core.specs.declared.rejection.Rejection.{Rejection}
+use Rattle.host_core.specs.declared.after_record.AfterRecord.{AfterRecord}
+use Rattle.host_core.specs.declared.after_record.AfterRecord.TheVariants.{GoesOn, Closes, Drops}
 use Rattle.host_core.specs.declared.pending.Pending.TheVariants as unanswered
 
 -- ---- a connection
@@ -94,17 +96,23 @@ BelievesTheSize shape (unanswered.Noting number) sent shadow = IsOfSize (cells_i
 
 -- a step that says and grants nothing
 abbrev pub silent : Conn → Option Cause → HostStep
-silent conn closes = record { conn = conn; sends = []; grants = None; rejects = None; closes = closes }
+silent conn closes = record { conn = conn; sends = []; grants = None; rejects = None; drops = None; closes = closes }
+
+-- the step of a record
+abbrev pub step_of : Conn → AfterRecord → HostStep
+step_of conn GoesOn = quiet conn
+step_of conn (Closes cause) = closed_by cause conn
+step_of conn (Drops aid) = dropping aid conn
 
 -- An item is taken: what it says is put behind what is there. Where the connection closes its LU is still held.
-pub record ItemTaken (number : ℕ) (pool : List Entry) (old : Conn) (item : WireItem) (before after : Vec ℕ Global) (closes : Option Cause) (left : List Entry) (new : Conn) (kept keeps : List Rejection) : Type 0 where
+pub record ItemTaken (number : ℕ) (pool : List Entry) (old : Conn) (item : WireItem) (before after : Vec ℕ Global) (closes : Option Cause) (left : List Entry) (new : Conn) (kept keeps : Reports) : Type 0 where
   pub step : HostStep
   pub takes : TakesItem (answer_to pool) old item step
   pub conn : new ≡ step.conn
   pub ends : closes ≡ step.closes
   pub pool_is : left ≡ pool_after number (record step { closes = None }) pool
   pub sent : after.items ≡ before.items ++ sent_bytes (map item_sent step.sends)
-  pub rejections : keeps ≡ kept_with step.rejects kept
+  pub reports : keeps ≡ reported step.rejects step.drops kept
 
 -- the LU that was granted to a connection, which is free once the connection is closed
 abbrev pub claim : Option Cause → Conn → Option (List ℕ)
@@ -127,9 +135,9 @@ IsLeft None held = IsRunning held
 IsLeft (Some cause) held = ⊤
 
 -- the counter of these parts; the connection is open unless there is a cause
-abbrev pub counter_of : List Entry → Held → Conn → Option Cause → Vec ℕ Global → List Rejection → Counter
-counter_of pool held conn closes out rejections =
-    record { pool = pool; connection = record { service = service_after held.rest conn closes; out = out.items; rejections = rejections } }
+abbrev pub counter_of : List Entry → Held → Conn → Option Cause → Vec ℕ Global → Reports → Counter
+counter_of pool held conn closes out reports =
+    record { pool = pool; connection = record { service = service_after held.rest conn closes; out = out.items; reports = reports } }
 
 abbrev pub cause_of : Stop → Option Cause
 cause_of Going = None
@@ -193,9 +201,14 @@ DoesOn (Some sent) old before IsSent new after = IsSentOn sent before after new
 DoesOn (Some sent) old before NoMemory new after = (new ≡ old) × (after.items ≡ before.items) × WantsMemory sent old before
 DoesOn (Some sent) old before Nothing new after = ⊥
 
+-- why memory was wanted for an answer: the room didn't do, or the values had to grow or to be copied
+pub data AnswerWantsMemory (app : Application) (answer : Answer) (sent : Sent) (old : Conn) (before : Vec ℕ Global) : Type 0 where
+  room : vec_capacity before < vec_len before + room_for sent.message → AnswerWantsMemory app answer sent old before
+  values : ValuesMayWantMemory app answer old → AnswerWantsMemory app answer sent old before
+
 -- the same of what an application answers
-abbrev pub AnswersOn : Option Sent → Conn → Vec ℕ Global → Acted → Conn → Vec ℕ Global → Type 0
-AnswersOn None old before answer new after = (answer ≡ Nothing) × (new ≡ old) × (after.items ≡ before.items)
-AnswersOn (Some sent) old before IsSent new after = IsSentOn sent before after new
-AnswersOn (Some sent) old before NoMemory new after = (new ≡ old) × (after.items ≡ before.items)
-AnswersOn (Some sent) old before Nothing new after = ⊥
+abbrev pub AnswersOn : Application → Answer → Option Sent → Conn → Vec ℕ Global → Acted → Conn → Vec ℕ Global → Type 0
+AnswersOn app answer None old before did new after = (did ≡ Nothing) × (new ≡ old) × (after.items ≡ before.items)
+AnswersOn app answer (Some sent) old before IsSent new after = IsSentOn sent before after new
+AnswersOn app answer (Some sent) old before NoMemory new after = (new ≡ old) × (after.items ≡ before.items) × AnswerWantsMemory app answer sent old before
+AnswersOn app answer (Some sent) old before Nothing new after = ⊥

@@ -1,16 +1,21 @@
 -- What holds of a host's acts (our profile).
-use Rattle.std.specs.Prelude.{◌≡◌, Bool, true}
+use Rattle.std.specs.Prelude.{◌≡◌, ⊤, Bool, true}
 use Rattle.codes3270.specs.Size.{Shape}
+use Rattle.datastream.specs.Held.{Held}
+use Rattle.datastream.specs.Screen.{Screen}
 use Rattle.datastream.specs.Wanted.{WantedScreen}
 use Rattle.shadow.specs.Belief.{Shadow}
 use Rattle.shadow.specs.Fits.{is_paintable}
+use Rattle.shadow.specs.Meets.{Meets}
 use Rattle.panels.specs.Panel.{PanelParts, Panels, AreLaidOut, AreApart, AreOfCharacters, HaveOtherwise}
 use Rattle.panels.specs.declared.message.Message.{Message}
 use Rattle.panels.specs.Screen.{Values, IsWantedOf, screen_of}
 use Rattle.host_core.specs.Application.{Application, application_of, AsksForScreens, IsApplication, IsShowable, IsSizeOf}
 use Rattle.host_core.specs.Messages.{ToTerminal}
 use Rattle.host_core.specs.Session.{Conn, model_in}
-use Rattle.host_core.specs.Acts.{Act, done}
+use Rattle.host_core.specs.Acts.{Act, done, when_shown}
+use Rattle.host_core.specs.declared.unheard.Unheard.{Unheard}
+use Rattle.host_core.specs.declared.unheard.Unheard.TheVariants as unheards
 
 -- what is painted fits what is believed or keeps nothing, and is a screen of this shape
 pub record IsPaintable (shape : Shape) (shadow : Shadow) (wanted : WantedScreen) : Type 0 where
@@ -23,14 +28,26 @@ PaintsWhatFits shape shadow (ToTerminal.ReadBuffer number) = Unit {0}
 PaintsWhatFits shape shadow (ToTerminal.TalksDown saying) = ⊥
 PaintsWhatFits shape shadow (ToTerminal.Note number command) = ⊥
 
--- Whatever the host does, it paints what fits its belief, or what keeps nothing, in the size that the connection has from then on.
+-- Whatever the host does, it paints what fits the belief that it then has, or what keeps nothing, in the size that the connection has from then on.
 abbrev pub ActsFit : Type 0
-ActsFit = (app : Application) (conn : Conn) (act : Act) → IsApplication app → let sent = done app conn act in PaintsWhatFits sent.conn.shape conn.shadow sent.message
+ActsFit = (app : Application) (conn : Conn) (act : Act) → IsApplication app → let sent = done app conn act in PaintsWhatFits sent.conn.shape sent.conn.shadow sent.message
 
 -- That is a size which the terminal may have, if it was one before.
 abbrev pub SizesAreTheModels : Type 0
 SizesAreTheModels = (app : Application) (conn : Conn) (act : Act) → IsApplication app → IsSizeOf app (model_in conn) conn.shape
     → IsSizeOf app (model_in conn) (done app conn act).conn.shape
+
+-- ---- what may have happened unheard
+
+-- the screens that there may be now, if the host was told of `told`
+abbrev pub MayBeNow : Unheard → Screen → Screen → Type 0
+MayBeNow unheards.Nothing told now = now ≡ told
+MayBeNow unheards.Input told now = (erased : Bool) × Held erased told.cells now.cells
+MayBeNow unheards.Clear told now = ⊤
+
+-- The belief over which a panel is shown allows each of them.
+abbrev pub UnheardIsAllowed : Type 0
+UnheardIsAllowed = (conn : Conn) (told now : Screen) → Meets conn.shadow told → MayBeNow conn.unheard told now → Meets (when_shown conn).shadow now
 
 -- ---- panels
 

@@ -2,6 +2,7 @@ pub mod Application
 pub mod Messages
 pub mod Session
 pub mod Rejections
+pub mod Reports
 pub mod Takes
 pub mod Acts
 pub mod Notes

@@ -1,5 +1,5 @@
 -- Parts of the host's steps as the code takes them (our profile); only private contracts and proofs need it.
-use Rattle.std.specs.Prelude.{◌≡◌, ⊤, ℕ, List, [], ◌++◌, Option, map, Vec}
+use Rattle.std.specs.Prelude.{◌≡◌, ⊤, ℕ, List, [], ◌++◌, Option, None, map, Vec}
 use Rattle.std.specs.declared.alloc.Global.{Global}
 use Rattle.codes3270.specs.Size.{model_2}
 use Rattle.datastream.specs.Grammar.{CommandParts}
@@ -10,15 +10,14 @@ use Rattle.lu_pool.specs.declared.entry.Entry.{Entry}
 use Rattle.telnet_wire.specs.Items.{WireItem, sent_bytes}
 use Rattle.tn3270e_msg.specs.Talk.{Talk}
 use Rattle.tn3270e_msg.specs.declared.cause.Cause.{Cause}
-use Rattle.tn3270e_msg.specs.declared.cause.Cause.TheVariants.{BadInbound}
 use Rattle.tn3270e_msg.specs.declared.host_talk.HostState.{HostState}
 use Rattle.host_core.specs.Items.{Talks}
 use Rattle.host_core.specs.Keeps.{command_in}
 use Rattle.host_core.specs.Messages.{ToTerminal}
-use Rattle.host_core.specs.Rejections.{kept_with}
+use Rattle.host_core.specs.Reports.{Reports, reported}
 use Rattle.host_core.specs.Says.{item_sent}
 use Rattle.host_core.specs.Session.{Conn, Pending}
-use Rattle.host_core.specs.Takes.{HostStep, closed_by, key_data_came, with_talk}
+use Rattle.host_core.specs.Takes.{HostStep, key_data_came, out_of_turn, with_talk}
 use Rattle.host_core.specs.declared.turn.Turn.{Turn}
 use Rattle.host_core.specs.declared.turn.Turn.TheVariants as whose
 use Rattle.host_core.specs.declared.rejection.Rejection.{Rejection}
@@ -42,16 +41,16 @@ IsWrite (Pending.Reading number) = ⊥
 IsWrite (Pending.Noting number command) = ⊤
 
 -- The talk goes on by an item: what it says is put behind what is there. Where it closes its LU is still held.
-pub record TalkTaken (number : ℕ) (pool : List Entry) (old : Talk HostState) (item : WireItem) (before after : Vec ℕ Global) (closes : Option Cause) (left : List Entry) (new : Talk HostState) (kept keeps : List Rejection) : Type 0 where
+pub record TalkTaken (number : ℕ) (pool : List Entry) (old : Talk HostState) (item : WireItem) (before after : Vec ℕ Global) (closes : Option Cause) (left : List Entry) (new : Talk HostState) (kept keeps : Reports) : Type 0 where
   pub sends : List ToTerminal
   pub grants : Option (List ℕ)
   pub rejects : Option Rejection
-  pub talks : (conn : Conn) → conn.talk ≡ old → Talks (answer_to pool) conn item (record { conn = with_talk conn new; sends = sends; grants = grants; rejects = rejects; closes = closes })
+  pub talks : (conn : Conn) → conn.talk ≡ old → Talks (answer_to pool) conn item (record { conn = with_talk conn new; sends = sends; grants = grants; rejects = rejects; drops = None; closes = closes })
   pub pool_is : left ≡ granted_if number grants pool
   pub sent : after.items ≡ before.items ++ sent_bytes (map item_sent sends)
-  pub rejections : keeps ≡ kept_with rejects kept
+  pub reports : keeps ≡ reported rejects None kept
 
 -- data that comes while nothing waits for an answer, or a note does
 abbrev pub key_data_in_turn : InboundParts → Turn → Conn → HostStep
-key_data_in_turn parts whose.Host conn = closed_by BadInbound conn
+key_data_in_turn parts whose.Host conn = out_of_turn parts conn
 key_data_in_turn parts whose.Terminal conn = key_data_came parts parts.form conn

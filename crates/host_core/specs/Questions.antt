@@ -1,5 +1,5 @@
 -- Questions and answers (our profile): an application decides on keys that a panel asks it about, and it learns what the operator sees.
-use Rattle.std.specs.Prelude.{◌==◌, ◌&&◌, not, ℕ, Bool, true, false, List, [], Option, Some, None, is_some, option_map, if◌then◌else◌}
+use Rattle.std.specs.Prelude.{◌≢◌, ◌==◌, ◌&&◌, not, ℕ, Bool, true, false, List, [], Option, Some, None, is_some, option_map, if◌then◌else◌}
 use Rattle.std.specs.List.{list_any}
 use Rattle.std.specs.Option.{option_map_or}
 use Rattle.codes3270.specs.declared.attention.Aid.{Aid}
@@ -58,17 +58,26 @@ question_of app session Service.Free = None
 question_of app session (Service.Open rest conn) = question_in app session conn
 question_of app session (Service.Closed cause) = None
 
+-- a question is open, and some field of its panel has a text: memory is wanted only then
+abbrev pub HasTexts : Option Question → Type 0
+HasTexts None = ⊥
+HasTexts (Some question) = question.values ≢ []
+
 -- ---- answers
 
 -- some field of these has a value
 abbrev pub has_value_of : List Field → Values → Bool
 has_value_of fields values = list_any (λ field. is_some (value_of values field.number)) fields
 
--- what is known of the fields is kept for other panels; the fields of the panel that is shown have the answer's values alone
+-- the fields of the panel that is shown, if an answer names one
+abbrev pub named_fields : Application → Conn → Option ℕ → List Field
+named_fields app conn None = []
+named_fields app conn (Some panel) = app.fields (app.shown (model_in conn) panel)
+
+-- what is known of the fields is kept for other panels; the fields of the panel that is named have the answer's values alone
 abbrev pub values_for : Application → Conn → Answer → Option ℕ → Values
-values_for app conn answer None = with_values (learned conn.shadow (app.fields conn.panel) conn.values) answer.values
-values_for app conn answer (Some panel) =
-    with_values (without_fields (app.fields (app.shown (model_in conn) panel)) (learned conn.shadow (app.fields conn.panel) conn.values)) answer.values
+values_for app conn answer panel =
+    with_values (without_fields (named_fields app conn panel) (learned conn.shadow (app.fields conn.panel) conn.values)) answer.values
 
 -- The same panel keeps what the operator left in its fields, unless the answer has a value of one: then it is shown whole.
 abbrev pub act_by : Application → Conn → Answer → Option ℕ → Act

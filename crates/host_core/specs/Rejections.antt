@@ -1,6 +1,5 @@
--- The requests for an LU that a host rejects (RFC 1647, sections 3 and 7), and the rejections that it keeps until they are reported
--- (our profile).
-use Rattle.std.specs.Prelude.{ℕ, List, [], ◌∷◌, ◌++◌, Option, Some, None, length, ltb, if◌then◌else◌}
+-- The requests for an LU that a host rejects (RFC 1647, sections 3 and 7).
+use Rattle.std.specs.Prelude.{ℕ, List, Option, Some, None}
 use Rattle.tn3270e_msg.specs.Lu.{lu_of}
 use Rattle.tn3270e_msg.specs.Message.{Name, Connect}
 use Rattle.tn3270e_msg.specs.Talk.{Comes, RequestsType}
@@ -37,24 +36,3 @@ rejected_for lu (Some reason) = Some (record { lu = lu; reason = reason })
 -- the rejection of a request for this LU, if the reply to it is one
 abbrev pub rejection_by : Option (List ℕ) → Reply → Option Rejection
 rejection_by lu reply = rejected_for lu (reason_in reply)
-
--- ---- what is kept
-
--- A connection keeps as many rejections as its talk sends.
-abbrev pub most_rejections : ℕ
-most_rejections = 8
-
--- a rejection, if there is one, is kept behind the others
-abbrev pub kept_with : Option Rejection → List Rejection → List Rejection
-kept_with None kept = kept
-kept_with (Some rejection) kept = if ltb (length kept) most_rejections then kept ++ rejection ∷ [] else kept
-
--- the rejection that is reported next
-abbrev pub oldest : List Rejection → Option Rejection
-oldest [] = None
-oldest (rejection ∷ rejections) = Some rejection
-
--- the others, which stay
-abbrev pub without_oldest : List Rejection → List Rejection
-without_oldest [] = []
-without_oldest (rejection ∷ rejections) = rejections

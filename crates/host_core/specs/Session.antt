@@ -9,10 +9,14 @@ use Rattle.panels.specs.declared.message.Message.{Message}
 use Rattle.panels.specs.declared.message.Message.TheVariants.{Fresh}
 use Rattle.panels.specs.Screen.{Values}
 use Rattle.host_core.specs.Application.{Application}
+use Rattle.host_core.specs.declared.terminals.Terminals.{Terminals}
+use Rattle.host_core.specs.declared.terminals.Terminals.TheVariants.{Waiting, Any}
 use Rattle.host_core.specs.declared.turn_reason.TurnReason.{TurnReason}
 use Rattle.host_core.specs.declared.turn_reason.TurnReason.TheVariants.{Agreement}
 use Rattle.host_core.specs.declared.turn.Turn.{Turn}
 use Rattle.host_core.specs.declared.turn.Turn.TheVariants.{Host}
+use Rattle.host_core.specs.declared.unheard.Unheard.{Unheard}
+use Rattle.host_core.specs.declared.unheard.Unheard.TheVariants as unheards
 use Rattle.tn3270e_msg.specs.Talk.{Talk}
 use Rattle.tn3270e_msg.specs.HostTable.{host_start, model_asked}
 pub use Rattle.tn3270e_msg.specs.HostTable.{agreed_lu, is_agreed}
@@ -37,11 +41,17 @@ pub record Conn : Type 0 where
   pub values : Values  -- of the fields
   pub turn_reason : TurnReason
   pub cursor : ℕ  -- where the terminal's cursor was when its last data was sent; 0 before
+  pub unheard : Unheard  -- what may have happened to the screen since the host heard of it
+
+-- what may happen to the screens of such terminals unheard
+abbrev pub unheard_of : Terminals → Unheard
+unheard_of Waiting = unheards.Nothing
+unheard_of Any = unheards.Input
 
 -- at the begin of a connection, when the host has offered TN3270E; nothing is shown yet, and the first panel is to be, in the form in
 -- which a model 2 is shown it
-abbrev pub new_conn : Application → Conn
-new_conn app = record {
+abbrev pub new_conn : Terminals → Application → Conn
+new_conn terminals app = record {
   talk = host_start;
   shape = app.begins;
   turn = Host;
@@ -53,6 +63,7 @@ new_conn app = record {
   values = [];
   turn_reason = Agreement;
   cursor = 0;
+  unheard = unheard_of terminals;
 }
 
 -- the model of the terminal, once it has asked for its type; all are like a model 2 before

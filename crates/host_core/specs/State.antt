@@ -14,8 +14,10 @@ use Rattle.host_core.specs.Answering.{number_of}
 use Rattle.host_core.specs.Application.{application_of}
 use Rattle.host_core.specs.Session.{Conn, new_conn, agreed_lu}
 use Rattle.host_core.specs.declared.phase.Phase.{Phase}
-use Rattle.host_core.specs.declared.rejection.Rejection.{Rejection}
+use Rattle.host_core.specs.Reports.{Reports, no_reports}
 use Rattle.host_core.specs.declared.phase.Phase.TheVariants as phase
+use Rattle.host_core.specs.declared.terminals.Terminals.{Terminals}
+use Rattle.host_core.specs.declared.terminals.Terminals.TheVariants.{Waiting}
 use Rattle.host_core.specs.declared.turn.Turn.{Turn}
 use Rattle.host_core.specs.declared.turn.Turn.TheVariants.{Host as HostTurn}
 
@@ -25,11 +27,11 @@ pub data Service : Type 0 where
   Open : Rest → Conn → Service
   Closed : Cause → Service
 
--- with what the host has to send on it, and the requests for an LU that it rejected
+-- with what the host has to send on it, and what wasn't reported yet
 pub record Connection : Type 0 where
   pub service : Service
   pub out : List ℕ
-  pub rejections : List Rejection  -- those that weren't reported yet, the oldest first
+  pub reports : Reports
 
 -- Sessions are counted: the number of the session that each connection number was opened for last, and that of the next one.
 pub record Sessions : Type 0 where
@@ -41,6 +43,7 @@ pub record Host : Type 0 where
   pub pool : List Entry
   pub connections : List Connection  -- by their numbers
   pub sessions : Sessions
+  pub terminals : Terminals  -- those that it serves
 
 -- the numbers that there are
 abbrev pub most_connections : ℕ
@@ -49,11 +52,11 @@ most_connections = 64
 -- ---- a number
 
 abbrev pub unused : Connection
-unused = record { service = Service.Free; out = []; rejections = [] }
+unused = record { service = Service.Free; out = []; reports = no_reports }
 
 -- TN3270E is offered at once, on a screen of 24 rows of 80 cells
-abbrev pub opened : Panels → Connection
-opened panels = record { service = Service.Open nothing (new_conn (application_of panels)); out = sent_bytes (Opt Do 40 ∷ []); rejections = [] }
+abbrev pub opened : Terminals → Panels → Connection
+opened terminals panels = record { service = Service.Open nothing (new_conn terminals (application_of panels)); out = sent_bytes (Opt Do 40 ∷ []); reports = no_reports }
 
 abbrev pub phase_agreed : Option (List ℕ) → Phase
 phase_agreed None = phase.Talking
@@ -121,20 +124,25 @@ no_sessions = record { latest = replicate most_connections 0; next = 0 }
 
 -- a connection begins, with the next session
 abbrev pub with_opened : ℕ → Host → Host
-with_opened number host = record (with_connection number (opened host.panels) host) { sessions = counted number host.sessions }
+with_opened number host = record (with_connection number (opened host.terminals host.panels) host) { sessions = counted number host.sessions }
 
 -- as it begins: each LU is free, and so is each number
-abbrev pub new_host : Panels → List Entry → Host
-new_host panels pool = record {
+abbrev pub host_for : Terminals → Panels → List Entry → Host
+host_for terminals panels pool = record {
   panels = panels;
   pool = all_free pool;
   connections = replicate most_connections unused;
   sessions = no_sessions;
+  terminals = terminals;
 }
+
+-- the same, for terminals that wait
+abbrev pub new_host : Panels → List Entry → Host
+new_host panels pool = host_for Waiting panels pool
 
 -- as it is when it starts again: sessions are counted on, so that no answer to a question from before is taken
 abbrev pub restarted : Host → Host
-restarted host = record (new_host host.panels host.pool) { sessions = host.sessions }
+restarted host = record (host_for host.terminals host.panels host.pool) { sessions = host.sessions }
 
 -- a connection is given up: its number is free, and so is its LU
 abbrev pub given_up : ℕ → Host → Host

@@ -1,5 +1,5 @@
 -- What a host makes of what a terminal sends: the connection after it, what it says, the LU that it grants, the request that it
--- rejects, and the cause by which it closes the connection, if it does (RFC 1647, sections 7, 8.1 and 10.4; turns, beliefs and causes are our profile).
+-- rejects, the key that it drops, and the cause by which it closes the connection, if it does (RFC 1647, sections 7, 8.1 and 10.4; turns, beliefs and causes are our profile).
 use Rattle.std.specs.Prelude.{◌==◌, ℕ, Bool, true, false, List, [], map, Option, Some, None, Result, Ok, Err, unwrap_or, if◌then◌else◌}
 use Rattle.codes3270.specs.declared.attention.Aid.{Aid}
 use Rattle.codes3270.specs.declared.attention.Aid.TheVariants.{NoAid, Enter, Clear, Pf, Pa}
@@ -26,11 +26,14 @@ use Rattle.tn3270e_msg.specs.declared.reply.Reply.{Reply}
 use Rattle.tn3270e_msg.specs.declared.reply.Reply.TheVariants as reply
 use Rattle.host_core.specs.Messages.{ToTerminal, ToHost, Verdict}
 use Rattle.host_core.specs.Rejections.{lu_asked, rejection_by}
+use Rattle.host_core.specs.declared.dropped_key.DroppedKey.{DroppedKey}
 use Rattle.host_core.specs.declared.rejection.Rejection.{Rejection}
 use Rattle.host_core.specs.declared.turn.Turn.{Turn}
 use Rattle.host_core.specs.declared.turn.Turn.TheVariants as whose
 use Rattle.host_core.specs.declared.turn_reason.TurnReason.{TurnReason}
 use Rattle.host_core.specs.declared.turn_reason.TurnReason.TheVariants as turn_reasons
+use Rattle.host_core.specs.declared.unheard.Unheard.{Unheard}
+use Rattle.host_core.specs.declared.unheard.Unheard.TheVariants as unheards
 use Rattle.host_core.specs.Session.{Conn, Pending, is_agreed}
 
 pub record HostStep : Type 0 where
@@ -38,14 +41,18 @@ pub record HostStep : Type 0 where
   pub sends : List ToTerminal
   pub grants : Option (List ℕ)
   pub rejects : Option Rejection
+  pub drops : Option DroppedKey
   pub closes : Option Cause
 
 -- it sends nothing
 abbrev pub quiet : Conn → HostStep
-quiet conn = record { conn = conn; sends = []; grants = None; rejects = None; closes = None }
+quiet conn = record { conn = conn; sends = []; grants = None; rejects = None; drops = None; closes = None }
 
 abbrev pub closed_by : Cause → Conn → HostStep
-closed_by cause conn = record { conn = conn; sends = []; grants = None; rejects = None; closes = Some cause }
+closed_by cause conn = record { conn = conn; sends = []; grants = None; rejects = None; drops = None; closes = Some cause }
+
+abbrev pub dropping : Aid → Conn → HostStep
+dropping aid conn = record { conn = conn; sends = []; grants = None; rejects = None; drops = Some (record { aid = aid }); closes = None }
 
 -- ---- the talk
 
@@ -59,6 +66,7 @@ replied conn lu grants talked = record {
   sends = map ToTerminal.TalksDown (sayings talked.1);
   grants = grants;
   rejects = rejection_by lu talked.1;
+  drops = None;
   closes = closing talked.1;
 }
 
@@ -108,11 +116,38 @@ once_read (turn_reasons.Key aid buffered) = turn_reasons.Key aid true
 once_read turn_reasons.Agreement = turn_reasons.Agreement
 once_read turn_reasons.Refusal = turn_reasons.Refusal
 
--- the answer to Read Buffer
+-- the operator may have done something unheard: the host doesn't rely on the terminal's wait
+abbrev pub may_have_changed : Unheard → Bool
+may_have_changed unheards.Nothing = false
+may_have_changed unheards.Input = true
+may_have_changed unheards.Clear = true
+
+-- A key that was pressed before the last one was answered. It is dropped, since what is shown next is right all the same. Clear leaves
+-- nothing to believe of the screen: that is too late for a command that is on its way.
+abbrev pub second_key : Aid → Pending → Conn → HostStep
+second_key NoAid pending conn = closed_by BadInbound conn
+second_key Enter pending conn = dropping Enter conn
+second_key Clear Pending.Nothing conn = dropping Clear (record conn { unheard = unheards.Clear })
+second_key Clear (Pending.Writing number command) conn = closed_by BadInbound conn
+second_key Clear (Pending.Reading number) conn = closed_by BadInbound conn
+second_key Clear (Pending.Noting number command) conn = closed_by BadInbound conn
+second_key (Pf key) pending conn = dropping (Pf key) conn
+second_key (Pa key) pending conn = dropping (Pa key) conn
+
+abbrev pub second_key_data : InboundParts → Form → Conn → HostStep
+second_key_data parts Modified conn = second_key parts.aid conn.pending conn
+second_key_data parts AllModified conn = closed_by BadInbound conn
+second_key_data parts Buffer conn = closed_by BadInbound conn
+
+-- Data that comes out of turn. A host that relies on the wait closes.
+abbrev pub out_of_turn : InboundParts → Conn → HostStep
+out_of_turn parts conn = if may_have_changed conn.unheard then second_key_data parts parts.form conn else closed_by BadInbound conn
+
+-- the answer to Read Buffer, or a key that was pressed before it was read
 abbrev pub buffer_came : InboundParts → Form → Conn → HostStep
 buffer_came parts Buffer conn = believed (once_read conn.turn_reason) Pending.Nothing parts.cursor conn (hears parts conn)
-buffer_came parts Modified conn = closed_by BadInbound conn
-buffer_came parts AllModified conn = closed_by BadInbound conn
+buffer_came parts Modified conn = out_of_turn parts conn
+buffer_came parts AllModified conn = out_of_turn parts conn
 
 -- a key was pressed; a note that isn't answered yet still waits
 abbrev pub key_came : InboundParts → Aid → Conn → HostStep
@@ -127,12 +162,13 @@ key_data_came parts Modified conn = key_came parts parts.aid conn
 key_data_came parts AllModified conn = closed_by BadInbound conn
 key_data_came parts Buffer conn = closed_by BadInbound conn
 
--- While a read is pending, data is its answer. Otherwise it is a key's, in the terminal's turn with nothing pending but a note.
+-- While a read is pending, data in that form is its answer. Otherwise it is a key's, in the terminal's turn with nothing pending but a
+-- note.
 abbrev pub data_came : InboundParts → Turn → Pending → Conn → HostStep
 data_came parts turn (Pending.Reading number) conn = buffer_came parts parts.form conn
-data_came parts turn (Pending.Writing number command) conn = closed_by BadInbound conn
-data_came parts whose.Host Pending.Nothing conn = closed_by BadInbound conn
-data_came parts whose.Host (Pending.Noting number command) conn = closed_by BadInbound conn
+data_came parts turn (Pending.Writing number command) conn = out_of_turn parts conn
+data_came parts whose.Host Pending.Nothing conn = out_of_turn parts conn
+data_came parts whose.Host (Pending.Noting number command) conn = out_of_turn parts conn
 data_came parts whose.Terminal Pending.Nothing conn = key_data_came parts parts.form conn
 data_came parts whose.Terminal (Pending.Noting number command) conn = key_data_came parts parts.form conn
 

@@ -1,5 +1,5 @@
 //! Questions to the application, and its answers.
-ghost use Rattle.std.specs.Prelude.{◌≡◌, ◌≤◌, ◌<◌, Some, IfOk, is_some, length, not, ◌&&◌, true};
+ghost use Rattle.std.specs.Prelude.{◌≡◌, ◌≢◌, ◌≤◌, ◌<◌, [], Some, IfOk, OnOk, OnErr, is_some, length, not, ◌&&◌, true};
 ghost use Rattle.std.specs.List.{list_any};
 ghost use Rattle.std.specs.Vec.{vec_capacity};
 ghost use Rattle.panels.specs.Panel.{HaveNumbersApart};
@@ -8,15 +8,16 @@ ghost use Rattle.shadow.specs.Storable.{CanBeStored};
 ghost use Rattle.host_core.specs.Acts.{first_missing, led, learned, may_act};
 ghost use Rattle.host_core.specs.Application.{application_of, panel_at};
 ghost use Rattle.host_core.specs.Choices.{CanBeShown};
+ghost use Rattle.host_core.specs.Does.{Grow, ValuesMayWantMemory};
 ghost use Rattle.host_core.specs.Keeps.{AnswersOn, act_of, show_once};
 ghost use Rattle.host_core.specs.Learning.{HasField, HaveFields, is_missing_now};
-ghost use Rattle.host_core.specs.Questions.{act_by, answered_in, answered_on, has_its_panel, has_value_of, is_ask, is_asking, key_of, question_in, ticket_of, values_for};
+ghost use Rattle.host_core.specs.Questions.{HasTexts, act_by, answered_in, answered_on, has_its_panel, has_value_of, is_ask, is_asking, key_of, named_fields, question_in, ticket_of, values_for};
 ghost use Rattle.host_core.specs.Session.{is_agreed};
 ghost use Rattle.host_core.specs.Sound.{IsShownOn};
 
 use crate::acted::Acted;
 use crate::acting::{Shown, next_of};
-use crate::learning::{are_blanks, characters_known, is_blank, learn_each};
+use crate::learning::{are_blanks, characters_known, is_blank, learn_all, texts_known};
 use crate::question::{Answer, Question, Ticket, is_ticket};
 use crate::room::COMMAND_ROOM;
 use crate::sending::panel_in;
@@ -97,6 +98,26 @@ fn remove_fields(values: &mut Values, fields: &[Field])
     }
 }
 
+/// Sets the known texts of fields as their values, and then takes away the values of others. Memory is needed only if a text is
+/// longer than the field's value; if it is refused, nothing changes.
+fn learn_without(
+    values: &mut Values,
+    shadow: &Shadow,
+    fields: &[Field],
+    others: &[Field],
+) -> Result<(), Memory>
+    requires stored { CanBeStored shadow.now }
+    requires there { HaveFields shadow.now fields.now }
+    requires numbers { HaveNumbersApart fields.now }
+    ensures values { OnOk result (values.new ≡ without_fields others.now (learned shadow.now fields.now values.old)) }
+    ensures memory { OnErr result (Grow values.old (learned shadow.now fields.now values.old)) }
+    ensures err { OnErr result (values.new ≡ values.old) }
+{
+    learn_all(values, shadow, fields)?;
+    remove_fields(values, others);
+    Ok(())
+}
+
 /// Whether the panel that an answer names is there.
 fn has_its_panel(panels: &PanelSet, answer: &Answer) -> bool
     ensures has { result ≡ has_its_panel (application_of panels.now) answer.now }
@@ -155,27 +176,27 @@ impl Session {
         !self.reads_first(panels) && self.asks(panels)
     }
 
-    /// The texts of the panel's fields that are known, over other values.
-    fn learned(&self, panels: &PanelSet, values: Values) -> Result<Values, Memory>
+    /// The texts of the panel's fields that are known. Memory is needed only if there is one.
+    fn texts(&self, panels: &PanelSet) -> Result<Values, Memory>
         requires panel { self.now.panel < length panels.now.panels }
         requires fields { HaveFields self.now.shadow (panel_at panels.now self.now.panel).fields }
-        ensures { IfOk result (λ known. known ≡ learned self.now.shadow (panel_at panels.now self.now.panel).fields values) }
+        ensures texts { IfOk result (λ texts. texts ≡ learned self.now.shadow (panel_at panels.now self.now.panel).fields []) }
+        ensures memory { OnErr result (learned self.now.shadow (panel_at panels.now self.now.panel).fields [] ≢ []) }
     {
         panels.panels_are_sound();
-        let mut known = values;
         let fields = panel_in(panels, self.panel).fields();
-        learn_each(&mut known, &self.shadow, fields)?;
-        Ok(known)
+        texts_known(*self.sent.allocator(), &self.shadow, fields)
     }
 
-    /// The question that is open, if one is. Memory is needed for its texts.
+    /// The question that is open, if one is. Memory is needed only for its texts.
     pub(crate) fn question(
         &self,
         panels: &PanelSet,
         session: u64,
     ) -> Result<Option<Question>, Memory>
         requires { IsShownOn panels.now self.now }
-        ensures { IfOk result (λ question. question ≡ question_in (application_of panels.now) session self.now) }
+        ensures question { IfOk result (λ question. question ≡ question_in (application_of panels.now) session self.now) }
+        ensures memory { OnErr result (HasTexts (question_in (application_of panels.now) session self.now)) }
     {
         if !self.is_asking(panels) {
             return Ok(None);
@@ -183,7 +204,7 @@ impl Session {
         let Some(lu) = self.lu() else {
             return Ok(None);
         };
-        let values = self.learned(panels, Values::new(*self.sent.allocator()))?;
+        let values = self.texts(panels)?;
         Ok(Some(Question {
             ticket: self.ticket(session),
             lu,
@@ -204,20 +225,64 @@ impl Session {
         }
     }
 
-    /// The values of fields, once an answer's are set.
+    /// The fields of the panel that is shown, if an answer names one.
+    fn named_fields<'a>(&self, panels: &'a PanelSet, answer: &Answer) -> &'a [Field]
+        requires { has_its_panel (application_of panels.now) answer.now ≡ true }
+        ensures { result.now ≡ named_fields (application_of panels.now) self.now answer.now.panel }
+    {
+        match answer.panel {
+            None => &[],
+            Some(panel) => panel_in(panels, panels.shown(panel, self.shown_model())).fields(),
+        }
+    }
+
+    /// A copy of the values of fields, once an answer's are set.
     fn values_for(&self, panels: &PanelSet, answer: &Answer) -> Result<Values, Memory>
         requires panel { self.now.panel < length panels.now.panels }
         requires fields { HaveFields self.now.shadow (panel_at panels.now self.now.panel).fields }
         requires there { has_its_panel (application_of panels.now) answer.now ≡ true }
         ensures { IfOk result (λ values. values ≡ values_for (application_of panels.now) self.now answer.now answer.now.panel) }
     {
-        let mut values = self.learned(panels, self.values.clone()?)?;
-        if let Some(panel) = answer.panel {
-            let shown = panels.shown(panel, self.shown_model());
-            remove_fields(&mut values, panel_in(panels, shown).fields());
-        }
+        panels.panels_are_sound();
+        let mut values = self.values.clone()?;
+        let fields = panel_in(panels, self.panel).fields();
+        let named = self.named_fields(panels, answer);
+        learn_without(&mut values, &self.shadow, fields, named)?;
         values.set_all(&answer.values)?;
         Ok(values)
+    }
+
+    /// Sets the values of fields, if an answer has none of its own. Memory is needed only if a known text has to grow.
+    fn keep_known(&mut self, panels: &PanelSet, answer: &Answer) -> Result<(), Memory>
+        requires panel { self.old.panel < length panels.now.panels }
+        requires fields { HaveFields self.old.shadow (panel_at panels.now self.old.panel).fields }
+        requires there { has_its_panel (application_of panels.now) answer.now ≡ true }
+        requires none { answer.now.values ≡ [] }
+        ensures values { OnOk result (self.new ≡ record self.old { values = values_for (application_of panels.now) self.old answer.now answer.now.panel }) }
+        ensures memory { OnErr result (Grow self.old.values (learned self.old.shadow (panel_at panels.now self.old.panel).fields self.old.values)) }
+        ensures err { OnErr result (self.new ≡ self.old) }
+    {
+        panels.panels_are_sound();
+        let fields = panel_in(panels, self.panel).fields();
+        let named = self.named_fields(panels, answer);
+        learn_without(&mut self.values, &self.shadow, fields, named)
+    }
+
+    /// Sets the values of fields, as an answer leads to them. Memory is needed only if a known text has to grow, or if the answer has
+    /// values; if it is refused, nothing changes.
+    fn set_values(&mut self, panels: &PanelSet, answer: &Answer) -> Result<(), Memory>
+        requires panel { self.old.panel < length panels.now.panels }
+        requires fields { HaveFields self.old.shadow (panel_at panels.now self.old.panel).fields }
+        requires there { has_its_panel (application_of panels.now) answer.now ≡ true }
+        ensures values { OnOk result (self.new ≡ record self.old { values = values_for (application_of panels.now) self.old answer.now answer.now.panel }) }
+        ensures memory { OnErr result (ValuesMayWantMemory (application_of panels.now) answer.now self.old) }
+        ensures err { OnErr result (self.new ≡ self.old) }
+    {
+        if answer.values.is_empty() {
+            return self.keep_known(panels, answer);
+        }
+        self.values = self.values_for(panels, answer)?;
+        Ok(())
     }
 
     /// What an answer shows, once the values of fields are set.
@@ -242,10 +307,11 @@ impl Session {
         }
     }
 
-    /// Takes the answer to the question that is open: shows what it says. Nothing has changed if memory is refused.
+    /// Takes the answer to the question that is open: shows what it says. Memory is needed if the command may not fit into the room
+    /// that is there, or for the values of fields; if it is refused, nothing has changed.
     fn answer(&mut self, panels: &PanelSet, answer: &Answer, out: &mut Vec<u8>) -> Acted
         requires panel { IsShownOn panels.now self.old }
-        ensures answered { AnswersOn (answered_on (application_of panels.now) self.old answer.now) self.old out.old result self.new out.new }
+        ensures answered { AnswersOn (application_of panels.now) answer.now (answered_on (application_of panels.now) self.old answer.now) self.old out.old result self.new out.new }
         ensures panel { IsShownOn panels.now self.new }
         ensures capacity { vec_capacity out.old ≤ vec_capacity out.new }
     {
@@ -255,11 +321,10 @@ impl Session {
         if out.reserve(COMMAND_ROOM).is_err() {
             return Acted::Memory;
         }
-        let Ok(values) = self.values_for(panels, answer) else {
-            return Acted::Memory;
-        };
         let shown = self.shown_by(panels, answer);
-        self.values = values;
+        if self.set_values(panels, answer).is_err() {
+            return Acted::Memory;
+        }
         self.show(panels, shown, out);
         Acted::Sent
     }
@@ -274,7 +339,7 @@ impl Session {
         out: &mut Vec<u8>,
     ) -> Acted
         requires panel { IsShownOn panels.now self.old }
-        ensures answered { AnswersOn (answered_in (application_of panels.now) session ticket answer.now self.old) self.old out.old result self.new out.new }
+        ensures answered { AnswersOn (application_of panels.now) answer.now (answered_in (application_of panels.now) session ticket answer.now self.old) self.old out.old result self.new out.new }
         ensures panel { IsShownOn panels.now self.new }
         ensures capacity { vec_capacity out.old ≤ vec_capacity out.new }
     {

@@ -11,23 +11,25 @@ ghost use Rattle.host_core.specs.Keeps.{IsRunning, IsLeft, OthersHold, counter_o
 ghost use Rattle.host_core.specs.Connections.{StaysShown, ShadowIf};
 ghost use Rattle.host_core.specs.Measuring.{whole_length};
 ghost use Rattle.host_core.specs.Notes.{IsNoteText};
-ghost use Rattle.host_core.specs.Questions.{answered_by, question_of};
-ghost use Rattle.host_core.specs.Rejections.{oldest, without_oldest};
+ghost use Rattle.host_core.specs.Questions.{HasTexts, answered_by, question_of};
+ghost use Rattle.host_core.specs.Reports.{oldest, without_dropped_key, without_rejection};
 ghost use Rattle.host_core.specs.Rooms.{HasRoomFor, out_room};
 ghost use Rattle.host_core.specs.Sound.{HoldsJust, IsShown};
 ghost use Rattle.host_core.specs.State.Service.{Free};
 ghost use Rattle.host_core.specs.State.{opened, unused, lu_of, model_of, phase_of, turn_of, pending_of};
 
 use crate::acted::Acted;
+use crate::dropped_key::DroppedKey;
 use crate::feeding::feed_open;
 use crate::measuring::ScreenMeasure;
 use crate::phase::Phase;
 use crate::question::{Answer, Question, Ticket};
-use crate::rejection::{MOST_REJECTIONS, Rejection};
+use crate::rejection::Rejection;
+use crate::reports::Reports;
 use crate::room::OUT_ROOM;
 use crate::session::Session;
+use crate::terminals::Terminals;
 use crate::turn::Turn;
-use arrayvec::ArrayVec;
 use codes3270::Model as TerminalModel;
 use lu_pool::Pool;
 use panels::PanelSet;
@@ -51,13 +53,13 @@ impl HostEnd {
         pool: &mut Pool,
         number: usize,
         out: &mut Vec<u8>,
-        rejections: &mut ArrayVec<Rejection, MOST_REJECTIONS>,
+        reports: &mut Reports,
         bytes: &[u8],
     ) -> Fed
         requires running { IsRunning self.old.decoder }
         requires room { out_room ≤ vec_capacity out.old }
         requires holder { HoldsJust number pool.old (granted self.old.session.talk.state) }
-        ensures fed { Feeds number (counter_of pool.old self.old.decoder self.old.session None out.old rejections.old.items) bytes.now result (counter_of pool.new self.new.decoder self.new.session (cause_of result.stop) out.new rejections.new.items) }
+        ensures fed { Feeds number (counter_of pool.old self.old.decoder self.old.session None out.old reports.old) bytes.now result (counter_of pool.new self.new.decoder self.new.session (cause_of result.stop) out.new reports.new) }
         ensures holds { HoldsJust number pool.new (claim (cause_of result.stop) self.new.session) }
         ensures others { OthersHold number pool.old pool.new }
         ensures panel { self.new.session.panel ≡ self.old.session.panel }
@@ -71,7 +73,7 @@ impl HostEnd {
             &mut self.decoder,
             &mut self.session,
             out,
-            rejections,
+            reports,
             bytes,
         )
     }
@@ -105,13 +107,12 @@ fn put_nop(out: &mut Vec<u8>)
     out.extend_from_slice(&IAC_NOP).unwrap();
 }
 
-/// A connection number, with what is still to be sent there, and the rejections that weren't reported yet.
+/// A connection number, with what is still to be sent there, and what wasn't reported yet.
 #[derive(Drop)]
 pub(crate) struct Connection {
     service: Service,
     out: Vec<u8>,
-    // Those that weren't reported yet, the oldest first.
-    rejections: ArrayVec<Rejection, MOST_REJECTIONS>,
+    reports: Reports,
 }
 
 impl Model for Connection {
@@ -120,7 +121,7 @@ impl Model for Connection {
 
     ghost Value = { Stood };
 
-    ghost view = { λ connection. record { service = service_of connection.service; out = connection.out.items; rejections = connection.rejections.items } };
+    ghost view = { λ connection. record { service = service_of connection.service; out = connection.out.items; reports = connection.reports } };
 
     ghost invariant = { λ connection. IsSoundConnection connection.service connection.out };
 }
@@ -133,14 +134,15 @@ impl Connection {
         Connection {
             service: Service::Free,
             out: Vec::new(alloc),
-            rejections: ArrayVec::new(),
+            reports: Reports::new(),
         }
     }
 
-    /// Begins a connection, and offers TN3270E there. All the room that a session needs is made here, and that for output.
-    pub(crate) fn open(&mut self, panels: &PanelSet) -> Result<(), Memory>
+    /// Begins a connection to such a terminal, and offers TN3270E there. All the room that a session needs is made here, and that
+    /// for output.
+    pub(crate) fn open(&mut self, terminals: Terminals, panels: &PanelSet) -> Result<(), Memory>
         requires free { self.old.service ≡ Free }
-        ensures opened { OnOk result (self.new ≡ opened panels.now) }
+        ensures opened { OnOk result (self.new ≡ opened terminals panels.now) }
         ensures unchanged { OnErr result (self.new ≡ self.old) }
         ensures held { lu_of self.new.service ≡ None }
         ensures shown { IsShown panels.now self.new.service }
@@ -150,12 +152,12 @@ impl Connection {
         let Ok(decoder) = Decoder::new(alloc, RECORD_LIMIT) else {
             return Err(AllocError);
         };
-        let session = Session::new(alloc, panels)?;
+        let session = Session::new(alloc, terminals, panels)?;
         let end = Box::new(alloc, HostEnd { decoder, session })?;
         make_out_room(&mut self.out)?;
         self.out.clear();
         HostTalk::put_offer(&mut self.out).unwrap();
-        self.rejections = ArrayVec::new();
+        self.reports = Reports::new();
         self.service = Service::Open(end);
         Ok(())
     }
@@ -178,7 +180,7 @@ impl Connection {
                 stop: Stop::Closed(*cause),
             },
             Service::Open(end) => {
-                let fed = end.feed(pool, number, &mut self.out, &mut self.rejections, bytes);
+                let fed = end.feed(pool, number, &mut self.out, &mut self.reports, bytes);
                 match fed.stop {
                     Stop::Closed(cause) => {
                         self.service = Service::Closed(cause);
@@ -211,7 +213,8 @@ impl Connection {
         session: u64,
     ) -> Result<Option<Question>, Memory>
         requires { IsShown panels.now self.now.service }
-        ensures { IfOk result (λ question. question ≡ question_of (application_of panels.now) session self.now.service) }
+        ensures question { IfOk result (λ question. question ≡ question_of (application_of panels.now) session self.now.service) }
+        ensures memory { OnErr result (HasTexts (question_of (application_of panels.now) session self.now.service)) }
     {
         match &self.service {
             Service::Free | Service::Closed(_) => Ok(None),
@@ -228,7 +231,7 @@ impl Connection {
         answer: &Answer,
     ) -> Acted
         requires { IsShown panels.now self.old.service }
-        ensures answered { DoesAnswer (answered_by (application_of panels.now) session ticket answer.now self.old.service) self.old result self.new }
+        ensures answered { DoesAnswer (application_of panels.now) answer.now (answered_by (application_of panels.now) session ticket answer.now self.old.service) self.old result self.new }
         ensures held { lu_of self.new.service ≡ lu_of self.old.service }
         ensures shown { IsShown panels.now self.new.service }
     {
@@ -295,10 +298,18 @@ impl Connection {
 
     /// Removes the oldest rejection that wasn't reported yet, and hands it out.
     pub(crate) fn next_rejection(&mut self) -> Option<Rejection>
-        ensures next { result ≡ oldest self.old.rejections }
-        ensures removed { self.new ≡ record self.old { rejections = without_oldest self.old.rejections } }
+        ensures next { result ≡ oldest self.old.reports.rejections }
+        ensures removed { self.new ≡ record self.old { reports = without_rejection self.old.reports } }
     {
-        self.rejections.pop_at(0)
+        self.reports.next_rejection()
+    }
+
+    /// Removes the oldest dropped key that wasn't reported yet, and hands it out.
+    pub(crate) fn next_dropped_key(&mut self) -> Option<DroppedKey>
+        ensures next { result ≡ oldest self.old.reports.dropped_keys }
+        ensures removed { self.new ≡ record self.old { reports = without_dropped_key self.old.reports } }
+    {
+        self.reports.next_dropped_key()
     }
 
     /// Frees the number, and hands back what wasn't sent.
@@ -307,7 +318,7 @@ impl Connection {
         ensures closed { self.new ≡ unused }
     {
         self.service = Service::Free;
-        self.rejections.clear();
+        self.reports.clear();
         let empty = Vec::new(*self.out.allocator());
         std::mem::replace(&mut self.out, empty)
     }
@@ -318,7 +329,7 @@ impl Connection {
     {
         self.service = Service::Free;
         self.out.clear();
-        self.rejections.clear();
+        self.reports.clear();
     }
 
     pub(crate) fn phase(&self) -> Phase

@@ -11,13 +11,12 @@ ghost use Rattle.host_core.specs.Rooms.{out_room};
 ghost use Rattle.host_core.specs.Sound.{HoldsJust};
 ghost use Rattle.host_core.specs.Session.{Conn};
 ghost use Rattle.host_core.specs.Takes.{freed_if};
-ghost use Rattle.host_core.specs.declared.rejection.Rejection.{Rejection as Rejected};
+ghost use Rattle.host_core.specs.Reports.{Reports as Unreported};
 ghost use Rattle.lu_pool.specs.declared.entry.Entry.{Entry};
 
-use crate::rejection::{MOST_REJECTIONS, Rejection};
+use crate::reports::Reports;
 use crate::session::Session;
 use crate::talking::take_item;
-use arrayvec::ArrayVec;
 use lu_pool::Pool;
 use telnet_wire::{Decoder, Step};
 use tn3270e_msg::{Cause, Fed, REPLY_ROOM, Stop};
@@ -30,15 +29,15 @@ pub(crate) fn feed_open(
     decoder: &mut Decoder,
     session: &mut Session,
     out: &mut Vec<u8>,
-    rejections: &mut ArrayVec<Rejection, MOST_REJECTIONS>,
+    reports: &mut Reports,
     bytes: &[u8],
 ) -> Fed
     requires running { IsRunning decoder.old }
     requires room { out_room ≤ vec_capacity out.old }
     requires holder { HoldsJust number pool.old (granted session.old.talk.state) }
     ensures few { result.taken ≤ length bytes.now }
-    ensures takes { TakesBytes number (counter_of pool.old decoder.old session.old None out.old rejections.old.items) (take result.taken bytes.now) (counter_of pool.new decoder.new session.new (cause_of result.stop) out.new rejections.new.items) }
-    ensures stops { StopsFor result.stop (counter_of pool.old decoder.old session.old None out.old rejections.old.items) bytes.now result.taken (counter_of pool.new decoder.new session.new (cause_of result.stop) out.new rejections.new.items) }
+    ensures takes { TakesBytes number (counter_of pool.old decoder.old session.old None out.old reports.old) (take result.taken bytes.now) (counter_of pool.new decoder.new session.new (cause_of result.stop) out.new reports.new) }
+    ensures stops { StopsFor result.stop (counter_of pool.old decoder.old session.old None out.old reports.old) bytes.now result.taken (counter_of pool.new decoder.new session.new (cause_of result.stop) out.new reports.new) }
     ensures holds { HoldsJust number pool.new (claim (cause_of result.stop) session.new) }
     ensures others { OthersHold number pool.old pool.new }
     ensures panel { session.new.panel ≡ session.old.panel }
@@ -60,7 +59,7 @@ pub(crate) fn feed_open(
             decoder,
             session,
             out,
-            rejections,
+            reports,
             &bytes[taken..],
         );
         taken += count;
@@ -85,7 +84,7 @@ fn take_some(
     decoder: &mut Decoder,
     session: &mut Session,
     out: &mut Vec<u8>,
-    rejections: &mut ArrayVec<Rejection, MOST_REJECTIONS>,
+    reports: &mut Reports,
     bytes: &[u8],
 ) -> (usize, Option<Cause>)
     requires running { IsRunning decoder.old }
@@ -94,7 +93,7 @@ fn take_some(
     requires some { 0 < length bytes.now }
     ensures some { 0 < result.0 }
     ensures few { result.0 ≤ length bytes.now }
-    ensures taken { TakesBytes number (counter_of pool.old decoder.old session.old None out.old rejections.old.items) (take result.0 bytes.now) (counter_of pool.new decoder.new session.new result.1 out.new rejections.new.items) }
+    ensures taken { TakesBytes number (counter_of pool.old decoder.old session.old None out.old reports.old) (take result.0 bytes.now) (counter_of pool.new decoder.new session.new result.1 out.new reports.new) }
     ensures holds { HoldsJust number pool.new (claim result.1 session.new) }
     ensures others { OthersHold number pool.old pool.new }
     ensures panel { session.new.panel ≡ session.old.panel }
@@ -105,7 +104,7 @@ fn take_some(
     let count = take_data(decoder, bytes);
     match bytes.get(count) {
         Some(byte) => {
-            let closes = take_byte(pool, number, decoder, session, out, rejections, *byte);
+            let closes = take_byte(pool, number, decoder, session, out, reports, *byte);
             (count + 1, closes)
         }
         None => (count, None),
@@ -116,7 +115,7 @@ fn take_some(
 fn take_data(decoder: &mut Decoder, bytes: &[u8]) -> usize
     requires { IsRunning decoder.old }
     ensures few { result ≤ length bytes.now }
-    ensures taken { (number : ℕ) (pool : List Entry) (session : Conn) (out : Vec ℕ Global) (rejections : List Rejected) → TakesBytes number (counter_of pool decoder.old session None out rejections) (take result bytes.now) (counter_of pool decoder.new session None out rejections) }
+    ensures taken { (number : ℕ) (pool : List Entry) (session : Conn) (out : Vec ℕ Global) (reports : Unreported) → TakesBytes number (counter_of pool decoder.old session None out reports) (take result bytes.now) (counter_of pool decoder.new session None out reports) }
     ensures running { IsRunning decoder.new }
 {
     // A byte alone is pushed for less.
@@ -133,13 +132,13 @@ fn take_byte(
     decoder: &mut Decoder,
     session: &mut Session,
     out: &mut Vec<u8>,
-    rejections: &mut ArrayVec<Rejection, MOST_REJECTIONS>,
+    reports: &mut Reports,
     byte: u8,
 ) -> Option<Cause>
     requires running { IsRunning decoder.old }
     requires room { HasRoomForReply out.old }
     requires holder { HoldsJust number pool.old (granted session.old.talk.state) }
-    ensures taken { TakesByte number (counter_of pool.old decoder.old session.old None out.old rejections.old.items) byte (counter_of pool.new decoder.new session.new result out.new rejections.new.items) }
+    ensures taken { TakesByte number (counter_of pool.old decoder.old session.old None out.old reports.old) byte (counter_of pool.new decoder.new session.new result out.new reports.new) }
     ensures holds { HoldsJust number pool.new (claim result session.new) }
     ensures others { OthersHold number pool.old pool.new }
     ensures panel { session.new.panel ≡ session.old.panel }
@@ -154,7 +153,7 @@ fn take_byte(
         }
         Ok(Step::More) => None,
         Ok(Step::Ready) => {
-            let closes = take_item(pool, number, session, out, rejections, &decoder.item());
+            let closes = take_item(pool, number, session, out, reports, &decoder.item());
             free_if_closed(pool, number, closes);
             closes
         }

@@ -6,19 +6,21 @@ ghost use Rattle.host_core.specs.Feeds.{Feeds, counter_at, with_counter};
 ghost use Rattle.host_core.specs.KeepAlive.{kept_alive, kept_alive_answer};
 ghost use Rattle.host_core.specs.Measuring.{whole_length};
 ghost use Rattle.host_core.specs.Notes.{IsNoteText};
-ghost use Rattle.host_core.specs.Questions.{answered_by, question_of};
-ghost use Rattle.host_core.specs.Rejections.{oldest, without_oldest};
+ghost use Rattle.host_core.specs.Questions.{HasTexts, answered_by, question_of};
+ghost use Rattle.host_core.specs.Reports.{oldest, without_dropped_key, without_rejection};
 ghost use Rattle.host_core.specs.Sound.{IsSound, NobodyShares};
-ghost use Rattle.host_core.specs.State.{new_host, most_connections, restarted, session_at, unused, given_up, connection_at, service_at, with_connection, with_opened, model_of, phase_of, turn_of, pending_of, shadow_of};
+ghost use Rattle.host_core.specs.State.{host_for, new_host, most_connections, restarted, session_at, unused, given_up, connection_at, service_at, with_connection, with_opened, model_of, phase_of, turn_of, pending_of, shadow_of};
 ghost use Rattle.host_core.specs.declared.phase.Phase.TheVariants as phase;
 
 use crate::acted::Acted;
 use crate::connection::Connection;
+use crate::dropped_key::DroppedKey;
 use crate::measuring::ScreenMeasure;
 use crate::phase::Phase;
 use crate::question::{Answer, Question, Ticket};
 use crate::rejection::Rejection;
 use crate::sessions::Sessions;
+use crate::terminals::Terminals;
 use crate::turn::Turn;
 use codes3270::Model as TerminalModel;
 use lu_pool::Pool;
@@ -42,6 +44,8 @@ pub struct Host {
     pool: Pool,
     connections: Vec<Connection>,
     sessions: Sessions,
+    // Those that it serves.
+    terminals: Terminals,
     // What is believed of a screen on a number that isn't open.
     nothing_known: Shadow,
 }
@@ -54,9 +58,9 @@ impl Model for Host {
 
     ghost Value = { Stands };
 
-    ghost view = { λ host. record { panels = host.panels; pool = host.pool; connections = host.connections.items; sessions = host.sessions } };
+    ghost view = { λ host. record { panels = host.panels; pool = host.pool; connections = host.connections.items; sessions = host.sessions; terminals = host.terminals } };
 
-    ghost invariant = { λ host. IsSound (record { panels = host.panels; pool = host.pool; connections = host.connections.items; sessions = host.sessions })
+    ghost invariant = { λ host. IsSound (record { panels = host.panels; pool = host.pool; connections = host.connections.items; sessions = host.sessions; terminals = host.terminals })
         × (host.nothing_known ≡ NothingKnown) };
 }
 
@@ -81,9 +85,23 @@ fn clear_each(connections: &mut Vec<Connection>)
 }
 
 impl Host {
-    /// A host that serves these panels to terminals which it grants the LUs of this pool. All LUs and numbers are free.
+    /// A host that serves these panels to terminals which it grants the LUs of this pool. All LUs and numbers are free. It relies on
+    /// the terminals' wait: until it restores their keyboards, operators change nothing and press no second key.
     pub fn new(alloc: Global, panels: PanelSet, pool: Pool) -> Result<Host, Memory>
         ensures { IfOk result (λ host. host ≡ new_host panels pool) }
+    {
+        Host::serving(alloc, Terminals::Waiting, panels, pool)
+    }
+
+    /// The same for these terminals. Those that need not wait may have changed input whenever it shows a panel, since it heard of the
+    /// screen.
+    pub fn serving(
+        alloc: Global,
+        terminals: Terminals,
+        panels: PanelSet,
+        pool: Pool,
+    ) -> Result<Host, Memory>
+        ensures { IfOk result (λ host. host ≡ host_for terminals panels pool) }
     {
         let sessions = Sessions::new(alloc)?;
         let connections = unused_connections(alloc)?;
@@ -94,6 +112,7 @@ impl Host {
             pool,
             connections,
             sessions,
+            terminals,
             nothing_known: Shadow::blank(),
         })
     }
@@ -106,7 +125,7 @@ impl Host {
         ensures opened { OnOk result (self.new ≡ with_opened conn self.old) }
         ensures unchanged { OnErr result (self.new ≡ self.old) }
     {
-        self.connections[conn].open(&self.panels)?;
+        self.connections[conn].open(self.terminals, &self.panels)?;
         self.sessions.count(conn);
         Ok(())
     }
@@ -143,21 +162,25 @@ impl Host {
     /// host waits for its answer. None if no question is open: then [`act`](Host::act) does what there is to do.
     ///
     /// What the application learns stands on the operator's screen now. A question stays open until it is answered or the
-    /// connection closes. Memory is needed for the texts; if it is refused, ask again.
+    /// connection closes. Memory is needed only for its texts, so never if no question is open; if it is refused, ask again.
     pub fn question(&self, conn: usize) -> Result<Option<Question>, Memory>
         requires number { conn < most_connections }
         ensures question { IfOk result (λ question. question ≡ question_of (application_of self.now.panels) (session_at conn self.now) (service_at conn self.now)) }
+        ensures memory { OnErr result (HasTexts (question_of (application_of self.now.panels) (session_at conn self.now) (service_at conn self.now))) }
     {
         let session = self.sessions.at(conn);
         self.connections[conn].question(&self.panels, session)
     }
 
     /// Takes the application's answer to the question with a ticket, and shows the operator what it says. Nothing if that question
-    /// isn't open any more, or if the answer names a panel that there isn't. Memory is needed for the values of fields; if it is
-    /// refused, nothing has changed.
+    /// isn't open any more, or if the answer names a panel that there isn't. If memory is refused, nothing has changed.
+    ///
+    /// Memory is needed only if the bytes that wait to be sent leave less of the connection's room than the largest command takes
+    /// (1,024 bytes may wait), if the known text of some field is longer than the value that the host has of it, or if the answer
+    /// has values, which are set in a copy of all.
     pub fn answer(&mut self, conn: usize, ticket: Ticket, answer: &Answer) -> Acted
         requires number { conn < most_connections }
-        ensures answered { DoesAnswer (answered_by (application_of self.old.panels) (session_at conn self.old) ticket answer.now (service_at conn self.old)) (connection_at conn self.old) result (connection_at conn self.new) }
+        ensures answered { DoesAnswer (application_of self.old.panels) answer.now (answered_by (application_of self.old.panels) (session_at conn self.old) ticket answer.now (service_at conn self.old)) (connection_at conn self.old) result (connection_at conn self.new) }
         ensures others { self.new ≡ with_connection conn (connection_at conn self.new) self.old }
     {
         let session = self.sessions.at(conn);
@@ -217,10 +240,21 @@ impl Host {
     /// talk sent, at most 8, until its number is opened again or freed.
     pub fn next_rejection(&mut self, conn: usize) -> Option<Rejection>
         requires number { conn < most_connections }
-        ensures next { result ≡ oldest (connection_at conn self.old).rejections }
-        ensures removed { self.new ≡ with_connection conn (record (connection_at conn self.old) { rejections = without_oldest (connection_at conn self.old).rejections }) self.old }
+        ensures next { result ≡ oldest (connection_at conn self.old).reports.rejections }
+        ensures removed { self.new ≡ with_connection conn (record (connection_at conn self.old) { reports = without_rejection (connection_at conn self.old).reports }) self.old }
     {
         self.connections[conn].next_rejection()
+    }
+
+    /// Removes the oldest key on a connection that was pressed out of turn, was dropped and wasn't reported yet, and hands it out. Only
+    /// a host for any terminal drops keys. A connection keeps the first 8, until its number is opened again or freed; further ones
+    /// are dropped all the same.
+    pub fn next_dropped_key(&mut self, conn: usize) -> Option<DroppedKey>
+        requires number { conn < most_connections }
+        ensures next { result ≡ oldest (connection_at conn self.old).reports.dropped_keys }
+        ensures removed { self.new ≡ with_connection conn (record (connection_at conn self.old) { reports = without_dropped_key (connection_at conn self.old).reports }) self.old }
+    {
+        self.connections[conn].next_dropped_key()
     }
 
     /// A connection is lost, or its peer left: frees its number and its LU, and hands back what wasn't sent.

@@ -1,13 +1,13 @@
 //! Laws of hosts over bytes: each is the contract of a function that does nothing. Proofs of
 //! other crates use them; no program calls them, and the root doesn't export them.
 ghost use Rattle.host_core.specs.Answering.{BelievesNoSooner, BelievesNotesNoSooner, CommandsAreNumbered, NotesAreNumbered, OnlyItsResponse};
-ghost use Rattle.host_core.specs.Laws.{ActsFit, SizesAreTheModels, PanelsAreShown, PanelsAskForScreens, ScreensAreWanted};
+ghost use Rattle.host_core.specs.Laws.{ActsFit, SizesAreTheModels, UnheardIsAllowed, PanelsAreShown, PanelsAskForScreens, ScreensAreWanted};
 ghost use Rattle.host_core.specs.NoteLaws.{HeldTakesNotes, NotesAreNotes, NotesAreOverCharacters, NotesOverwrite, NotesWriteProtected, PaintsTakeNotes, SameAttributesTakeNotes};
 ghost use Rattle.host_core.specs.Machine.{OneOutcome, PiecesCompose, PiecesPart};
 
 use datastream::laws::{kept_since_the_write, written_is_read};
 use panels::laws::{kept_fields_are_whole, the_last_row_is_for_messages};
-use shadow::laws::what_a_note_leaves;
+use shadow::laws::{what_a_note_leaves, what_is_in_doubt_is_allowed};
 
 /// Law: what a connection's bytes make of the pool and of the connection's line is a function of
 /// what these were and of the bytes, however they are cut into pieces.
@@ -27,6 +27,14 @@ pub fn what_is_shown_fits()
     ensures fits { ActsFit }
     ensures sizes { SizesAreTheModels }
 {}
+
+/// Law: the belief over which a panel is shown allows each screen that there may be then, by what may
+/// have happened since the host was told of the screen; so what holds of paints holds on each.
+pub fn what_may_have_happened_is_allowed()
+    ensures { UnheardIsAllowed }
+{
+    what_is_in_doubt_is_allowed();
+}
 
 /// Law: panels that are laid out on the screens of their models, no two of whose items share a cell,
 /// and of which each one of another model has one of model 2 in its place, are an application: each

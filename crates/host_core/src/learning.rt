@@ -1,5 +1,5 @@
 //! What is known of a panel's fields.
-ghost use Rattle.std.specs.Prelude.{◌≡◌, ◌<◌, ◌≤◌, ◌+◌, ◌++◌, ◌∷◌, [], true, false, length, Option, Some, IfSome, OnOk, OnErr, option_map, if◌then◌else◌, not, ◌==◌};
+ghost use Rattle.std.specs.Prelude.{◌≡◌, ◌≢◌, ◌<◌, ◌≤◌, ◌+◌, ◌++◌, ◌∷◌, [], true, false, length, Option, Some, IfOk, IfSome, OnOk, OnErr, option_map, if◌then◌else◌, not, ◌==◌};
 ghost use Rattle.std.specs.List.{list_any};
 ghost use Rattle.std.specs.Option.{option_map_or};
 ghost use Rattle.codes3270.specs.Size.{most_cells};
@@ -19,6 +19,7 @@ use codes3270::MOST_CELLS;
 use panels::{Field, Values};
 use shadow::laws::what_is_believed_can_be_stored;
 use shadow::{Fact, FieldText, Shadow};
+use std::alloc::Global;
 use telnet_wire::Memory;
 
 /// Room for the text of any field, which is shorter than the largest screen.
@@ -175,6 +176,24 @@ pub(crate) fn learn_each(
         learn(values, shadow, field, &mut text)?;
     }
     Ok(())
+}
+
+/// The known texts of fields. Memory is needed only if there is one.
+#[tactic(auto, using(crate::proofs::Learned::texts_want))]
+pub(crate) fn texts_known(
+    alloc: Global,
+    shadow: &Shadow,
+    fields: &[Field],
+) -> Result<Values, Memory>
+    requires stored { CanBeStored shadow.now }
+    requires there { HaveFields shadow.now fields.now }
+    requires numbers { HaveNumbersApart fields.now }
+    ensures texts { IfOk result (λ texts. texts ≡ learned shadow.now fields.now []) }
+    ensures memory { OnErr result (learned shadow.now fields.now [] ≢ []) }
+{
+    let mut texts = Values::new(alloc);
+    learn_each(&mut texts, shadow, fields)?;
+    Ok(texts)
 }
 
 /// Sets the known texts of fields as their values. Memory is needed only if a text is longer than the field's value; if it is

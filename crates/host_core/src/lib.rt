@@ -67,17 +67,20 @@
 //! The answer may also come later: meanwhile other connections are served, and the ticket says which question it is to.
 //!
 //! [`serve_turn`] does a turn of this on connections of any kind, by the trait [`Links`]: a read, an
-//! act, and a write. `specs/State` says what a host is, and `Rejections` which requests for an LU it
-//! rejected; `Feeds`, `Bytes`, `Items` and `Takes` say what bytes make of it, `Does` and `Acts` what
-//! it does in its turn, `Notes` what a note is, `KeepAlive` when NOP is sent, and `Serves` what a
-//! turn of serving is. What follows from these is the contract of [`laws::one_machine`] and of the
-//! other laws. The `data` of the repository's `trials3270` has whole dialogues, byte for byte.
+//! act, and a write. `specs/State` says what a host is, `Rejections` which requests for an LU it
+//! rejected, and `Reports` what a connection keeps until it is reported; `Feeds`, `Bytes`, `Items`
+//! and `Takes` say what bytes make of it, `Does` and `Acts` what it does in its turn, `Notes` what a
+//! note is, `KeepAlive` when NOP is sent, and `Serves` what a turn of serving is. What follows from
+//! these is the contract of [`laws::one_machine`] and of the other laws. The `data` of the
+//! repository's `trials3270` has whole dialogues, byte for byte.
 #![tactic(auto)]
 
 mod acted;
 mod acting;
+mod after_record;
 mod asking;
 mod connection;
+mod dropped_key;
 mod feeding;
 mod host;
 pub mod laws;
@@ -90,17 +93,21 @@ mod phase;
 mod question;
 mod records;
 mod rejection;
+mod reports;
 mod room;
 mod sending;
 mod serving;
 mod session;
 mod sessions;
 mod talking;
+mod terminals;
 mod turn;
 mod turn_reason;
+mod unheard;
 
 pub use acted::Acted;
 pub use datastream::Memory;
+pub use dropped_key::DroppedKey;
 pub use host::{Host, MOST_CONNECTIONS};
 pub use links::{LinkRead, LinkWrite, Links};
 pub use lu_pool::{Pool, PoolFault};
@@ -112,6 +119,8 @@ pub use rejection::Rejection;
 pub use room::OUT_ROOM;
 pub use serving::{READ_ROOM, Served, serve_turn};
 pub use shadow::{Fact, Shadow};
+pub use terminals::Terminals;
 pub use tn3270e_msg::{Cause, Fed, Lu, Reason, Stop};
 pub use turn::Turn;
 pub use turn_reason::TurnReason;
+pub use unheard::Unheard;

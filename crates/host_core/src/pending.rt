@@ -1,5 +1,7 @@
-ghost use Rattle.std.specs.Prelude.{◌≡◌};
-ghost use Rattle.host_core.specs.Keeps.{number_kept};
+ghost use Rattle.std.specs.Prelude.{◌≡◌, ℕ, List};
+ghost use Rattle.codes3270.specs.Size.{Shape};
+ghost use Rattle.host_core.specs.Items.{is_read_pending};
+ghost use Rattle.host_core.specs.Keeps.{number_kept, pending_in};
 
 /// The command that isn't answered yet, with its number (our profile).
 #[derive(Clone, Copy, Debug, PartialEq, Eq)]
@@ -24,6 +26,16 @@ impl Pending {
             Pending::Writing(number) | Pending::Reading(number) | Pending::Noting(number) => {
                 Some(number)
             }
+        }
+    }
+
+    /// Whether a read waits for its answer.
+    pub(crate) fn is_read(self) -> bool
+        ensures { (shape : Shape) (sent : List ℕ) → result ≡ is_read_pending (pending_in shape self sent) }
+    {
+        match self {
+            Pending::Reading(_) => true,
+            Pending::Nothing | Pending::Writing(_) | Pending::Noting(_) => false,
         }
     }
 }

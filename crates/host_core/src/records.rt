@@ -1,20 +1,26 @@
 //! What a host makes of the records of a terminal: data and responses.
 ghost use Rattle.std.specs.Prelude.{◌≡◌, true, drop, IfNone, unwrap_or};
 ghost use Rattle.codes3270.specs.Size.{cells_in};
+ghost use Rattle.codes3270.specs.declared.attention.Aid.TheVariants.{Clear};
 ghost use Rattle.datastream.specs.Grammar.{IsSpelt};
+ghost use Rattle.datastream.specs.InboundText.{IsNoInbound};
+ghost use Rattle.datastream.specs.declared.inbound_part.Form.TheVariants.{Buffer};
+ghost use Rattle.datastream.specs.declared.inbound_part.InboundFault.{InboundFault};
 ghost use Rattle.shadow.specs.Belief.{IsOfSize};
 ghost use Rattle.shadow.specs.Exactness.{is_erase};
 ghost use Rattle.shadow.specs.Stores.{is_plain};
 ghost use Rattle.tn3270e_msg.specs.Header.{header_length};
-ghost use Rattle.host_core.specs.Items.{TakesRecord, verdict_of};
-ghost use Rattle.host_core.specs.Keeps.{IsPlainWrite, command_in, silent};
+ghost use Rattle.host_core.specs.Items.{IsNoSecondKey, TakesData, TakesRecord, is_read_pending, may_be_second_key, verdict_of};
+ghost use Rattle.host_core.specs.Keeps.{IsPlainWrite, command_in, silent, step_of};
 ghost use Rattle.host_core.specs.Parts.{IsWrite, key_data_in_turn, write_of};
-ghost use Rattle.host_core.specs.Takes.{believed, buffer_came, data_came, form_awaited, hears, key_data_came, once_read, refused, response_came, verdict_came};
+ghost use Rattle.host_core.specs.Takes.{believed, buffer_came, data_came, form_awaited, hears, key_data_came, once_read, out_of_turn, second_key, refused, response_came, verdict_came};
 
+use crate::after_record::AfterRecord;
 use crate::pending::Pending;
 use crate::session::Session;
 use crate::turn::Turn;
 use crate::turn_reason::TurnReason;
+use crate::unheard::Unheard;
 use codes3270::{Addr, Aid, Size};
 use datastream::{Command, CommandCode, Form, Inbound, read_command, read_inbound};
 use shadow::Shadow;
@@ -61,23 +67,57 @@ fn is_erase(code: CommandCode) -> bool
 }
 
 impl Session {
-    /// Takes a record of a session that is agreed, and answers the cause by which it closes the connection, if it does.
-    pub(crate) fn take_record(&mut self, bytes: &[u8]) -> Option<Cause>
-        ensures taken { TakesRecord self.old bytes.now (silent self.new result) }
+    /// Takes a record of a session that is agreed.
+    pub(crate) fn take_record(&mut self, bytes: &[u8]) -> AfterRecord
+        ensures taken { TakesRecord self.old bytes.now (step_of self.new result) }
         ensures talk { self.new.talk ≡ self.old.talk }
         ensures panel { self.new.panel ≡ self.old.panel }
         ensures shape { self.new.shape ≡ self.old.shape }
     {
         let Ok((header, body)) = read_header(bytes) else {
-            return Some(Cause::BadRecord);
+            return AfterRecord::Closes(Cause::BadRecord);
         };
         match header.kind {
-            DataType::Data3270 => match read_inbound(body, self.form_awaited(), self.size()) {
-                Ok(inbound) => self.hear(&inbound),
-                Err(_) => Some(Cause::BadInbound),
-            },
-            DataType::Response => self.take_response(&header),
-            _ => None,
+            DataType::Data3270 => self.take_data(body),
+            DataType::Response => AfterRecord::of(self.take_response(&header)),
+            _ => AfterRecord::GoesOn,
+        }
+    }
+
+    /// Takes data, in the form that is awaited, or else as a second key's, if one may come.
+    fn take_data(&mut self, body: &[u8]) -> AfterRecord
+        ensures taken { TakesData self.old body.now (step_of self.new result) }
+        ensures talk { self.new.talk ≡ self.old.talk }
+        ensures panel { self.new.panel ≡ self.old.panel }
+        ensures shape { self.new.shape ≡ self.old.shape }
+    {
+        match read_inbound(body, self.form_awaited(), self.size()) {
+            Ok(inbound) => self.hear(&inbound),
+            Err(_) => self.take_second_key(body),
+        }
+    }
+
+    /// Whether data that isn't the answer to a read may be a second key's.
+    fn may_be_second_key(&self) -> bool
+        ensures { result ≡ may_be_second_key self.now }
+    {
+        self.unheard.may_have_changed() && self.pending.is_read()
+    }
+
+    /// Takes data that can't be read in the form that is awaited.
+    fn take_second_key(&mut self, body: &[u8]) -> AfterRecord
+        requires { (fault : InboundFault) × IsNoInbound self.old.shape (form_awaited self.old.pending) fault body.now }
+        ensures taken { TakesData self.old body.now (step_of self.new result) }
+        ensures talk { self.new.talk ≡ self.old.talk }
+        ensures panel { self.new.panel ≡ self.old.panel }
+        ensures shape { self.new.shape ≡ self.old.shape }
+    {
+        if !self.may_be_second_key() {
+            return AfterRecord::Closes(Cause::BadInbound);
+        }
+        match read_inbound(body, Form::Modified, self.size()) {
+            Ok(inbound) => self.hear(&inbound),
+            Err(_) => AfterRecord::Closes(Cause::BadInbound),
         }
     }
 
@@ -101,49 +141,113 @@ impl Session {
     // ---- data
 
     /// Hears data: the answer to a read, or that of a key in the terminal's turn.
-    fn hear(&mut self, inbound: &Inbound<'_>) -> Option<Cause>
+    fn hear(&mut self, inbound: &Inbound<'_>) -> AfterRecord
         requires { inbound.now.size ≡ self.old.shape }
-        ensures came { silent self.new result ≡ data_came inbound.now self.old.turn self.old.pending self.old }
+        ensures came { step_of self.new result ≡ data_came inbound.now self.old.turn self.old.pending self.old }
         ensures talk { self.new.talk ≡ self.old.talk }
         ensures panel { self.new.panel ≡ self.old.panel }
         ensures shape { self.new.shape ≡ self.old.shape }
     {
         match self.pending {
-            Pending::Reading(_) => self.hear_buffer(inbound),
-            Pending::Writing(_) => Some(Cause::BadInbound),
+            Pending::Reading(_) => self.hear_meanwhile(inbound),
+            Pending::Writing(_) => self.hear_out_of_turn(inbound),
             Pending::Nothing => self.hear_in_turn(inbound),
             Pending::Noting(_) => self.hear_in_turn(inbound),
         }
     }
 
-    /// Hears data while nothing but a note waits for an answer: a key's, in the terminal's turn; in the host's it closes the
-    /// connection.
-    fn hear_in_turn(&mut self, inbound: &Inbound<'_>) -> Option<Cause>
+    /// Hears data that comes out of turn: a second key's is dropped, if the host doesn't rely on the terminal's wait.
+    fn hear_out_of_turn(&mut self, inbound: &Inbound<'_>) -> AfterRecord
+        ensures came { step_of self.new result ≡ out_of_turn inbound.now self.old }
+        ensures talk { self.new.talk ≡ self.old.talk }
+        ensures panel { self.new.panel ≡ self.old.panel }
+        ensures shape { self.new.shape ≡ self.old.shape }
+    {
+        if !self.unheard.may_have_changed() {
+            return AfterRecord::Closes(Cause::BadInbound);
+        }
+        match inbound.form() {
+            Form::Modified => self.drop_key(inbound.aid()),
+            Form::All => AfterRecord::Closes(Cause::BadInbound),
+            Form::Buffer => AfterRecord::Closes(Cause::BadInbound),
+        }
+    }
+
+    /// Drops a second key.
+    fn drop_key(&mut self, aid: Aid) -> AfterRecord
+        ensures came { step_of self.new result ≡ second_key aid self.old.pending self.old }
+        ensures talk { self.new.talk ≡ self.old.talk }
+        ensures panel { self.new.panel ≡ self.old.panel }
+        ensures shape { self.new.shape ≡ self.old.shape }
+    {
+        match aid {
+            Aid::NoAid => AfterRecord::Closes(Cause::BadInbound),
+            Aid::Clear => self.drop_clear(),
+            Aid::Enter => AfterRecord::Drops(aid),
+            Aid::Pf(_) => AfterRecord::Drops(aid),
+            Aid::Pa(_) => AfterRecord::Drops(aid),
+        }
+    }
+
+    /// Drops the Clear key: nothing of the screen may be believed when a panel is shown. It is too late if a command is on its way.
+    fn drop_clear(&mut self) -> AfterRecord
+        ensures came { step_of self.new result ≡ second_key Clear self.old.pending self.old }
+        ensures talk { self.new.talk ≡ self.old.talk }
+        ensures panel { self.new.panel ≡ self.old.panel }
+        ensures shape { self.new.shape ≡ self.old.shape }
+    {
+        match self.pending {
+            Pending::Nothing => {
+                self.unheard = Unheard::Clear;
+                AfterRecord::Drops(Aid::Clear)
+            }
+            Pending::Writing(_) => AfterRecord::Closes(Cause::BadInbound),
+            Pending::Reading(_) => AfterRecord::Closes(Cause::BadInbound),
+            Pending::Noting(_) => AfterRecord::Closes(Cause::BadInbound),
+        }
+    }
+
+    /// Hears data while a read is pending: its answer, or else a second key's.
+    fn hear_meanwhile(&mut self, inbound: &Inbound<'_>) -> AfterRecord
         requires size { inbound.now.size ≡ self.old.shape }
         requires known { IsOfSize (cells_in self.old.shape) self.old.shadow }
-        ensures came { silent self.new result ≡ key_data_in_turn inbound.now self.old.turn self.old }
+        ensures came { step_of self.new result ≡ buffer_came inbound.now inbound.now.form self.old }
+        ensures talk { self.new.talk ≡ self.old.talk }
+        ensures panel { self.new.panel ≡ self.old.panel }
+        ensures shape { self.new.shape ≡ self.old.shape }
+    {
+        match inbound.form() {
+            Form::Buffer => AfterRecord::of(self.hear_buffer(inbound)),
+            Form::Modified => self.hear_out_of_turn(inbound),
+            Form::All => self.hear_out_of_turn(inbound),
+        }
+    }
+
+    /// Hears data while nothing but a note waits for an answer: a key's, in the terminal's turn; in the host's it is out of turn.
+    fn hear_in_turn(&mut self, inbound: &Inbound<'_>) -> AfterRecord
+        requires size { inbound.now.size ≡ self.old.shape }
+        requires known { IsOfSize (cells_in self.old.shape) self.old.shadow }
+        ensures came { step_of self.new result ≡ key_data_in_turn inbound.now self.old.turn self.old }
         ensures talk { self.new.talk ≡ self.old.talk }
         ensures panel { self.new.panel ≡ self.old.panel }
         ensures shape { self.new.shape ≡ self.old.shape }
     {
         match self.turn {
-            Turn::Host => Some(Cause::BadInbound),
-            Turn::Terminal => self.hear_key(inbound),
+            Turn::Host => self.hear_out_of_turn(inbound),
+            Turn::Terminal => AfterRecord::of(self.hear_key(inbound)),
         }
     }
 
     /// Hears the whole screen.
     fn hear_buffer(&mut self, inbound: &Inbound<'_>) -> Option<Cause>
+        requires form { inbound.now.form ≡ Buffer }
         requires size { inbound.now.size ≡ self.old.shape }
         requires known { IsOfSize (cells_in self.old.shape) self.old.shadow }
-        ensures came { silent self.new result ≡ buffer_came inbound.now inbound.now.form self.old }
+        ensures came { silent self.new result ≡ buffer_came inbound.now Buffer self.old }
         ensures talk { self.new.talk ≡ self.old.talk }
         ensures panel { self.new.panel ≡ self.old.panel }
         ensures shape { self.new.shape ≡ self.old.shape }
     {
-        let Form::Buffer = inbound.form() else {
-            return Some(Cause::BadInbound);
-        };
         let cause = self.believe(inbound, once_read(self.turn_reason));
         if cause.is_none() {
             self.pending = Pending::Nothing;

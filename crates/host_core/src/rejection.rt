@@ -1,16 +1,14 @@
-//! The requests for an LU that the host rejected, which a connection keeps until they are reported.
-ghost use Rattle.std.specs.Prelude.{◌≡◌, Some};
+//! The requests for an LU that the host rejected.
+ghost use Rattle.std.specs.Prelude.{◌≡◌, None};
 ghost use Rattle.telnet_wire.specs.Items.{item_of};
 ghost use Rattle.tn3270e_msg.specs.Lent.{message_of, name_of};
 ghost use Rattle.tn3270e_msg.specs.Talk.{Comes, Hears, message_says};
-ghost use Rattle.host_core.specs.Rejections.{kept_with, lu_asked, lu_named, reason_in, reason_of, rejection_by};
+ghost use Rattle.host_core.specs.Rejections.{lu_asked, lu_named, reason_in, reason_of, rejection_by};
+ghost use Rattle.host_core.specs.Reports.{reported};
 
-use arrayvec::ArrayVec;
+use crate::reports::Reports;
 use telnet_wire::Item;
 use tn3270e_msg::{Lu, Name, OwnedMessage, Reason, Reply, SubMessage, read_sub};
-
-/// The most rejections that a connection keeps: its talk sends no more of them.
-pub(crate) const MOST_REJECTIONS: usize = 8;
 
 /// A DEVICE-TYPE REQUEST that the host rejected (RFC 1647, section 7).
 #[derive(Clone, Copy)]
@@ -98,29 +96,12 @@ fn reason_in(reply: &Reply) -> Option<Reason>
     }
 }
 
-/// Keeps a rejection behind the others.
-fn add_rejection(
-    rejections: &mut ArrayVec<Rejection, MOST_REJECTIONS>,
-    lu: Option<Lu>,
-    reason: Reason,
-)
-    ensures { rejections.new.items ≡ kept_with (Some (record { lu = lu; reason = reason })) rejections.old.items }
-{
-    if rejections.len() < MOST_REJECTIONS {
-        rejections.push(Rejection { lu, reason });
-    }
-}
-
 /// Keeps the rejection of what an item asks for, if this reply to the item rejects it.
-pub(crate) fn keep_rejection(
-    rejections: &mut ArrayVec<Rejection, MOST_REJECTIONS>,
-    reply: &Reply,
-    item: &Item<'_>,
-)
-    ensures { (comes : Comes) → Hears (item_of item.now) comes → rejections.new.items ≡ kept_with (rejection_by (lu_asked comes) reply.now) rejections.old.items }
+pub(crate) fn keep_rejection(reports: &mut Reports, reply: &Reply, item: &Item<'_>)
+    ensures { (comes : Comes) → Hears (item_of item.now) comes → reports.new ≡ reported (rejection_by (lu_asked comes) reply.now) None reports.old }
 {
     match reason_in(reply) {
-        Some(reason) => add_rejection(rejections, lu_asked(item), reason),
+        Some(reason) => reports.keep_rejection(lu_asked(item), reason),
         None => {}
     }
 }

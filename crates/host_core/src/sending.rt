@@ -11,7 +11,7 @@ ghost use Rattle.panels.specs.Keys.{IsKey};
 ghost use Rattle.panels.specs.Panel.{IsLaidOut, shape_of, target_of};
 ghost use Rattle.telnet_wire.specs.Items.{Record, sent_bytes};
 ghost use Rattle.tn3270e_msg.specs.Header.{always_response, spelling};
-ghost use Rattle.host_core.specs.Acts.{Act as Doing, done, wanted_by};
+ghost use Rattle.host_core.specs.Acts.{Act as Doing, done, painted, wanted_by, when_shown};
 ghost use Rattle.host_core.specs.Application.{Application, application_of, panel_at};
 ghost use Rattle.host_core.specs.Choices.{CanBeShown};
 ghost use Rattle.host_core.specs.Keeps.{IsSentOn, act_of};
@@ -25,10 +25,12 @@ use crate::laws::panels_are_shown;
 use crate::pending::Pending;
 use crate::session::Session;
 use crate::turn::Turn;
+use crate::unheard::Unheard;
 use codes3270::Wcc;
 use datastream::{CommandCode, CommandWriter, Want, Wanted};
 use panels::{Panel, PanelSet, Values};
-use shadow::laws::what_is_wanted_is_painted;
+use shadow::Shadow;
+use shadow::laws::{what_is_in_doubt_is_allowed, what_is_wanted_is_painted};
 use telnet_wire::put_record;
 use tn3270e_msg::{ALWAYS_RESPONSE, DataType, ERROR_RESPONSE, Header, header_bytes, next_seq};
 
@@ -163,12 +165,39 @@ impl Session {
         &self.values
     }
 
+    /// Believes no more what may have changed unheard, before a panel is shown.
+    fn forget_unheard(&mut self)
+        ensures { self.new ≡ when_shown self.old }
+    {
+        what_is_in_doubt_is_allowed();
+        match self.unheard {
+            Unheard::Nothing => {}
+            Unheard::Input => self.shadow.doubt(),
+            Unheard::Clear => {
+                self.shadow = Shadow::blank();
+                self.unheard = Unheard::Input;
+            }
+        }
+    }
+
     /// Shows a panel, or the one in its place for the terminal's model, with a message and the values of fields. The session has
     /// that panel's size from then on, before the command is answered.
     pub(crate) fn show(&mut self, panels: &PanelSet, asked: Shown, out: &mut Vec<u8>)
         requires asked { CanBeShown (length panels.now.panels) asked }
         requires room { HasRoomFor command_room out.old }
         ensures sent { IsSentOn (done (application_of panels.now) self.old (act_of self.old.values asked)) out.old out.new self.new }
+        ensures panel { IsShownOn panels.now self.new }
+        ensures capacity { vec_capacity out.old ≤ vec_capacity out.new }
+    {
+        self.forget_unheard();
+        self.paint(panels, asked, out);
+    }
+
+    /// The same, over what is believed.
+    fn paint(&mut self, panels: &PanelSet, asked: Shown, out: &mut Vec<u8>)
+        requires asked { CanBeShown (length panels.now.panels) asked }
+        requires room { HasRoomFor command_room out.old }
+        ensures sent { IsSentOn (painted (application_of panels.now) self.old asked.panel asked.message asked.keep self.old.values) out.old out.new self.new }
         ensures panel { IsShownOn panels.now self.new }
         ensures capacity { vec_capacity out.old ≤ vec_capacity out.new }
     {

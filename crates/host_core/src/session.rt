@@ -7,8 +7,10 @@ ghost use Rattle.tn3270e_msg.specs.HostTable.{model_asked};
 
 use crate::pending::Pending;
 use crate::room::RECORD_ROOM;
+use crate::terminals::Terminals;
 use crate::turn::Turn;
 use crate::turn_reason::TurnReason;
+use crate::unheard::Unheard;
 use codes3270::{Addr, Model as TerminalModel, Size};
 use panels::{Message, PanelSet, Values};
 use shadow::Shadow;
@@ -36,6 +38,8 @@ pub(crate) struct Session {
     pub(crate) turn_reason: TurnReason,
     // Where it was when the terminal's last data was sent.
     pub(crate) cursor: Addr,
+    // What may have happened to the screen since it was heard of.
+    pub(crate) unheard: Unheard,
     // The record that was sent last, its header first; it has room for the largest.
     pub(crate) sent: Vec<u8>,
 }
@@ -61,15 +65,20 @@ impl Model for Session {
       values = s.values;
       turn_reason = s.turn_reason;
       cursor = s.cursor;
+      unheard = s.unheard;
     } };
 
     ghost invariant = { λ s. IsKept s.size s.pending s.sent.items × (record_room ≤ vec_capacity s.sent) × CanBeStored s.shadow × BelievesTheSize s.size s.pending s.sent.items s.shadow };
 }
 
 impl Session {
-    /// As a connection begins, when TN3270E was offered. It makes the room for the records that it will send.
-    pub(crate) fn new(alloc: Global, panels: &PanelSet) -> Result<Session, Memory>
-        ensures begins { IfOk result (λ session. session ≡ new_conn (application_of panels.now)) }
+    /// As a connection to such a terminal begins, when TN3270E was offered. It makes the room for the records that it will send.
+    pub(crate) fn new(
+        alloc: Global,
+        terminals: Terminals,
+        panels: &PanelSet,
+    ) -> Result<Session, Memory>
+        ensures begins { IfOk result (λ session. session ≡ new_conn terminals (application_of panels.now)) }
         ensures panel { IfOk result (λ session. IsShownOn panels.now session) }
     {
         panels.panels_are_sound();
@@ -86,6 +95,7 @@ impl Session {
             values: Values::new(alloc),
             turn_reason: TurnReason::Agreement,
             cursor: Addr::first(),
+            unheard: terminals.unheard(),
             sent,
         })
     }

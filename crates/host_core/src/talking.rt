@@ -1,5 +1,5 @@
 //! What a host makes of what the stream hands out: the talk's part of it, and records.
-ghost use Rattle.std.specs.Prelude.{◌≡◌, ◌≤◌, IfNone};
+ghost use Rattle.std.specs.Prelude.{◌≡◌, ◌≤◌, IfNone, None};
 ghost use Rattle.std.specs.Vec.{vec_capacity};
 ghost use Rattle.lu_pool.specs.Asking.{answer_to};
 ghost use Rattle.lu_pool.specs.Holders.{granted_if};
@@ -7,14 +7,17 @@ ghost use Rattle.lu_pool.specs.Pool.{HoldsNone};
 ghost use Rattle.telnet_wire.specs.Items.{item_of};
 ghost use Rattle.tn3270e_msg.specs.HostTable.{granted};
 ghost use Rattle.tn3270e_msg.specs.Writing.{HasRoomForReply};
-ghost use Rattle.host_core.specs.Keeps.{ItemTaken, OthersHold};
+ghost use Rattle.host_core.specs.Keeps.{ItemTaken, OthersHold, step_of};
 ghost use Rattle.host_core.specs.Parts.{TalkTaken};
+ghost use Rattle.host_core.specs.Reports.{reported};
+ghost use Rattle.host_core.specs.Session.{Conn};
 ghost use Rattle.host_core.specs.Sound.{HoldsJust};
 ghost use Rattle.host_core.specs.Takes.{granted_by};
 
-use crate::rejection::{MOST_REJECTIONS, Rejection, keep_rejection};
+use crate::after_record::AfterRecord;
+use crate::rejection::keep_rejection;
+use crate::reports::Reports;
 use crate::session::Session;
-use arrayvec::ArrayVec;
 use lu_pool::Pool;
 use telnet_wire::Item;
 use tn3270e_msg::{Cause, HostTalk, Lu, Reason, Reply, put_reply};
@@ -26,12 +29,12 @@ pub(crate) fn take_item(
     number: usize,
     session: &mut Session,
     out: &mut Vec<u8>,
-    rejections: &mut ArrayVec<Rejection, MOST_REJECTIONS>,
+    reports: &mut Reports,
     item: &Item<'_>,
 ) -> Option<Cause>
     requires room { HasRoomForReply out.old }
     requires holder { HoldsJust number pool.old (granted session.old.talk.state) }
-    ensures taken { ItemTaken number pool.old session.old (item_of item.now) out.old out.new result pool.new session.new rejections.old.items rejections.new.items }
+    ensures taken { ItemTaken number pool.old session.old (item_of item.now) out.old out.new result pool.new session.new reports.old reports.new }
     ensures holds { IfNone result (HoldsJust number pool.new (granted session.new.talk.state)) }
     ensures others { OthersHold number pool.old pool.new }
     ensures panel { session.new.panel ≡ session.old.panel }
@@ -39,12 +42,28 @@ pub(crate) fn take_item(
     ensures capacity { vec_capacity out.old ≤ vec_capacity out.new }
 {
     let Item::Record(bytes) = item else {
-        return talk_on(pool, number, &mut session.talk, out, rejections, item);
+        return talk_on(pool, number, &mut session.talk, out, reports, item);
     };
     if session.talk.is_agreed() {
-        session.take_record(bytes)
+        let after = session.take_record(bytes);
+        keep_dropped(reports, after)
     } else {
         None
+    }
+}
+
+/// Keeps the key that a record drops, if it drops one, and answers the cause by which the record closes the connection, if it does.
+fn keep_dropped(reports: &mut Reports, after: AfterRecord) -> Option<Cause>
+    ensures closes { (conn : Conn) → result ≡ (step_of conn after).closes }
+    ensures kept { (conn : Conn) → reports.new ≡ reported None (step_of conn after).drops reports.old }
+{
+    match after {
+        AfterRecord::GoesOn => None,
+        AfterRecord::Closes(cause) => Some(cause),
+        AfterRecord::Drops(aid) => {
+            reports.keep_dropped_key(aid);
+            None
+        }
     }
 }
 
@@ -55,12 +74,12 @@ fn talk_on(
     number: usize,
     talk: &mut HostTalk,
     out: &mut Vec<u8>,
-    rejections: &mut ArrayVec<Rejection, MOST_REJECTIONS>,
+    reports: &mut Reports,
     item: &Item<'_>,
 ) -> Option<Cause>
     requires room { HasRoomForReply out.old }
     requires holder { HoldsJust number pool.old (granted talk.old.state) }
-    ensures taken { TalkTaken number pool.old talk.old (item_of item.now) out.old out.new result pool.new talk.new rejections.old.items rejections.new.items }
+    ensures taken { TalkTaken number pool.old talk.old (item_of item.now) out.old out.new result pool.new talk.new reports.old reports.new }
     ensures holds { IfNone result (HoldsJust number pool.new (granted talk.new.state)) }
     ensures others { OthersHold number pool.old pool.new }
     ensures capacity { vec_capacity out.old ≤ vec_capacity out.new }
@@ -69,11 +88,11 @@ fn talk_on(
         Reply::AskPool(name) => {
             let answer = ask(pool, number, &name);
             let reply = talk.answered(answer);
-            keep_rejection(rejections, &reply, item);
+            keep_rejection(reports, &reply, item);
             put_reply(out, &reply)
         }
         reply => {
-            keep_rejection(rejections, &reply, item);
+            keep_rejection(reports, &reply, item);
             put_reply(out, &reply)
         }
     }

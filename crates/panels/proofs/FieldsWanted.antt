@@ -1,5 +1,5 @@
 -- Each screen that a panel asks for has each field of the panel.
-use Rattle.std.proofs.Common.{◌≡◌, ◌==◌, ◌+◌, ◌-◌, ◌∙◌, ℕ, Bool, true, false, cond, Some, ap, sym, if◌then◌else◌}
+use Rattle.std.proofs.Common.{◌≡◌, ◌==◌, ◌+◌, ◌-◌, ◌≤◌, ◌∙◌, ℕ, Bool, true, false, cond, Some, ap, arith, refl, sym, if◌then◌else◌}
 use Rattle.std.specs.Prelude.{slice_get, slice_index_or, is_some}
 use Rattle.std.specs.Option.{option_or}
 use Rattle.codes3270.specs.declared.attribute.Attr.{Attr}
@@ -10,7 +10,7 @@ use Rattle.panels.specs.declared.panel.Field.{Field}
 use Rattle.panels.specs.Size.{message_start}
 use Rattle.panels.specs.Panel.{PanelParts, IsCellOf, IsLaidOut, HasItemsApart, shape_of}
 use Rattle.panels.specs.Screen.{Values, distance_in, item_cell, text_cell, field_attr, field_content, kept_cell, field_cell, stopper_cell, message_cell, first_some, wanted_cell}
-use Rattle.panels.specs.KeptFields.{FieldsAreOnTheScreen}
+use Rattle.panels.specs.KeptFields.{AttributesAreThere, FieldsAreOnTheScreen, FieldsAreWritten}
 use Rattle.panels.proofs.Answering.{Answers, or_answers, left_answers, first_answers, left_is_some, right_is_some, first_is_some, mapped_is_some, taken_answer}
 use Rattle.panels.proofs.KeptFields.{IsAttribute, at_end, at_most, character_has, distance_there, field_above, first_distance, first_has, item_answer, item_first, kept_first, less_at_most, message_behind, no_text, on_screen, only_field, other_field, some_behind, some_distance, starts, stopper_answers, stopper_is_some, texts_behind}
 use Rattle.panels.proofs.Screens.{cell_of_screen}
@@ -94,6 +94,29 @@ wanted_behind panel values message keep i field apart laid at_i =
 
 -- ---- so the screen has it
 
+pub attributes_there : AttributesAreThere
+attributes_there panel values message keep i field apart laid at_i =
+    let first = field.extent.first in
+    cell_of_screen panel values message keep (first - 1) (on_screen panel i field laid at_i (first - 1) (at_most first field.extent.length))
+    ∙ ap Some (wanted_of_field panel values message keep i (first - 1) field apart at_i (first_has field.extent) ∙ first_cell values message keep field (first - 1 + 1 - first) (first_distance field.extent))
+
+char_later : (attr : Attr) (char : ℕ) (b : Bool) → b ≡ false → cond b (want.Attr attr) (want.Char char) ≡ want.Char char
+char_later attr char b later = rw later refl
+
+-- how many characters of the field come before a cell
+before_it : (first cell : ℕ) → first ≤ cell → cell + 1 - first - 1 ≡ cell - first
+before_it first cell past = omega arith
+
+pub fields_written : FieldsAreWritten
+fields_written panel values message i field cell apart laid at_i is =
+    let first = field.extent.first in
+    let size = field.extent.length in
+    let content = field_content values message field in
+    cell_of_screen panel values message false cell (on_screen panel i field laid at_i cell (less_at_most cell (first + size) is.1))
+    ∙ ap Some (wanted_of_field panel values message false i cell field apart at_i (character_has first size cell is.0 is.1)
+    ∙ char_later (field_attr values message false field) (slice_index_or content (cell + 1 - first - 1) 0) ((cell + 1 - first) == 0) (some_distance first cell is.0)
+    ∙ ap (λ (d : ℕ). want.Char (slice_index_or content d 0)) (before_it first cell is.0))
+
 pub fields_on_the_screen : FieldsAreOnTheScreen
 fields_on_the_screen panel values message keep i field apart laid at_i =
     let attribute = field_attr values message keep field in
@@ -102,11 +125,7 @@ fields_on_the_screen panel values message keep i field apart laid at_i =
     let behind = wanted_behind panel values message keep i field apart laid at_i in
     let within = on_screen panel i field laid at_i in
     record {
-      attribute = (
-        attribute,
-        cell_of_screen panel values message keep (first - 1) (within (first - 1) (at_most first size))
-            ∙ ap Some (wanted_of_field panel values message keep i (first - 1) field apart at_i (first_has field.extent) ∙ first_cell values message keep field (first - 1 + 1 - first) (first_distance field.extent)),
-      );
+      attribute = (attribute, attributes_there panel values message keep i field apart laid at_i);
       characters = λ cell is has.
           let both : Some (cell_of_field values message keep cell field) ≡ Some (want.Attr has.0) =
           sym (cell_of_screen panel values message keep cell (within cell (less_at_most cell (first + size) is.1))

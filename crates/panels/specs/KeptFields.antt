@@ -1,5 +1,5 @@
 -- What a screen that a panel asks for keeps: whole fields, or none (our profile).
-use Rattle.std.specs.Prelude.{◌≡◌, ℕ, ◌<◌, ◌≤◌, ◌+◌, ◌-◌, Bool, true, Some, slice_get}
+use Rattle.std.specs.Prelude.{◌≡◌, ℕ, ◌<◌, ◌≤◌, ◌+◌, ◌-◌, Bool, true, false, Some, slice_get, slice_index_or}
 use Rattle.codes3270.specs.declared.attribute.Attr.{Attr}
 use Rattle.datastream.specs.Wanted.{WantedScreen}
 use Rattle.datastream.specs.declared.wanted.Want.TheVariants as want
@@ -7,7 +7,7 @@ use Rattle.panels.specs.declared.extent.Extent.{Extent}
 use Rattle.panels.specs.declared.panel.Field.{Field}
 use Rattle.panels.specs.declared.message.Message.{Message}
 use Rattle.panels.specs.Panel.{PanelParts, HasItemsApart, IsLaidOut}
-use Rattle.panels.specs.Screen.{Values, screen_of}
+use Rattle.panels.specs.Screen.{Values, field_attr, field_content, screen_of}
 
 abbrev pub HasAttributeAt : WantedScreen → ℕ → Type 0
 HasAttributeAt screen cell = (attribute : Attr) × (slice_get screen.cells cell ≡ Some (want.Attr attribute))
@@ -52,3 +52,17 @@ abbrev pub FieldsAreOnTheScreen : Type 0
 FieldsAreOnTheScreen =
     (panel : PanelParts) (values : Values) (message : Message) (keep : Bool) (i : ℕ) (field : Field) → HasItemsApart panel → IsLaidOut panel
     → slice_get panel.fields i ≡ Some field → IsFieldOn (screen_of panel values message keep) field.extent
+
+-- The attribute of each field of the panel stands right before its first cell.
+abbrev pub AttributesAreThere : Type 0
+AttributesAreThere =
+    (panel : PanelParts) (values : Values) (message : Message) (keep : Bool) (i : ℕ) (field : Field) → HasItemsApart panel → IsLaidOut panel
+    → slice_get panel.fields i ≡ Some field
+    → slice_get (screen_of panel values message keep).cells (field.extent.first - 1) ≡ Some (want.Attr (field_attr values message keep field))
+
+-- Where nothing is kept each cell of each field is written: with the field's content, and with nulls where that is shorter.
+abbrev pub FieldsAreWritten : Type 0
+FieldsAreWritten =
+    (panel : PanelParts) (values : Values) (message : Message) (i : ℕ) (field : Field) (cell : ℕ) → HasItemsApart panel → IsLaidOut panel
+    → slice_get panel.fields i ≡ Some field → IsCharacterOf field.extent cell
+    → slice_get (screen_of panel values message false).cells cell ≡ Some (want.Char (slice_index_or (field_content values message field) (cell - field.extent.first) 0))

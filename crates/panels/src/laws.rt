@@ -1,7 +1,7 @@
 //! Laws of panels: each is the contract of a function that does nothing. Proofs of
 //! other crates use them; no program calls them, and the root doesn't export them.
 ghost use Rattle.panels.specs.Defines.{DefinesOnce};
-ghost use Rattle.panels.specs.KeptFields.{FieldsAreKeptWhole, FieldsAreOnTheScreen, NothingElseIsKept};
+ghost use Rattle.panels.specs.KeptFields.{AttributesAreThere, FieldsAreKeptWhole, FieldsAreOnTheScreen, FieldsAreWritten, NothingElseIsKept};
 ghost use Rattle.panels.specs.MessageRow.{PanelsLeaveTheRow, TheRowIsTheMessage, TheRoomIsTheRow};
 
 /// Law: on each screen that a panel asks for the last row is a protected field with the message:
@@ -27,6 +27,14 @@ pub fn kept_fields_are_whole()
 /// between them. For this no two items of the panel may share a cell.
 pub fn fields_are_on_the_screen()
     ensures { FieldsAreOnTheScreen }
+{}
+
+/// Law: each screen that a panel asks for has each field's attribute right before its first cell; and
+/// if nothing is kept, each cell of a field is written: with the field's value or fill, as far as that
+/// goes, then with nulls. For this no two items of the panel may share a cell.
+pub fn fields_are_written()
+    ensures attributes { AttributesAreThere }
+    ensures characters { FieldsAreWritten }
 {}
 
 /// Law: a text defines its panels once: what is read from it is a function of the text.

@@ -1,5 +1,5 @@
 //! The values of fields.
-ghost use Rattle.std.specs.Prelude.{◌≡◌, ◌≢◌, List, ℕ, [], Some, option_copied, OnOk, OnErr, IfSome, IsSome, All};
+ghost use Rattle.std.specs.Prelude.{◌≡◌, ◌≢◌, ◌==◌, List, ℕ, [], Some, length, option_copied, OnOk, OnErr, IfSome, IsSome, All};
 ghost use Rattle.std.specs.BTreeMap.{insert_entry, is_at};
 ghost use Rattle.std.specs.Map.{remove_entry, values_of};
 ghost use Rattle.std.specs.Ordering.{nat_cmp};
@@ -43,6 +43,13 @@ impl Values {
     {
         let values = BTreeMap::new(alloc);
         Values { alloc, values }
+    }
+
+    /// Whether no field has a value.
+    pub fn is_empty(&self) -> bool
+        ensures { result ≡ (length self.now == 0) }
+    {
+        self.values.len() == 0
     }
 
     /// The value of the field with a number, if it has one: storable bytes without nulls. To set it once more would change nothing.

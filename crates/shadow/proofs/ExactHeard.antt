@@ -25,6 +25,7 @@ use Rattle.shadow.specs.Belief.{Fact, Belief, Shadow, nulls, fields_of}
 use Rattle.shadow.specs.Meets.{FieldMeets, Holds, told, FieldTold}
 use Rattle.shadow.specs.Heard.{Answer, starts_at, is_nowhere, answer_and, answers, contradicts, was_erased, text_fact, or_nulls, unprotected_fact, after_long, settled, heard_long, unknown_fact, after_attention, heard_attention, heard_short, heard_parts, heard}
 use Rattle.shadow.specs.Seen.{belief_seen, formatted_or, seen, known_chars, denies_buffer}
+use Rattle.shadow.specs.Doubt.{DoubtStaysExact, DoubtStaysProtected}
 use Rattle.shadow.specs.Exactness.{IsExact, IsExactWhereKnown, FieldIsExact, IsExactIfProtected, HeardStaysExact, HeardStaysProtected, NothingIsExact, ProtectedSeen, ProtectedIsSeen, ReturnedTold, ReturnedIsTold}
 use Rattle.shadow.proofs.FieldPlaces.{both_false}
 
@@ -221,6 +222,9 @@ read_exact f = exact_fact (length f.text) f.text refl
 pub seen_exact : (cells : List Cell) → All FieldIsExact (fields_of (seen cells))
 seen_exact = seen_has FieldIsExact read_exact
 
+pub doubt_exact : DoubtStaysExact
+doubt_exact = attention_keeps FieldIsExact long_exact attention_exact read_exact
+
 pub heard_exact : HeardStaysExact
 heard_exact = heard_keeps FieldIsExact long_exact attention_exact read_exact
 
@@ -245,6 +249,9 @@ read_protected f p = (f.text, refl)
 
 pub seen_protected : (cells : List Cell) → All IsExactIfProtected (fields_of (seen cells))
 seen_protected = seen_has IsExactIfProtected read_protected
+
+pub doubt_protected : DoubtStaysProtected
+doubt_protected = attention_keeps IsExactIfProtected long_protected attention_protected read_protected
 
 pub heard_protected : HeardStaysProtected
 heard_protected = heard_keeps IsExactIfProtected long_protected attention_protected read_protected

@@ -22,6 +22,7 @@ pub mod ExactHeard
 pub mod Behind
 pub mod ExactTaken
 pub mod ExactPainted
+pub mod PaintedFields
 pub mod ExactWritten
 pub mod KnownCells
 pub mod StoredClosed
@@ -53,3 +54,4 @@ pub mod StoredRuns
 pub mod KnownRuns
 pub mod ShorterTexts
 pub mod Sizes
+pub mod Doubt

@@ -232,14 +232,14 @@ paint_orders size cursor reset more s whole =
     length-prepared false = whole
 
 -- the cells under a paint
-length-under : (n : ℕ) (cells : List Cell) → length (cells_under n cells) ≡ n
+pub length-under : (n : ℕ) (cells : List Cell) → length (cells_under n cells) ≡ n
 length-under n cells = cases (length cells == n) refl
   where
     cases : (t : Bool) → (length cells == n) ≡ t → length (if t then cells else replicate n (Char 0)) ≡ n
     cases true e = eqb-true (length cells) n e
     cases false e = length-replicate n (Char 0)
 
-under_same : (n : ℕ) (cells : List Cell) → length cells ≡ n → cells_under n cells ≡ cells
+pub under_same : (n : ℕ) (cells : List Cell) → length cells ≡ n → cells_under n cells ≡ cells
 under_same n cells e = ap (λ (t : Bool). if t then cells else replicate n (Char 0)) (eq-eqb (length cells) n e)
 
 erased_paint : (size : ℕ) (wanted : WantedScreen) (s : Screen) → length wanted.cells ≡ size → HasNoKeep wanted.cells

@@ -57,7 +57,7 @@ attention_cells (b ∷ bs) = cases b.attr.protected (attention_cells bs)
     cases true e = ap (λ (k : ℕ). suc b.length + k) e
     cases false e = ap (λ (k : ℕ). suc b.length + k) e
 
-attention_size : (n : ℕ) (shadow : Shadow) → IsOfSize n shadow → IsOfSize n (heard_attention shadow)
+pub attention_size : (n : ℕ) (shadow : Shadow) → IsOfSize n shadow → IsOfSize n (heard_attention shadow)
 attention_size n Shadow.NothingKnown h = tt
 attention_size n (Shadow.Unformatted known) h = tt
 attention_size n (Shadow.Formatted bs) h = attention_cells bs ∙ h

@@ -26,6 +26,7 @@ use Rattle.shadow.specs.declared.fault.HeardFault.TheVariants.{NoSuchField, Cont
 use Rattle.shadow.specs.declared.mdt_state.MdtState.TheVariants.{Unknown}
 use Rattle.shadow.specs.Asked.{belief_with}
 use Rattle.shadow.specs.Belief.{Fact, Belief, Shadow, nulls}
+use Rattle.shadow.specs.Doubt.{DoubtCanBeStored}
 use Rattle.shadow.specs.Heard.{Answer, starts_at, is_nowhere, answer_and, answers, contradicts, was_erased, text_fact, or_nulls, unprotected_fact, after_long, settled, heard_long, unknown_fact, after_attention, heard_attention, heard_short, heard_parts, heard}
 use Rattle.shadow.specs.Meets.{told}
 use Rattle.shadow.specs.Seen.{belief_seen, formatted_or, seen, denies_buffer}
@@ -192,6 +193,9 @@ module _ (n : ℕ) where
       cases Modified proper = short (is_short_aid inbound.aid) proper
       cases AllModified proper = long AllModified proper
       cases Buffer proper = read (denies_buffer shadow (cells_sent inbound.parts)) proper
+
+pub doubt_stored : DoubtCanBeStored
+doubt_stored = attention_heard 0
 
 pub heard_stored : HeardCanBeStored
 heard_stored size shadow new inbound h sent e = subst (λ r. IfOk r CanBeStored) e (parts_heard (cells_in inbound.size) size shadow inbound h (inbound_proper inbound sent))

@@ -6,6 +6,7 @@ pub mod Heard
 pub mod Stores
 pub mod Taken
 pub mod Painted
+pub mod PaintedFields
 pub mod Fits
 pub mod Paint
 pub mod Looks
@@ -14,6 +15,7 @@ pub mod Exactness
 pub mod Sized
 pub mod Openness
 pub mod Storable
+pub mod Doubt
 pub mod Notes
 pub mod Asked
 pub mod Held

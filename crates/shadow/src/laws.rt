@@ -1,9 +1,11 @@
 //! Laws of beliefs: each is the contract of a function that does nothing. Proofs of
 //! other crates use them; no program calls them, and the root doesn't export them.
+ghost use Rattle.shadow.specs.Doubt.{DoubtAllowsTheScreen, DoubtAllowsInput, DoubtListsFields, DoubtKeepsTheSize, DoubtStaysExact, DoubtStaysProtected, DoubtCanBeStored, DoubtIsOnce};
 ghost use Rattle.shadow.specs.Openness.{LongOpensNothing, ReadLeavesNothingOpen, EraseLeavesNothingOpen, ClearIsHeard, PaintOpensNothing};
 ghost use Rattle.shadow.specs.Notes.{NoteOverwritesProtected, NoteOverwritesBare, PlacedStaysKnown, NoteStaysListed, NoteStaysTold, NoteStaysExact, NoteOpensNothing, NoteStaysWhole};
 ghost use Rattle.shadow.specs.Laws.{HearsModified, HearsAll, HearsBuffer, WrittenIsTaken, WantedIsPainted, PaintIsTaken, PaintedIsKnown, PaintIsBounded, PaintIsPlain, PaintIsSpelt, KnownIsThere, AttributesAreKnown};
 ghost use Rattle.shadow.specs.Exactness.{NothingIsExact, HeardStaysExact, HeardStaysProtected, TakenStaysExact, ErasedIsExact, PaintedIsExact, WrittenStaysProtected, ProtectedIsSeen, ReturnedIsTold};
+ghost use Rattle.shadow.specs.PaintedFields.{KeptStaysThere, WrittenIsThere};
 ghost use Rattle.shadow.specs.Sized.{MeetsIsOfSize, HeardIsOfSize, TakenIsOfSize};
 ghost use Rattle.shadow.specs.Storable.{HeardCanBeStored, TakenCanBeStored, ToldCanBeStored};
 
@@ -39,6 +41,14 @@ pub fn what_is_wanted_is_painted()
 {
     written_is_read();
 }
+
+/// Law: a paint, field by field. If nothing is to be kept, each field that is wanted is on the painted
+/// screen, with its attribute and its characters. A field that is to be kept is on the painted screen
+/// as it was on the screen before, with its attribute and its characters.
+pub fn painted_fields_are_there()
+    ensures written { WrittenIsThere }
+    ensures kept { KeptStaysThere }
+{}
 
 /// Law: a cell that is known is that of every screen which meets what is believed, but for the MDT
 /// of an attribute; and where something is known, so is each attribute.
@@ -113,4 +123,19 @@ pub fn what_is_believed_can_be_stored()
     ensures heard { HeardCanBeStored }
     ensures taken { TakenCanBeStored }
     ensures told { ToldCanBeStored }
+{}
+
+/// Law: if input is in doubt, the belief allows each screen that it allowed, and each one that differs
+/// from such a screen in input alone; so what holds of paints holds on both. The fields stay listed,
+/// and the size stays; facts stay exact where all is known, and in protected fields; what is believed
+/// can be stored. What is in doubt already stays so.
+pub fn what_is_in_doubt_is_allowed()
+    ensures allowed { DoubtAllowsTheScreen }
+    ensures input { DoubtAllowsInput }
+    ensures listed { DoubtListsFields }
+    ensures size { DoubtKeepsTheSize }
+    ensures exact { DoubtStaysExact }
+    ensures protected { DoubtStaysProtected }
+    ensures stored { DoubtCanBeStored }
+    ensures once { DoubtIsOnce }
 {}

@@ -9,8 +9,9 @@ ghost use Rattle.shadow.specs.Appending.{WritesSome};
 ghost use Rattle.shadow.specs.Asked.{known_at, fact_at, value_at, text_at};
 ghost use Rattle.shadow.specs.Belief.{cells_believed, IsOfSize, HasCell};
 ghost use Rattle.shadow.specs.Belief.Shadow.{NothingKnown, Unformatted};
+ghost use Rattle.shadow.specs.Doubt.{doubted};
 ghost use Rattle.shadow.specs.Fits.{fits, is_paintable};
-ghost use Rattle.shadow.specs.Heard.{heard, heard_parts, heard_short, heard_attention};
+ghost use Rattle.shadow.specs.Heard.{heard, heard_parts, heard_short};
 ghost use Rattle.shadow.specs.InPlace.{shadow_held, has_fields, IsHeld};
 ghost use Rattle.shadow.specs.Paint.{paint_bytes, writes_over, is_base_size, erase_code};
 ghost use Rattle.shadow.specs.Seen.{heard_buffer};
@@ -112,6 +113,19 @@ impl Shadow {
             }
             Form::All => self.hear_fields(inbound),
             Form::Buffer => self.hear_buffer(inbound),
+        }
+    }
+
+    /// Takes in that the operator may have changed input since the screen was heard of: each unprotected field may have any
+    /// characters, and its MDT isn't known. What is protected stays known, and so do attributes but for that. Of an unformatted
+    /// screen, where each cell takes input, nothing is known then.
+    pub fn doubt(&mut self)
+        ensures { self.new ≡ doubted self.old }
+    {
+        if self.is_formatted() {
+            after_attention(&mut self.places);
+        } else {
+            self.knows = false;
         }
     }
 
@@ -255,10 +269,10 @@ impl Shadow {
     {
         match aid {
             Aid::Clear => self.hear_clear(size),
-            Aid::Pa(_) => self.hear_attention(),
-            Aid::NoAid => self.hear_attention(),
-            Aid::Enter => self.hear_attention(),
-            Aid::Pf(_) => self.hear_attention(),
+            Aid::Pa(_) => self.doubt(),
+            Aid::NoAid => self.doubt(),
+            Aid::Enter => self.doubt(),
+            Aid::Pf(_) => self.doubt(),
         }
     }
 
@@ -268,17 +282,6 @@ impl Shadow {
     {
         self.places.clear(size);
         self.knows = true;
-    }
-
-    /// Takes in a key that sends no fields.
-    fn hear_attention(&mut self)
-        ensures { self.new ≡ heard_attention self.old }
-    {
-        if self.is_formatted() {
-            after_attention(&mut self.places);
-        } else {
-            self.knows = false;
-        }
     }
 
     /// Takes in the fields that came.

@@ -15,7 +15,7 @@ invariant-loop-taken l = record {
   capacity : vec_capacity l.initial.out ≤ vec_capacity l.out;
   panel : l.session.panel ≡ l.initial.session.panel;
   shape : l.session.shape ≡ l.initial.session.shape;
-  taken : TakesBytes l.number (counter_of l.initial.pool l.initial.decoder l.initial.session None l.initial.out l.initial.rejections.items) (take l.taken l.bytes) (counter_of l.pool l.decoder l.session None l.out l.rejections.items);
+  taken : TakesBytes l.number (counter_of l.initial.pool l.initial.decoder l.initial.session None l.initial.out l.initial.reports) (take l.taken l.bytes) (counter_of l.pool l.decoder l.session None l.out l.reports);
 }
 
 abbrev pub decreases-loop-taken : goal.decreases-loop-taken

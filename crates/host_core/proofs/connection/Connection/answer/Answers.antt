@@ -6,8 +6,8 @@ use Rattle.host_core.proofs.connection.Connection.answer.Goals as goal
 
 pub returns-in-Open-clause-answered : goal.returns-in-Open-clause-answered
 returns-in-Open-clause-answered c =
-    answers_connection (answered_by (application_of c.args.panels.now) c.args.session c.args.ticket c.args.answer.now) c.args.self.now c.self.inside.service c.in-Open.end c.deref_mut.result.now c.answer_to.new.self c.self.inside.out c.answer_to.new.out c.answer_to.result _
-    (sym c.self.view_is) c.in-Open.is c.deref_mut.ensures.value c.answer_to.ensures.answered
+    answers_connection (application_of c.args.panels.now) c.args.answer.now (answered_by (application_of c.args.panels.now) c.args.session c.args.ticket c.args.answer.now) c.args.self.now c.self.inside.service c.in-Open.end c.deref_mut.result.now c.answer_to.new.self c.self.inside.out c.answer_to.new.out c.answer_to.result _
+    (sym c.self.view_is) c.self.invariant c.in-Open.is c.deref_mut.ensures.value c.answer_to.ensures.answered
 
 pub returns-in-Open-clause-held : goal.returns-in-Open-clause-held
 returns-in-Open-clause-held c =

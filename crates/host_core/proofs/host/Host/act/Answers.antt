@@ -7,7 +7,7 @@ use Rattle.host_core.proofs.host.Host.act.Goals as goal
 
 pub invariant_of-self : goal.invariant_of-self
 invariant_of-self c =
-    let host : Host = record { panels = c.self.inside.panels; pool = c.self.inside.pool; connections = c.self.inside.connections.items; sessions = c.self.inside.sessions } in
+    let host : Host = record { panels = c.self.inside.panels; pool = c.self.inside.pool; connections = c.self.inside.connections.items; sessions = c.self.inside.sessions; terminals = c.self.inside.terminals } in
     let got = connection_got c.args.conn host c.index_mut.result.now c.requires.number c.self.invariant.0 c.index_mut.ensures.value in (
       changed_sound c.args.conn c.self.inside.pool c.act.new.self host c.requires.number c.self.invariant.0
           (held_here c.args.conn c.act.new.self c.index_mut.result.now host c.self.invariant.0 got c.act.ensures.held)
@@ -17,7 +17,7 @@ invariant_of-self c =
 
 pub returns-clause-acted : goal.returns-clause-acted
 returns-clause-acted c =
-    let host : Host = record { panels = c.self.inside.panels; pool = c.self.inside.pool; connections = c.self.inside.connections.items; sessions = c.self.inside.sessions } in
+    let host : Host = record { panels = c.self.inside.panels; pool = c.self.inside.pool; connections = c.self.inside.connections.items; sessions = c.self.inside.sessions; terminals = c.self.inside.terminals } in
     subst (λ (h : Host). Does (acted_by (application_of h.panels) (service_at c.args.conn h)) (connection_at c.args.conn h) c.act.result
     (connection_at c.args.conn (changed c.args.conn c.self.inside.pool c.act.new.self host))) c.self.view_is
     (moved (λ (l m : Connection). Does (acted_by (application_of c.self.inside.panels) l.service) l c.act.result m) c.args.conn c.self.inside.pool c.index_mut.result.now c.act.new.self host c.requires.number c.self.invariant.0

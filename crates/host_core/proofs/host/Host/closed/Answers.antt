@@ -6,7 +6,7 @@ use Rattle.host_core.proofs.host.Host.closed.Goals as goal
 
 pub invariant_of-self : goal.invariant_of-self
 invariant_of-self c =
-    let host : Host = record { panels = c.self.inside.panels; pool = c.self.inside.pool; connections = c.self.inside.connections.items; sessions = c.self.inside.sessions } in (
+    let host : Host = record { panels = c.self.inside.panels; pool = c.self.inside.pool; connections = c.self.inside.connections.items; sessions = c.self.inside.sessions; terminals = c.self.inside.terminals } in (
       changed_sound c.args.conn c.give_back.new.self c.close.new.self host c.requires.number c.self.invariant.0
           (subst (λ (l : Connection). HoldsJust c.args.conn c.give_back.new.self (lu_of l.service)) (sym c.close.ensures.closed) (gave_none c.args.conn c.self.inside.pool c.give_back.new.self c.give_back.ensures.held))
           (gave_others c.args.conn c.self.inside.pool c.give_back.new.self c.give_back.ensures.held)

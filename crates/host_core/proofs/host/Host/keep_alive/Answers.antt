@@ -7,7 +7,7 @@ use Rattle.host_core.proofs.host.Host.keep_alive.Goals as goal
 
 pub invariant_of-self : goal.invariant_of-self
 invariant_of-self c =
-    let host : Host = record { panels = c.self.inside.panels; pool = c.self.inside.pool; connections = c.self.inside.connections.items; sessions = c.self.inside.sessions } in
+    let host : Host = record { panels = c.self.inside.panels; pool = c.self.inside.pool; connections = c.self.inside.connections.items; sessions = c.self.inside.sessions; terminals = c.self.inside.terminals } in
     let got = connection_got c.args.conn host c.index_mut.result.now c.requires.number c.self.invariant.0 c.index_mut.ensures.value in
     let stays = ap (λ (l : Connection). l.service) c.keep_alive.ensures.kept_alive ∙ service_stays c.index_mut.result.now in (
       changed_sound c.args.conn c.self.inside.pool c.keep_alive.new.self host c.requires.number c.self.invariant.0

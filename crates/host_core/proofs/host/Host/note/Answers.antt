@@ -6,7 +6,7 @@ use Rattle.host_core.proofs.host.Host.note.Goals as goal
 
 pub invariant_of-self : goal.invariant_of-self
 invariant_of-self c =
-    let host : Host = record { panels = c.self.inside.panels; pool = c.self.inside.pool; connections = c.self.inside.connections.items; sessions = c.self.inside.sessions } in
+    let host : Host = record { panels = c.self.inside.panels; pool = c.self.inside.pool; connections = c.self.inside.connections.items; sessions = c.self.inside.sessions; terminals = c.self.inside.terminals } in
     let got = connection_got c.args.conn host c.index_mut.result.now c.requires.number c.self.invariant.0 c.index_mut.ensures.value in (
       changed_sound c.args.conn c.self.inside.pool c.note.new.self host c.requires.number c.self.invariant.0
           (held_here c.args.conn c.note.new.self c.index_mut.result.now host c.self.invariant.0 got c.note.ensures.held)
@@ -16,7 +16,7 @@ invariant_of-self c =
 
 pub returns-clause-noted : goal.returns-clause-noted
 returns-clause-noted c =
-    let host : Host = record { panels = c.self.inside.panels; pool = c.self.inside.pool; connections = c.self.inside.connections.items; sessions = c.self.inside.sessions } in
+    let host : Host = record { panels = c.self.inside.panels; pool = c.self.inside.pool; connections = c.self.inside.connections.items; sessions = c.self.inside.sessions; terminals = c.self.inside.terminals } in
     subst (λ (h : Host). Does (noted_by c.args.text.now (service_at c.args.conn h)) (connection_at c.args.conn h) c.note.result
     (connection_at c.args.conn (changed c.args.conn c.self.inside.pool c.note.new.self host))) c.self.view_is
     (moved (λ (l m : Connection). Does (noted_by c.args.text.now l.service) l c.note.result m) c.args.conn c.self.inside.pool c.index_mut.result.now c.note.new.self host c.requires.number c.self.invariant.0

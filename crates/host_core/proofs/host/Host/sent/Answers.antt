@@ -6,7 +6,7 @@ use Rattle.host_core.proofs.host.Host.sent.Goals as goal
 
 pub invariant_of-self : goal.invariant_of-self
 invariant_of-self c =
-    let host : Host = record { panels = c.self.inside.panels; pool = c.self.inside.pool; connections = c.self.inside.connections.items; sessions = c.self.inside.sessions } in
+    let host : Host = record { panels = c.self.inside.panels; pool = c.self.inside.pool; connections = c.self.inside.connections.items; sessions = c.self.inside.sessions; terminals = c.self.inside.terminals } in
     let got = connection_got c.args.conn host c.index_mut.result.now c.requires.number c.self.invariant.0 c.index_mut.ensures.value in (
       changed_sound c.args.conn c.self.inside.pool c.sent.new.self host c.requires.number c.self.invariant.0
           (held_here c.args.conn c.sent.new.self c.index_mut.result.now host c.self.invariant.0 got (ap (λ (l : Connection). lu_of l.service) c.sent.ensures))

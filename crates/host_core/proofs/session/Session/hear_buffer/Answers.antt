@@ -25,12 +25,12 @@ invariant_of-self c = (
 pub returns-then-is_none-clause-came : goal.returns-then-is_none-clause-came
 returns-then-is_none-clause-came c =
     buffer_believed c.args.inbound.now c.once_read.result c.args.self.now _ c.believe-cause.result
-    (sym c.form.ensures.form ∙ c.in-Buffer.is) (c.once_read.ensures ∙ ap (λ (s : Conn). once_read s.turn_reason) c.believe.view_is)
+    (c.once_read.ensures ∙ ap (λ (s : Conn). once_read s.turn_reason) c.believe.view_is)
     (subst (λ (mid : Conn). silent mid c.believe-cause.result ≡ believed c.once_read.result c.args.self.now.pending c.args.inbound.now.cursor c.args.self.now (hears c.args.inbound.now c.args.self.now)) (sym c.self.view_is) c.believe-cause.ensures.came)
     c.if-is_none.ensures
 
 pub returns-else-is_none-clause-came : goal.returns-else-is_none-clause-came
 returns-else-is_none-clause-came c =
     buffer_refused c.args.inbound.now c.once_read.result c.args.self.now c.believe-cause.new.self c.believe-cause.result
-    (sym c.form.ensures.form ∙ c.in-Buffer.is) (c.once_read.ensures ∙ ap (λ (s : Conn). once_read s.turn_reason) c.believe.view_is)
+    (c.once_read.ensures ∙ ap (λ (s : Conn). once_read s.turn_reason) c.believe.view_is)
     c.believe-cause.ensures.came c.if-is_none.ensures

@@ -1,26 +1,18 @@
-use Rattle.std.proofs.Common.{refl, subst, ◌∙◌}
-use Rattle.codes3270.specs.Size.{Shape}
-use Rattle.datastream.specs.InboundText.{IsNoInbound}
+use Rattle.std.proofs.Common.{refl, ◌∙◌}
 use Rattle.host_core.specs.Items.{TakesRecord}
-use Rattle.host_core.proofs.RecordsTaken.{other_type, of_no_data, of_data}
+use Rattle.host_core.proofs.RecordsTaken.{other_type}
 use Rattle.host_core.proofs.session.Session.take_record.Goals as goal
 
 pub returns-in_default-clause-taken : goal.returns-in_default-clause-taken
 returns-in_default-clause-taken c = TakesRecord.no_header c.in_default.field-0 c.in_default.ensures.fault refl
 
-pub returns-in-Ok-read_inbound-clause-taken : goal.returns-in-Ok-read_inbound-clause-taken
-returns-in-Ok-read_inbound-clause-taken c =
-    of_data c.args.self.now c.hear.new.self c.args.bytes.now c.hear.result c.in-Ok.header c.in-Ok.body.now c.form_awaited.result c.in-Ok-read_inbound.inbound
-    c.in-Ok.ensures.found c.in-Data3270.is c.form_awaited.ensures c.in-Ok-read_inbound.ensures.found.0 (c.in-Ok-read_inbound.ensures.found.1 ∙ c.size.ensures) c.in-Ok-read_inbound.ensures.found.2 c.hear.ensures.came
-
-pub returns-in-Err-clause-taken : goal.returns-in-Err-clause-taken
-returns-in-Err-clause-taken c =
-    of_no_data c.args.self.now c.args.bytes.now c.in-Ok.header c.in-Ok.body.now c.form_awaited.result c.in-Err.field-0
-    c.in-Ok.ensures.found c.in-Data3270.is c.form_awaited.ensures (subst (λ (size : Shape). IsNoInbound size c.form_awaited.result c.in-Err.field-0 c.in-Ok.body.now) c.size.ensures c.in-Err.ensures.found)
+pub returns-in-Data3270-clause-taken : goal.returns-in-Data3270-clause-taken
+returns-in-Data3270-clause-taken c =
+    TakesRecord.data_is c.in-Ok.header c.in-Ok.body.now c.in-Ok.ensures.found c.in-Data3270.is c.take_data.ensures.taken
 
 pub returns-in-Response-clause-taken : goal.returns-in-Response-clause-taken
 returns-in-Response-clause-taken c =
-    TakesRecord.answered c.in-Ok.header c.in-Ok.body.now c.in-Ok.ensures.found c.in-Response.is c.take_response.ensures.came
+    TakesRecord.answered c.in-Ok.header c.in-Ok.body.now c.in-Ok.ensures.found c.in-Response.is (c.of.ensures c.take_response.new.self ∙ c.take_response.ensures.came)
 
 pub returns-in_default-kind : goal.returns-in_default-kind
 returns-in_default-kind c = record {

@@ -1,0 +1,26 @@
+ghost use Rattle.std.specs.Prelude.{◌≡◌};
+ghost use Rattle.host_core.specs.Takes.{may_have_changed};
+
+/// What may have happened to a terminal's screen since the host heard of it (our profile). Contracts speak of it: what the host
+/// believes when it shows a panel follows from it.
+#[derive(Clone, Copy, Debug, PartialEq, Eq)]
+pub enum Unheard {
+    /// Nothing: the terminal waits.
+    Nothing,
+    /// Input may have been changed.
+    Input,
+    /// The screen was cleared, out of turn.
+    Clear,
+}
+
+impl Unheard {
+    /// Whether anything may have happened.
+    pub(crate) fn may_have_changed(self) -> bool
+        ensures { result ≡ may_have_changed self }
+    {
+        match self {
+            Unheard::Nothing => false,
+            Unheard::Input | Unheard::Clear => true,
+        }
+    }
+}
