@@ -8,6 +8,7 @@ use Rattle.codes3270.specs.declared.size.Model.TheVariants.{M2, M3, M4, M5}
 use Rattle.codes3270.specs.declared.attention.Aid.{Aid}
 use Rattle.codes3270.specs.declared.attention.Aid.TheVariants.{NoAid, Enter as EnterAid, Clear as ClearAid, Pf as PfAid, Pa as PaAid}
 use Rattle.datastream.specs.Grammar.{CommandParts}
+use Rattle.datastream.specs.Screen.{Screen}
 use Rattle.datastream.specs.Wanted.{WantedScreen}
 use Rattle.panels.specs.declared.message.Message.{Message}
 use Rattle.panels.specs.declared.message.Message.TheVariants.{Fresh, Told}
@@ -19,7 +20,7 @@ use Rattle.shadow.specs.Fits.{fits}
 use Rattle.shadow.specs.Paint.{paint}
 use Rattle.tn3270e_msg.specs.Talk.{Talk, start_at}
 use Rattle.tn3270e_msg.specs.declared.host_talk.HostState.{HostState}
-use Rattle.host_core.specs.Acts.{Act, Decision, Sent as Sending, after_key, decided, decision_on, wanted_by, done, may_act, acted}
+use Rattle.host_core.specs.Acts.{Act, Decision, Sent as Sending, after_key, decided, decision_on, wanted_by, done, may_act, acted, painted, known_despite, unheard_next, when_shown}
 use Rattle.host_core.specs.Application.{Application, IsApplication, IsSizeOf}
 use Rattle.host_core.specs.Laws.{IsPaintable}
 use Rattle.host_core.specs.Messages.{ToTerminal}
@@ -37,8 +38,10 @@ use Rattle.world3270.specs.Given.{Given}
 use Rattle.world3270.specs.Link.{Link, sent, host_sent}
 use Rattle.world3270.specs.Moments.{Kind, UnderWay, Talking, Serving, Moment, IsAt, host_talk_at, term_state_at, turn_at, pending_at, down_at, up_at, agreed, served_down, served_up}
 use Rattle.world3270.specs.TurnReasons.{IsOccasion, IsOpenBy, IsOpenFor}
-use Rattle.world3270.specs.Showing.{IsDecided, WantsItsPanel}
-use Rattle.world3270.specs.Stages.{scene_of, FactsAreExact, IsNew, Decides, Fact, Kept, Sizes, may_differ_at, ShownAt, ShownIn}
+use Rattle.host_core.specs.declared.unheard.Unheard.{Unheard}
+use Rattle.host_core.specs.declared.unheard.Unheard.TheVariants as unheards
+use Rattle.world3270.specs.Showing.{IsDecided, KnowsItsFields, WantsItsPanelOn}
+use Rattle.world3270.specs.Stages.{scene_of, FactsAreExact, IfRelies, IsNew, Decides, Fact, Kept, Sizes, may_differ_at, ShownAt, ShownIn}
 use Rattle.world3270.specs.View.{View, view_of}
 use Rattle.world3270.proofs.Down.{none_open}
 use Rattle.world3270.proofs.Queues.{more, still}
@@ -48,12 +51,38 @@ abbrev pub sent_view : Sending → Link → Link
 sent_view sending link = host_sent (Some sending) link
 
 abbrev shown : Application → Conn → ℕ → Message → Bool → Values → Sending
-shown app conn panel message keep values = done app conn (Act.Show panel message keep values)
+shown app conn panel message keep values = painted app (when_shown conn) panel message keep values
+
+-- ---- what is believed when a panel is shown
+
+-- it allows the screen,
+allows_despite : Given → (unheard : Unheard) (shadow : Shadow) (screen : Screen) → Meets shadow screen → Meets (known_despite unheard shadow) screen
+allows_despite given unheards.Nothing shadow screen meets = meets
+allows_despite given unheards.Input shadow screen meets = given.belief.doubt_allows shadow screen meets
+allows_despite given unheards.Clear shadow screen meets = tt
+
+-- its facts are exact,
+exact_despite : Given → (unheard : Unheard) (shadow : Shadow) → FactsAreExact shadow → FactsAreExact (known_despite unheard shadow)
+exact_despite given unheards.Nothing shadow exact = exact
+exact_despite given unheards.Input shadow exact = record { known = given.belief.doubt_exact shadow exact.known; protected = given.belief.doubt_protected shadow exact.protected }
+exact_despite given unheards.Clear shadow exact = record { known = given.belief.nothing_exact.0; protected = given.belief.nothing_exact.1 }
+
+-- and nothing is open where the host relies on the wait
+closed_despite : (unheard : Unheard) (shadow : Shadow) → IfRelies unheard (NothingIsOpen shadow) → IfRelies (unheard_next unheard) (NothingIsOpen (known_despite unheard shadow))
+closed_despite unheards.Nothing shadow closed = closed
+closed_despite unheards.Input shadow closed = λ relies. absurd (cc)
+closed_despite unheards.Clear shadow closed = λ relies. absurd (cc)
+
+next_not_cleared : (unheard : Unheard) → unheard_next unheard ≡ unheards.Clear → ⊥
+next_not_cleared unheards.Nothing e = absurd (cc)
+next_not_cleared unheards.Input e = absurd (cc)
+next_not_cleared unheards.Clear e = absurd (cc)
 
 -- what a sending leaves of the host's end
 record Sends (link : Link) (sending : Sending) : Type 0 where
   talk : sending.conn.talk ≡ link.host.talk
-  shadow : sending.conn.shadow ≡ link.host.shadow
+  not_cleared : sending.conn.unheard ≡ unheards.Clear → ⊥
+  exact : FactsAreExact sending.conn.shadow
 
 -- what is under way then
 sent_at : (link : Link) (sending : Sending) (wanted : Option (List ℕ)) (from to : Moment) → Sends link sending → IsAt (view_of link) wanted from
@@ -64,6 +93,7 @@ sent_at link sending wanted from to same at host term turn pending down up = rec
   term_talk = at.term_talk ∙ ap (λ state. record { model = link.term.display.model; wanted = wanted; talk = start_at state }) (sym term);
   turn = turn;
   pending = pending;
+  not_cleared = same.not_cleared;
   goes_down = subst (UnderWay link.lost (sent link.lost link.down (sending.message ∷ []))) down (more link.lost link.down (down_at link.term.display.model from) (sending.message ∷ []) at.goes_down);
   goes_up = subst (UnderWay link.lost link.up) (sym up) at.goes_up;
 }
@@ -71,13 +101,14 @@ sent_at link sending wanted from to same at host term turn pending down up = rec
 -- a sending that leads to a moment
 kept_sent : (app : Application) (link : Link) (sending : Sending) (k : Kept app (view_of link)) (to : Moment) → Sends link sending → IsSizeOf app link.term.display.model sending.conn.shape
     → (may_differ_at to ≡ false → link.term.display.shape ≡ sending.conn.shape) → IsAt (view_of (sent_view sending link)) k.wanted to
-    → Fact k.wanted (scene_of (view_of (sent_view sending link))) to → ShownAt app sending.conn link.term.display.last_restored to
+    → Fact k.wanted (scene_of (view_of (sent_view sending link))) to → ShownAt app sending.conn link.term.display.before_restored link.term.display.last_restored link.term.display.screen to
     → Kept app (view_of (sent_view sending link))
 kept_sent app link sending k to same size steady at fact shown = record {
   whole = k.whole;
   cursor = k.cursor;
   unreturned = k.unreturned;
-  exact = subst FactsAreExact (sym same.shadow) k.exact;
+  as_left = k.as_left;
+  exact = same.exact;
   wanted = k.wanted;
   moment = to;
   sizes = record { host = size; screen = k.sizes.screen; same = steady };
@@ -104,13 +135,15 @@ wanted_in_a_way app conn panel message true values = wanted_if_fits (fits conn.s
 wanted_in_a_way app conn panel message false values = (false, refl)
 
 -- it is the one of the connection's panel from then on
-wants_its : (app : Application) (conn : Conn) (panel : ℕ) (message : Message) (keep : Bool) (values : Values) → IsDecided app conn (Act.Show panel message keep values)
-    → WantsItsPanel app (shown app conn panel message keep values).conn conn.shadow (wants_of app conn panel message keep values)
-wants_its app conn panel message keep values choice =
-    record { conn = conn; same_talk = refl; asked = panel; keep = keep; is_decided = choice; panel_is = refl; over_is = refl; wanted_is = refl }
+wants_its : (app : Application) (conn : Conn) (screen : Screen) (panel : ℕ) (message : Message) (keep : Bool) (values : Values) → IsDecided app conn (Act.Show panel message keep values) → (keep ≡ true → KnowsItsFields app conn)
+    → Meets conn.shadow screen → WantsItsPanelOn app (shown app conn panel message keep values).conn (when_shown conn).shadow (wants_of app (when_shown conn) panel message keep values) screen
+wants_its app conn screen panel message keep values choice knows told = record {
+  wants = record { conn = conn; same_talk = refl; asked = panel; keep = keep; is_decided = choice; knows = knows; panel_is = refl; over_is = refl; wanted_is = refl };
+  told = told;
+}
 
 paintable : Given → (app : Application) → IsApplication app → (link : Link) → (panel : ℕ) (message : Message) (keep : Bool) (values : Values)
-    → let wants = wants_of app link.host panel message keep values in IsPaintable wants.size link.host.shadow wants
+    → let wants = wants_of app (when_shown link.host) panel message keep values in IsPaintable wants.size (when_shown link.host).shadow wants
 paintable given app is link panel message keep values = (given.belief.fit app link.host (Act.Show panel message keep values) is).0
 
 -- the model that the host knows is the terminal's
@@ -125,10 +158,10 @@ model_here link lu talks = ap (λ (t : Talk HostState). unwrap_or (model_asked t
 
 -- so what is shown has a size that the terminal may have
 size_shown : Given → (app : Application) → IsApplication app → (link : Link) (k : Kept app (view_of link)) (lu : List ℕ) (panel : ℕ) (message : Message) (keep : Bool) (values : Values)
-    → link.host.talk ≡ agreed link.term.display.model lu → IsSizeOf app link.term.display.model (wants_of app link.host panel message keep values).size
+    → link.host.talk ≡ agreed link.term.display.model lu → IsSizeOf app link.term.display.model (wants_of app (when_shown link.host) panel message keep values).size
 size_shown given app is link k lu panel message keep values talks =
     let here = model_here link lu talks in
-    subst (λ (m : Model). IsSizeOf app m (wants_of app link.host panel message keep values).size) here
+    subst (λ (m : Model). IsSizeOf app m (wants_of app (when_shown link.host) panel message keep values).size) here
     (given.belief.sizes app link.host (Act.Show panel message keep values) is (subst (λ (m : Model). IsSizeOf app m link.host.shape) (sym here) k.sizes.host))
 
 -- after Clear nothing is read
@@ -179,51 +212,83 @@ abbrev command_of : Application → Conn → ℕ → Message → Bool → Values
 command_of app conn panel message keep values =
     let wanted = wants_of app conn panel message keep values in paint (cells_in wanted.size) conn.shadow wanted
 
+-- whether fields are to be kept
+abbrev keeps_by : Decision → Bool
+keeps_by (Decision.Do Act.Read) = false
+keeps_by (Decision.Do (Act.Show panel message keep values)) = keep
+keeps_by Decision.Asks = false
+
 module _ (given : Given) (app : Application) (is : IsApplication app) (link : Link) (k : Kept app (view_of link)) where
+  -- the host's end once a panel is shown
+  sends_shown : (panel : ℕ) (message : Message) (keep : Bool) (values : Values) → Sends link (shown app link.host panel message keep values)
+  sends_shown panel message keep values = record { talk = refl; not_cleared = next_not_cleared link.host.unheard; exact = exact_despite given link.host.unheard link.host.shadow k.exact }
+
   -- before the terminal knows that both agreed
   paints_first : (lu : List ℕ) (panel : ℕ) (message : Message) (keep : Bool) (values : Values) → IsAt (view_of link) k.wanted (Moment.Talks (Talking.Agreeing lu)) → IsNew (scene_of (view_of link))
-      → IsDecided app link.host (Act.Show panel message keep values) → Kept app (view_of (sent_view (shown app link.host panel message keep values) link))
-  paints_first lu panel message keep values at n choice =
+      → IsDecided app link.host (Act.Show panel message keep values) → (keep ≡ true → KnowsItsFields app link.host) → Kept app (view_of (sent_view (done app link.host (Act.Show panel message keep values)) link))
+  paints_first lu panel message keep values at n choice knows =
       let sending : Sending = shown app link.host panel message keep values in
-      let wants : WantedScreen = wants_of app link.host panel message keep values in
-      let same : Sends link sending = record { talk = refl; shadow = refl } in
-      let to : Moment = Moment.Begins lu link.host.next_seq (command_of app link.host panel message keep values) wants link.host.shadow in
+      let conn : Conn = when_shown link.host in
+      let wants : WantedScreen = wants_of app conn panel message keep values in
+      let same : Sends link sending = sends_shown panel message keep values in
+      let meets : Meets link.host.shadow link.term.display.screen = subst (λ s. Meets s link.term.display.screen) (sym n.shadow) tt in
+      let to : Moment = Moment.Begins lu link.host.next_seq (command_of app conn panel message keep values) wants conn.shadow in
       kept_sent app link sending k to same (size_shown given app is link k lu panel message keep values at.host_talk) (λ steady. absurd (cc))
       (sent_at link sending k.wanted (Moment.Talks (Talking.Agreeing lu)) to same at refl refl refl refl refl refl)
       (record {
         lock = n.lock;
         over_is = refl;
         command_is = refl;
-        meets = subst (λ s. Meets s link.term.display.screen) (sym n.shadow) tt;
-        closed = none_open link.host.shadow n.shadow;
+        meets = allows_despite given link.host.unheard link.host.shadow link.term.display.screen meets;
+        closed = closed_despite link.host.unheard link.host.shadow (λ relies. none_open link.host.shadow n.shadow);
         paintable = paintable given app is link panel message keep values;
       })
-      (wants_its app link.host panel message keep values choice)
+      (wants_its app link.host link.term.display.screen panel message keep values choice knows meets)
 
-  paints : (lu : List ℕ) (panel : ℕ) (message : Message) (keep : Bool) (values : Values) → NothingIsOpen link.host.shadow → IsAt (view_of link) k.wanted (Moment.Serves lu Serving.Deciding) → Decides (scene_of (view_of link)) link.host.shadow
-      → IsDecided app link.host (Act.Show panel message keep values) → Kept app (view_of (sent_view (shown app link.host panel message keep values) link))
-  paints lu panel message keep values closed at f choice =
+  -- what it knows when it decides on a key
+  knows_its : ShownIn app link.host link.term.display.before_restored link.term.display.last_restored link.term.display.screen Serving.Deciding → (link.host.turn_reason ≡ turn_reasons.Agreement → ⊥) → KnowsItsFields app link.host
+  knows_its showing later =
+      let wanted = (showing.0 later).wanted_for in
+      record {
+        earlier = wanted.asked;
+        shown = wanted.panel_is ∙ ap (λ (t : Talk HostState). app.shown (unwrap_or (model_asked t.state) M2) wanted.asked) wanted.same_talk;
+        read = showing.1;
+      }
+
+  -- at agreement nothing is kept
+  kept_later : (panel : ℕ) (message : Message) (keep : Bool) (values : Values) → decision_on app link.host link.host.turn_reason ≡ Decision.Do (Act.Show panel message keep values) → keep ≡ true → link.host.turn_reason ≡ turn_reasons.Agreement → ⊥
+  kept_later panel message keep values is keeps agreement =
+      let both : Decision.Do (Act.Show app.start Fresh false link.host.values) ≡ Decision.Do (Act.Show panel message keep values) =
+      sym (ap (λ (r : TurnReason). decision_on app link.host r) agreement) ∙ is in
+      let same : false ≡ keep = ap keeps_by both in
+      absurd (let wrong : false ≡ true = same ∙ keeps in cc)
+
+  paints : (lu : List ℕ) (panel : ℕ) (message : Message) (keep : Bool) (values : Values) → IfRelies link.host.unheard (NothingIsOpen link.host.shadow) → IsAt (view_of link) k.wanted (Moment.Serves lu Serving.Deciding)
+      → Decides (scene_of (view_of link)) link.host.shadow
+      → IsDecided app link.host (Act.Show panel message keep values) → (keep ≡ true → KnowsItsFields app link.host) → Kept app (view_of (sent_view (done app link.host (Act.Show panel message keep values)) link))
+  paints lu panel message keep values closed at f choice knows =
       let sending : Sending = shown app link.host panel message keep values in
-      let wants : WantedScreen = wants_of app link.host panel message keep values in
-      let same : Sends link sending = record { talk = refl; shadow = refl } in
-      let to : Moment = Moment.Serves lu (Serving.Painting link.host.next_seq (command_of app link.host panel message keep values) wants link.host.shadow) in
+      let conn : Conn = when_shown link.host in
+      let wants : WantedScreen = wants_of app conn panel message keep values in
+      let same : Sends link sending = sends_shown panel message keep values in
+      let to : Moment = Moment.Serves lu (Serving.Painting link.host.next_seq (command_of app conn panel message keep values) wants conn.shadow) in
       kept_sent app link sending k to same (size_shown given app is link k lu panel message keep values at.host_talk) (λ steady. absurd (cc))
       (sent_at link sending k.wanted (Moment.Serves lu Serving.Deciding) to same at refl refl refl refl refl refl)
       (record {
         lock = f.lock;
         over_is = refl;
         command_is = refl;
-        meets = f.sees.meets;
-        closed = closed;
+        meets = allows_despite given link.host.unheard link.host.shadow link.term.display.screen f.sees.meets;
+        closed = closed_despite link.host.unheard link.host.shadow closed;
         paintable = paintable given app is link panel message keep values;
       })
-      (wants_its app link.host panel message keep values choice)
+      (wants_its app link.host link.term.display.screen panel message keep values choice knows f.sees.meets)
 
   asks : (lu : List ℕ) → link.term.display.shape ≡ link.host.shape → (link.term.display.screen.aid ≡ ClearAid → ⊥) → IsAt (view_of link) k.wanted (Moment.Serves lu Serving.Deciding) → Decides (scene_of (view_of link)) link.host.shadow
-      → ShownIn app link.host link.term.display.last_restored Serving.Deciding → Kept app (view_of (sent_view (done app link.host Act.Read) link))
+      → ShownIn app link.host link.term.display.before_restored link.term.display.last_restored link.term.display.screen Serving.Deciding → Kept app (view_of (sent_view (done app link.host Act.Read) link))
   asks lu steady not_cleared at f showing =
       let sending : Sending = done app link.host Act.Read in
-      let same : Sends link sending = record { talk = refl; shadow = refl } in
+      let same : Sends link sending = record { talk = refl; not_cleared = at.not_cleared; exact = k.exact } in
       let to : Moment = Moment.Serves lu (Serving.Reading link.host.next_seq) in
       kept_sent app link sending k to same k.sizes.host (λ s. steady)
       (sent_at link sending k.wanted (Moment.Serves lu Serving.Deciding) to same at refl refl at.turn refl refl refl)
@@ -231,12 +296,12 @@ module _ (given : Given) (app : Application) (is : IsApplication app) (link : Li
       showing.0
 
   acts_at : (lu : List ℕ) (decision : Decision) → link.term.display.shape ≡ link.host.shape → decision_on app link.host link.host.turn_reason ≡ decision → IsAt (view_of link) k.wanted (Moment.Serves lu Serving.Deciding)
-      → Decides (scene_of (view_of link)) link.host.shadow → ShownIn app link.host link.term.display.last_restored Serving.Deciding → Kept app (view_of (host_sent (decided app link.host decision) link))
+      → Decides (scene_of (view_of link)) link.host.shadow → ShownIn app link.host link.term.display.before_restored link.term.display.last_restored link.term.display.screen Serving.Deciding → Kept app (view_of (host_sent (decided app link.host decision) link))
   acts_at lu (Decision.Do Act.Read) steady e at f showing =
       asks lu steady (reads_uncleared app link.host link.host.turn_reason link.term.display.screen.aid f.turn_reason e) at f showing
   acts_at lu (Decision.Do (Act.Show panel message keep values)) steady e at f showing =
       paints lu panel message keep values
-      (decided_closed app link.host link.host.turn_reason link.host.shadow (shows_unread (decision_on app link.host link.host.turn_reason) panel message keep values e) f.closed) at f (IsDecided.by_host e)
+      (λ relies. decided_closed app link.host link.host.turn_reason link.host.shadow (shows_unread (decision_on app link.host link.host.turn_reason) panel message keep values e) (f.closed relies)) at f (IsDecided.by_host e) (λ keeps. knows_its showing (kept_later panel message keep values e keeps))
   acts_at lu Decision.Asks steady e at f showing = k
 
   -- at agreement the first panel is shown
@@ -244,15 +309,16 @@ module _ (given : Given) (app : Application) (is : IsApplication app) (link : Li
       → Kept app (view_of (host_sent (decided app link.host (decision_on app link.host link.host.turn_reason)) link))
   acts_new lu at n =
       subst (λ o. Kept app (view_of (host_sent (decided app link.host (decision_on app link.host o)) link))) (sym n.turn_reason)
-      (paints_first lu app.start Fresh false link.host.values at n (IsDecided.by_host (ap (λ (o : TurnReason). decision_on app link.host o) n.turn_reason)))
+      (paints_first lu app.start Fresh false link.host.values at n (IsDecided.by_host (ap (λ (o : TurnReason). decision_on app link.host o) n.turn_reason)) (λ keeps. absurd (cc)))
 
   -- what is answered is shown
   answers_at : (lu : List ℕ) (said : Said) (panel : Option ℕ) → said.panel ≡ panel → is_ask (decision_on app link.host link.host.turn_reason) ≡ true → IsAt (view_of link) k.wanted (Moment.Serves lu Serving.Deciding)
-      → Decides (scene_of (view_of link)) link.host.shadow → Kept app (view_of (sent_view (done app link.host (act_by app link.host said panel)) link))
-  answers_at lu said panel is_panel is_asked at f = by_panel panel is_panel
+      → Decides (scene_of (view_of link)) link.host.shadow → ShownIn app link.host link.term.display.before_restored link.term.display.last_restored link.term.display.screen Serving.Deciding
+      → Kept app (view_of (sent_view (done app link.host (act_by app link.host said panel)) link))
+  answers_at lu said panel is_panel is_asked at f showing = by_panel panel is_panel
     where
-      closed : NothingIsOpen link.host.shadow
-      closed = decided_closed app link.host link.host.turn_reason link.host.shadow (asks_unread (decision_on app link.host link.host.turn_reason) is_asked) f.closed
+      closed : IfRelies link.host.unheard (NothingIsOpen link.host.shadow)
+      closed = λ relies. decided_closed app link.host link.host.turn_reason link.host.shadow (asks_unread (decision_on app link.host link.host.turn_reason) is_asked) (f.closed relies)
 
       choice : (panel : Option ℕ) → said.panel ≡ panel → IsDecided app link.host (act_by app link.host said panel)
       choice panel is_panel = IsDecided.by_application said is_asked (ap (λ (p : Option ℕ). act_by app link.host said p) (sym is_panel))
@@ -260,14 +326,15 @@ module _ (given : Given) (app : Application) (is : IsApplication app) (link : Li
       by_panel : (panel : Option ℕ) → said.panel ≡ panel → Kept app (view_of (sent_view (done app link.host (act_by app link.host said panel)) link))
       by_panel None is_panel =
           paints lu link.host.panel (Told said.message said.cursor) (not (has_value_of (app.fields link.host.panel) said.values)) (values_for app link.host said None) closed at f (choice None is_panel)
+          (λ keeps. knows_its showing (λ agreement. agreed_unasked app link.host agreement is_asked))
       by_panel (Some shown_next) is_panel =
-          paints lu shown_next (Told said.message said.cursor) false (values_for app link.host said (Some shown_next)) closed at f (choice (Some shown_next) is_panel)
+          paints lu shown_next (Told said.message said.cursor) false (values_for app link.host said (Some shown_next)) closed at f (choice (Some shown_next) is_panel) (λ keeps. absurd (cc))
 
   -- The host may act at two moments alone: at agreement, and when it decides on a key.
   data MayAct : Type 0 where
     agreeing : (lu : List ℕ) → IsAt (view_of link) k.wanted (Moment.Talks (Talking.Agreeing lu)) → IsNew (scene_of (view_of link)) → MayAct
     deciding : (lu : List ℕ) → Sizes app (view_of link) (Moment.Serves lu Serving.Deciding) → IsAt (view_of link) k.wanted (Moment.Serves lu Serving.Deciding)
-        → Decides (scene_of (view_of link)) link.host.shadow → ShownIn app link.host link.term.display.last_restored Serving.Deciding → MayAct
+        → Decides (scene_of (view_of link)) link.host.shadow → ShownIn app link.host link.term.display.before_restored link.term.display.last_restored link.term.display.screen Serving.Deciding → MayAct
 
   may_act_at : link.host.turn ≡ whose.Host → link.host.pending ≡ Pending.Nothing → is_agreed link.host.talk.state ≡ true → MayAct
   may_act_at turns pends agrees = by_moment k.moment k.sizes k.at k.fact k.shown
@@ -287,7 +354,7 @@ module _ (given : Given) (app : Application) (is : IsApplication app) (link : Li
       by_talk (Talking.Rejected reason) at n = let x = not_yet (Moment.Talks (Talking.Rejected reason)) at in absurd (cc)
 
       by_serving : (lu : List ℕ) (serving : Serving) → Sizes app (view_of link) (Moment.Serves lu serving) → IsAt (view_of link) k.wanted (Moment.Serves lu serving) → Fact k.wanted (scene_of (view_of link)) (Moment.Serves lu serving)
-          → ShownIn app link.host link.term.display.last_restored serving → turn_at (Moment.Serves lu serving) ≡ whose.Host
+          → ShownIn app link.host link.term.display.before_restored link.term.display.last_restored link.term.display.screen serving → turn_at (Moment.Serves lu serving) ≡ whose.Host
           → pending_at (Moment.Serves lu serving) ≡ Pending.Nothing → MayAct
       by_serving lu Serving.Deciding s at f showing t p = MayAct.deciding lu s at f showing
       by_serving lu (Serving.Reading number) s at f showing t p = absurd (cc)
@@ -304,7 +371,7 @@ module _ (given : Given) (app : Application) (is : IsApplication app) (link : Li
       by_serving lu (Serving.KeyBefore number command parts) s at f showing t p = absurd (cc)
 
       by_moment : (moment : Moment) → Sizes app (view_of link) moment → IsAt (view_of link) k.wanted moment → Fact k.wanted (scene_of (view_of link)) moment
-          → ShownAt app link.host link.term.display.last_restored moment → MayAct
+          → ShownAt app link.host link.term.display.before_restored link.term.display.last_restored link.term.display.screen moment → MayAct
       by_moment (Moment.Talks talking) s at f showing = by_talk talking at f.0
       by_moment (Moment.Begins lu number command wants over) s at f showing = let t = sym at.turn ∙ turns in absurd (cc)
       by_moment (Moment.Serves lu serving) s at f showing = by_serving lu serving s at f showing (sym at.turn ∙ turns) (sym at.pending ∙ pends)
@@ -330,7 +397,7 @@ module _ (given : Given) (app : Application) (is : IsApplication app) (link : Li
 
   answers_then : (said : Said) → is_ask (decision_on app link.host link.host.turn_reason) ≡ true → MayAct → Kept app (view_of (sent_view (done app link.host (act_by app link.host said said.panel)) link))
   answers_then said is_asked (MayAct.agreeing lu at n) = absurd (agreed_unasked app link.host n.turn_reason is_asked)
-  answers_then said is_asked (MayAct.deciding lu s at f showing) = answers_at lu said said.panel refl is_asked at f
+  answers_then said is_asked (MayAct.deciding lu s at f showing) = answers_at lu said said.panel refl is_asked at f showing
 
   answers_by : (said : Said) (turn : Turn) (pending : Pending) (agreed is_asked has : Bool) → link.host.turn ≡ turn → link.host.pending ≡ pending → is_agreed link.host.talk.state ≡ agreed
       → is_ask (decision_on app link.host link.host.turn_reason) ≡ is_asked
@@ -354,7 +421,7 @@ module _ (given : Given) (app : Application) (is : IsApplication app) (link : Li
   -- the host decides, and asks
   abbrev pub Asks : Type 0
   Asks = (lu : List ℕ) × IsAt (view_of link) k.wanted (Moment.Serves lu Serving.Deciding) × Decides (scene_of (view_of link)) link.host.shadow
-      × (is_ask (decision_on app link.host link.host.turn_reason) ≡ true) × ShownIn app link.host link.term.display.last_restored Serving.Deciding
+      × (is_ask (decision_on app link.host link.host.turn_reason) ≡ true) × ShownIn app link.host link.term.display.before_restored link.term.display.last_restored link.term.display.screen Serving.Deciding
 
   asks_then : is_ask (decision_on app link.host link.host.turn_reason) ≡ true → MayAct → Asks
   asks_then is_asked (MayAct.agreeing lu at n) = absurd (agreed_unasked app link.host n.turn_reason is_asked)
@@ -385,7 +452,7 @@ module _ (app : Application) (text : List ℕ) (is : IsNoteText text) (link : Li
   command = note_command link.host.shape text
 
   same_end : Sends link noting
-  same_end = record { talk = refl; shadow = refl }
+  same_end = record { talk = refl; not_cleared = k.at.not_cleared; exact = k.exact }
 
   is_note : IsNoteOf link.host.shape command
   is_note = record { text = text; is_text = is; is = refl }
@@ -393,7 +460,7 @@ module _ (app : Application) (text : List ℕ) (is : IsNoteText text) (link : Li
   notes_at : (lu : List ℕ) (from to : Serving) → link.term.display.shape ≡ link.host.shape → IsAt (view_of link) k.wanted (Moment.Serves lu from) → turn_at (Moment.Serves lu from) ≡ turn_at (Moment.Serves lu to)
       → Pending.Noting link.host.next_seq command ≡ pending_at (Moment.Serves lu to)
       → served_down from ++ ToTerminal.Note link.host.next_seq command ∷ [] ≡ served_down to → served_up to ≡ served_up from
-      → Fact k.wanted (scene_of (view_of (sent_view noting link))) (Moment.Serves lu to) → ShownIn app link.host link.term.display.last_restored to → Kept app (view_of (sent_view noting link))
+      → Fact k.wanted (scene_of (view_of (sent_view noting link))) (Moment.Serves lu to) → ShownIn app noting.conn link.term.display.before_restored link.term.display.last_restored link.term.display.screen to → Kept app (view_of (sent_view noting link))
   notes_at lu from to steady at turn pending down up fact showing =
       kept_sent app link noting k (Moment.Serves lu to) same_end k.sizes.host (λ s. steady) (sent_at link noting k.wanted (Moment.Serves lu from) (Moment.Serves lu to) same_end at refl refl (at.turn ∙ turn) pending down up) fact showing
 
@@ -402,7 +469,7 @@ module _ (app : Application) (text : List ℕ) (is : IsNoteText text) (link : Li
   may_note_at turns pends = by_moment k.moment k.sizes k.at k.fact k.shown
     where
       by_serving : (lu : List ℕ) (serving : Serving) → Sizes app (view_of link) (Moment.Serves lu serving) → IsAt (view_of link) k.wanted (Moment.Serves lu serving) → Fact k.wanted (scene_of (view_of link)) (Moment.Serves lu serving)
-          → ShownIn app link.host link.term.display.last_restored serving → turn_at (Moment.Serves lu serving) ≡ whose.Terminal
+          → ShownIn app link.host link.term.display.before_restored link.term.display.last_restored link.term.display.screen serving → turn_at (Moment.Serves lu serving) ≡ whose.Terminal
           → pending_at (Moment.Serves lu serving) ≡ Pending.Nothing → Kept app (view_of (sent_view noting link))
       by_serving lu Serving.Operating s at f showing t p =
           notes_at lu Serving.Operating (Serving.Noting link.host.next_seq command) (s.same refl) at refl refl refl refl
@@ -425,7 +492,7 @@ module _ (app : Application) (text : List ℕ) (is : IsNoteText text) (link : Li
       by_serving lu (Serving.KeyBefore number command parts) s at f showing t p = absurd (cc)
 
       by_moment : (moment : Moment) → Sizes app (view_of link) moment → IsAt (view_of link) k.wanted moment → Fact k.wanted (scene_of (view_of link)) moment
-          → ShownAt app link.host link.term.display.last_restored moment → Kept app (view_of (sent_view noting link))
+          → ShownAt app link.host link.term.display.before_restored link.term.display.last_restored link.term.display.screen moment → Kept app (view_of (sent_view noting link))
       by_moment (Moment.Talks talking) s at f showing = let t = sym at.turn ∙ turns in absurd (cc)
       by_moment (Moment.Begins lu number command wants over) s at f showing = let p = sym at.pending ∙ pends in absurd (cc)
       by_moment (Moment.Serves lu serving) s at f showing = by_serving lu serving s at f showing (sym at.turn ∙ turns) (sym at.pending ∙ pends)
@@ -453,6 +520,7 @@ lost_at v wanted moment at = record {
   term_talk = at.term_talk;
   turn = at.turn;
   pending = at.pending;
+  not_cleared = at.not_cleared;
   goes_down = still v.lost v.down (down_at v.model moment) at.goes_down;
   goes_up = still v.lost v.up (up_at v.model wanted moment) at.goes_up;
 }
@@ -462,6 +530,7 @@ loses app v k = record {
   whole = k.whole;
   cursor = k.cursor;
   unreturned = k.unreturned;
+  as_left = k.as_left;
   exact = k.exact;
   wanted = k.wanted;
   moment = k.moment;

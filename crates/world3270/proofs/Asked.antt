@@ -26,15 +26,15 @@ use Rattle.shadow.specs.Pairs.{Pairwise}
 use Rattle.tn3270e_msg.specs.Talk.{Talk}
 use Rattle.tn3270e_msg.specs.TermTable.{Term}
 use Rattle.tn3270e_msg.specs.declared.host_talk.HostState.{HostState}
-use Rattle.host_core.specs.Acts.{Act, Decision, belief_of, decision_on, is_in_doubt, is_settled_fact, learned, text_known}
-use Rattle.host_core.specs.Application.{Application, IsApplication}
+use Rattle.host_core.specs.Acts.{Act, Decision, belief_of, decision_on, is_in_doubt, is_settled_fact, learned, text_known, when_shown}
+use Rattle.host_core.specs.Application.{Application, IsApplication, message_place}
 use Rattle.host_core.specs.Questions.{is_ask, is_asking, key_of, question_in, question_on}
 use Rattle.host_core.specs.Session.{Conn, agreed_lu}
 use Rattle.host_core.specs.declared.question.Question.{Question}
 use Rattle.host_core.specs.declared.turn_reason.TurnReason.{TurnReason}
 use Rattle.host_core.specs.declared.turn_reason.TurnReason.TheVariants as turn_reasons
-use Rattle.world3270.specs.Always.{AlwaysOf}
-use Rattle.world3270.specs.Asked.{AskedIsSeen, AreFieldsAsked, FieldsAreSeen, IsSeen, ShowsItsFields, StandsAt, StandsIn}
+use Rattle.world3270.specs.Always.{Always, AlwaysOf}
+use Rattle.world3270.specs.Asked.{AskedIsSeen, AreFieldsAsked, FieldsAreSeen, IsScreenAsLeft, IsSeen, ScreensAreAsLeft, ShowsItsFields, StandsAt, StandsIn}
 use Rattle.world3270.specs.Given.{Given}
 use Rattle.world3270.specs.Happens.{run}
 use Rattle.world3270.specs.Link.{Link}
@@ -85,7 +85,7 @@ right_before extent place is =
     let after = extent.after_attribute in
     omega arith
 
-stands_at : (shadow : Shadow) (screen : Screen) (field : PanelField) (text : List ℕ) → Meets shadow screen → text_known shadow field ≡ Some text → StandsAt field text screen
+pub stands_at : (shadow : Shadow) (screen : Screen) (field : PanelField) (text : List ℕ) → Meets shadow screen → text_known shadow field ≡ Some text → StandsAt field text screen
 stands_at Shadow.NothingKnown screen field text meets is = absurd (cc)
 stands_at (Shadow.Unformatted known) screen field text meets is = absurd (cc)
 stands_at (Shadow.Formatted beliefs) screen field text meets is = found_at (known_listed (field.extent.first - 1) text beliefs (fields screen.cells) meets.1 is)
@@ -151,7 +151,7 @@ settled_told (Fact.TextOrNulls value) settled = absurd (cc)
 settled_told (Fact.Any known) settled = absurd (cc)
 
 -- a text is known of the field that is believed there
-abbrev IsTextOf : Option Belief → Type 0
+abbrev pub IsTextOf : Option Belief → Type 0
 IsTextOf found = (text : List ℕ) × (option_and_then (λ (belief : Belief). told belief.fact) found ≡ Some text)
 
 found_told : (found : Option Belief) → not (option_map_or (λ (belief : Belief). is_settled_fact belief.fact) found false) ≡ false → IsTextOf found
@@ -167,7 +167,7 @@ neither true other none = absurd (cc)
 neither false other none = (refl, none)
 
 -- nothing is in doubt
-sure_told : (shadow : Shadow) (panel : List PanelField) (index : ℕ) (field : PanelField) → list_any (is_in_doubt shadow) panel ≡ false → slice_get panel index ≡ Some field
+pub sure_told : (shadow : Shadow) (panel : List PanelField) (index : ℕ) (field : PanelField) → list_any (is_in_doubt shadow) panel ≡ false → slice_get panel index ≡ Some field
     → IsTextOf (belief_of shadow field)
 sure_told shadow [] index field sure at = absurd (cc)
 sure_told shadow (first ∷ panel) zero field sure at =
@@ -178,7 +178,7 @@ sure_told shadow (first ∷ panel) (suc index) field sure at =
     sure_told shadow panel index field (neither (is_in_doubt shadow first) (list_any (is_in_doubt shadow) panel) sure).1 at
 
 -- a listed field is believed, with a settled fact
-belief_there : (place : ℕ) (beliefs : List Belief) (seen : List Field) (index : ℕ) (field : Field) → Pairwise FieldMeets beliefs seen → All IsTextKnown beliefs
+pub belief_there : (place : ℕ) (beliefs : List Belief) (seen : List Field) (index : ℕ) (field : Field) → Pairwise FieldMeets beliefs seen → All IsTextKnown beliefs
     → index < length seen → slice_index_or seen index field ≡ field → field.place ≡ place → IsTextOf (belief_with place beliefs)
 belief_there place [] [] index field meets settled below at is = absurd (omega arith)
 belief_there place [] (seen ∷ more) index field meets settled below at is = absurd meets
@@ -211,7 +211,7 @@ settled_on shadow screen field lists meets settled there = by_belief shadow list
         belief_there (field.extent.first - 1) beliefs (fields screen.cells) listed.1.0 listed.0 meets.1 settled listed.1.1 listed.1.2 listed.2
 
 -- where the application is asked, nothing is in doubt, or the screen was read
-asked_sure : (app : Application) (conn : Conn) (reason : TurnReason) → IsKnownIfRead reason conn.shadow → is_ask (decision_on app conn reason) ≡ true
+pub asked_sure : (app : Application) (conn : Conn) (reason : TurnReason) → IsKnownIfRead reason conn.shadow → is_ask (decision_on app conn reason) ≡ true
     → (list_any (is_in_doubt conn.shadow) (app.fields conn.panel) ≡ false) ⊎ All IsTextKnown (fields_of conn.shadow)
 asked_sure app conn turn_reasons.Agreement settled asks = absurd (cc)
 asked_sure app conn turn_reasons.Refusal settled asks = absurd (cc)
@@ -242,7 +242,7 @@ learned_stays shadow (field ∷ panel) values number apart =
     by_text (Some text) = put_there values field.number number text (apart zero field refl)
 
 -- a text that is known is the value of its field
-learned_has : (shadow : Shadow) (panel : List PanelField) (values : Values) (index : ℕ) (field : PanelField) (text : List ℕ) → HaveNumbersApart panel → slice_get panel index ≡ Some field
+pub learned_has : (shadow : Shadow) (panel : List PanelField) (values : Values) (index : ℕ) (field : PanelField) (text : List ℕ) → HaveNumbersApart panel → slice_get panel index ≡ Some field
     → text_known shadow field ≡ Some text → value_of (learned shadow panel values) field.number ≡ Some text
 learned_has shadow [] values index field text apart at known = absurd (cc)
 learned_has shadow (first ∷ panel) values zero field text apart at known =
@@ -257,11 +257,11 @@ learned_has shadow (first ∷ panel) values (suc index) field text apart at know
     (λ i j one other below at_i at_j. apart (suc i) (suc j) one other (omega (arith, below)) at_i at_j) at known
 
 -- the panel that is shown has its fields on the screen
-shown_among : (app : Application) → IsApplication app → ShowsItsFields app → (host : Conn) (left now : Screen) (index : ℕ) (field : PanelField) → ShowsItsPanel app host left → SamePlaces left.cells now.cells
+shown_among : (app : Application) → IsApplication app → ShowsItsFields app → (host : Conn) (before left now : Screen) (index : ℕ) (field : PanelField) → ShowsItsPanel app host before left → SamePlaces left.cells now.cells
     → slice_get (app.fields host.panel) index ≡ Some field → IsAmong now.cells field.extent
-shown_among app is shows host left now index field shown same at =
+shown_among app is shows host before left now index field shown same at =
     let wanted : WantedScreen = shown.wanted in
-    let way = wanted_in_a_way app shown.wanted_for.conn host.panel host.message shown.wanted_for.keep host.values in
+    let way = wanted_in_a_way app (when_shown shown.wanted_for.conn) host.panel host.message shown.wanted_for.keep host.values in
     let keep : Bool = way.0 in
     let wanted_is : wanted ≡ app.screen host.panel host.values host.message keep = shown.wanted_for.wanted_is ∙ way.1 in
     let sized : length wanted.cells ≡ cells_in wanted.size =
@@ -269,7 +269,7 @@ shown_among app is shows host left now index field shown same at =
     let on : IsFieldOn wanted field.extent =
     subst (λ (w : WantedScreen). IsFieldOn w field.extent) (sym wanted_is) (shows.on_screen host.panel host.values host.message keep index field at) in
     among_same left.cells now.cells field.extent same
-    (subst (λ (s : Screen). IsAmong s.cells field.extent) (sym shown.is) (among_painted shown.over wanted shown.before field.extent sized shown.fits shown.meets on))
+    (subst (λ (s : Screen). IsAmong s.cells field.extent) (sym shown.is) (among_painted shown.over wanted before field.extent sized shown.fits shown.meets on))
 
 -- ---- the key
 
@@ -302,6 +302,14 @@ question_is true (Some lu) ask question is = (refl, lu, refl, let same : Some (a
 question_is true None ask question is = absurd (cc)
 question_is false lu ask question is = absurd (cc)
 
+-- the key isn't Clear
+asked_uncleared : (app : Application) (conn : Conn) (reason : TurnReason) (aid : Aid) → IsOccasion reason aid → is_ask (decision_on app conn reason) ≡ true → aid ≡ Clear → ⊥
+asked_uncleared app conn turn_reasons.Agreement aid occasion asks clear = absurd (cc)
+asked_uncleared app conn turn_reasons.Refusal aid occasion asks clear = absurd (cc)
+asked_uncleared app conn (turn_reasons.Key pressed buffered) aid occasion asks clear =
+    absurd (let is_clear : is_ask (decision_on app conn (turn_reasons.Key Clear buffered)) ≡ true =
+    subst (λ (a : Aid). is_ask (decision_on app conn (turn_reasons.Key a buffered)) ≡ true) (occasion.0 ∙ clear) asks in cc)
+
 pub asked_seen : Given → (app : Application) → IsApplication app → (link : Link) → Kept app (view_of link) → (number session : ℕ) (question : Question)
     → question_in app session link.host ≡ Some question → IsSeen (app.fields question.panel) question (end_seen number link.term)
 asked_seen given app is link k number session question asked =
@@ -313,19 +321,12 @@ asked_seen given app is link k number session question asked =
     let seen_on : IsSeen (app.fields link.host.panel) (question_on app session link.host there.1) (end_seen number link.term) =
     record {
       key = asked_key app link.host link.host.turn_reason link.term.display.screen.aid refl asks.2.turn_reason asks.3;
+      not_clear = asked_uncleared app link.host link.host.turn_reason link.term.display.screen.aid asks.2.turn_reason asks.3;
       lu = term_is ∙ sym host_is ∙ there.2;
       cursor = asked_cursor app link.host link.host.turn_reason link.host.cursor link.term.display.screen.cursor asks.2.cursor asks.3;
       texts = λ field text value. stands_in link.host.shadow link.term.display.screen (app.fields link.host.panel) field text asks.2.sees.meets value;
     } in
     subst (λ (q : Question). IsSeen (app.fields q.panel) q (end_seen number link.term)) (sym there.3) seen_on
-
--- the key isn't Clear
-asked_uncleared : (app : Application) (conn : Conn) (reason : TurnReason) (aid : Aid) → IsOccasion reason aid → is_ask (decision_on app conn reason) ≡ true → aid ≡ Clear → ⊥
-asked_uncleared app conn turn_reasons.Agreement aid occasion asks clear = absurd (cc)
-asked_uncleared app conn turn_reasons.Refusal aid occasion asks clear = absurd (cc)
-asked_uncleared app conn (turn_reasons.Key pressed buffered) aid occasion asks clear =
-    absurd (let is_clear : is_ask (decision_on app conn (turn_reasons.Key Clear buffered)) ≡ true =
-    subst (λ (a : Aid). is_ask (decision_on app conn (turn_reasons.Key a buffered)) ≡ true) (occasion.0 ∙ clear) asks in cc)
 
 -- something was shown
 asked_later : (app : Application) (conn : Conn) → is_ask (decision_on app conn conn.turn_reason) ≡ true → conn.turn_reason ≡ turn_reasons.Agreement → ⊥
@@ -339,12 +340,12 @@ each_asked given app is shows link k session question asked =
     let conn : Conn = link.host in
     let screen : Screen = link.term.display.screen in
     let uncleared : screen.aid ≡ Clear → ⊥ = asked_uncleared app conn conn.turn_reason screen.aid asks.2.turn_reason asks.3 in
-    let shown : ShowsItsPanel app conn link.term.display.last_restored = asks.4.0 (asked_later app conn asks.3) in
+    let shown : ShowsItsPanel app conn link.term.display.before_restored link.term.display.last_restored = asks.4.0 (asked_later app conn asks.3) in
     let same : SamePlaces link.term.display.last_restored.cells screen.cells = (k.unreturned uncleared).places in
     let sure = asked_sure app conn conn.turn_reason asks.4.1 asks.3 in
     let on_it : AreFieldsAsked (app.fields conn.panel) (question_on app session conn there.1) screen =
     λ index field at.
-    let among : IsAmong screen.cells field.extent = shown_among app is shows conn link.term.display.last_restored screen index field shown same at in
+    let among : IsAmong screen.cells field.extent = shown_among app is shows conn link.term.display.before_restored link.term.display.last_restored screen index field shown same at in
     let told : IsTextOf (belief_of conn.shadow field) = text_of conn.shadow screen (app.fields conn.panel) index field asks.2.sees.lists asks.2.sees.meets among at sure in
     let stands : StandsAt field told.0 screen = stands_at conn.shadow screen field told.0 asks.2.sees.meets told.1 in
     record {
@@ -365,9 +366,9 @@ asked_there true asked question is = (refl, is)
 asked_there false asked question is = absurd (cc)
 
 pub asked_is_seen : Given → AlwaysOf AskedIsSeen
-asked_is_seen given app pool models events is lists few are =
-    let world : World = run app events (new_world app pool models) in
-    let g = run_good given app is events (new_world app pool models) are (new_good given app is pool models lists) in
+asked_is_seen given app serves pool models events is lists few are =
+    let world : World = run app events (new_world app serves pool models) in
+    let g = run_good given app is events (new_world app serves pool models) are (new_good given app is serves pool models lists) in
     λ number session question terminal asked terminal_is.
     let link : Link = world.link number in
     let there = terminal_attached link.term_here link.term terminal terminal_is in
@@ -376,12 +377,23 @@ asked_is_seen given app pool models events is lists few are =
     (asked_seen given app is link (g.links number) there.0 session question here.1)
 
 pub each_is_seen : Given → AlwaysOf FieldsAreSeen
-each_is_seen given app pool models events is lists few are =
-    let world : World = run app events (new_world app pool models) in
-    let g = run_good given app is events (new_world app pool models) are (new_good given app is pool models lists) in
+each_is_seen given app serves pool models events is lists few are =
+    let world : World = run app events (new_world app serves pool models) in
+    let g = run_good given app is events (new_world app serves pool models) are (new_good given app is serves pool models lists) in
     λ shows number session question terminal asked terminal_is.
     let link : Link = world.link number in
     let there = terminal_attached link.term_here link.term terminal terminal_is in
     let here = asked_there link.host_here (question_in app session link.host) question asked in
     subst (λ (t : TerminalSeen). AreFieldsAsked (app.fields question.panel) question t.screen) (sym there.2)
     (each_asked given app is shows link (g.links number) session question here.1)
+
+-- ---- the screen is the one that was left
+
+pub screens_are_as_left : Given → Always ScreensAreAsLeft
+screens_are_as_left given app serves pool models events is lists few are =
+    let world : World = run app events (new_world app serves pool models) in
+    let g = run_good given app is events (new_world app serves pool models) are (new_good given app is serves pool models lists) in
+    λ number terminal terminal_is.
+    let link : Link = world.link number in
+    let there = terminal_attached link.term_here link.term terminal terminal_is in
+    subst (λ (t : TerminalSeen). IsScreenAsLeft (message_place link.term.display.shape) t) (sym there.2) (g.links number).as_left

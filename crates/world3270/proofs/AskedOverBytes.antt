@@ -1,25 +1,27 @@
 -- What is asked over bytes is what is asked over the messages that they represent.
 use Rattle.std.proofs.Common.{◌≡◌, ℕ, Bool, true, false, Option, None, Some, refl, ap, sym, subst, ◌∙◌, if◌then◌else◌}
 use Rattle.std.specs.Prelude.{slice_get, unwrap_or}
+use Rattle.codes3270.specs.Size.{Shape}
 use Rattle.panels.specs.KeptFields.{FieldsAreOnTheScreen}
 use Rattle.panels.specs.Panel.{PanelParts, Panels, AreSound, HasItemsApart, HaveNumbersApart, IsLaidOut}
 use Rattle.panels.specs.declared.panel.Field.{Field as PanelField}
-use Rattle.host_core.specs.Application.{Application, IsApplication, application_of, no_panel, panel_at}
+use Rattle.host_core.specs.Application.{Application, IsApplication, application_of, message_place, no_panel, panel_at}
 use Rattle.host_core.specs.Laws.{PanelsAreShown}
 use Rattle.host_core.specs.Questions.{question_in, question_of}
 use Rattle.host_core.specs.Session.{Conn}
 use Rattle.host_core.specs.State.{Service, service_at, session_at}
 use Rattle.host_core.specs.declared.question.Question.{Question}
-use Rattle.world3270.specs.Always.{AlwaysOf}
-use Rattle.world3270.specs.Asked.{AskedIsSeen, AskedIsSeenOverBytes, FieldsAreSeen, IsPanelSeen, ShowsItsFields, asked_by}
+use Rattle.world3270.specs.Always.{Always, AlwaysOf}
+use Rattle.world3270.specs.Asked.{AskedIsSeen, AskedIsSeenOverBytes, FieldsAreSeen, IsPanelSeen, IsScreenAsLeft, IsSeen, ScreensAreAsLeft, ShowsItsFields, asked_at, asked_by, row_at}
 use Rattle.world3270.specs.ByteWorld.{is_there}
 use Rattle.world3270.specs.Link.{Link}
 use Rattle.world3270.specs.Refines.{Begin, after}
-use Rattle.world3270.specs.Seen.{SeenLink}
+use Rattle.world3270.specs.Seen.{SeenLink, TerminalSeen, seen_link}
+use Rattle.world3270.specs.SeenBytes.{seen_connection}
 use Rattle.world3270.specs.Standing.{conn_of, link_of}
 use Rattle.world3270.specs.Stands.{LinkStands}
 use Rattle.world3270.specs.World.{World}
-use Rattle.world3270.proofs.SeenStands.{same_seen}
+use Rattle.world3270.proofs.SeenStands.{same_seen, size_seen}
 
 -- an open number has a question where its connection has one; no other number has any
 same_question : (app : Application) (session : ℕ) (service : Service) (here : Bool) (conn : Conn) (question : Question) → is_there service ≡ here → (here ≡ true → conn_of service ≡ conn)
@@ -30,7 +32,7 @@ same_question app session (Service.Open rest held) true conn question there same
 same_question app session (Service.Open rest held) false conn question there same asked = absurd (cc)
 
 -- a panel that has fields is one of the set's
-panel_there : (panel : Option PanelParts) (index : ℕ) (field : PanelField) → slice_get (unwrap_or panel no_panel).fields index ≡ Some field → (there : PanelParts) × (panel ≡ Some there)
+pub panel_there : (panel : Option PanelParts) (index : ℕ) (field : PanelField) → slice_get (unwrap_or panel no_panel).fields index ≡ Some field → (there : PanelParts) × (panel ≡ Some there)
 panel_there None index field at = absurd (cc)
 panel_there (Some there) index field at = (there, refl)
 
@@ -47,23 +49,47 @@ shows_its_fields on_screen set sound = record {
       (subst (λ (p : PanelParts). HaveNumbersApart p.fields) same (sound.numbers panel there.0 there.1)) i j one other below at_i at_j;
 }
 
-pub asked_over_bytes : PanelsAreShown → FieldsAreOnTheScreen → AlwaysOf AskedIsSeen → AlwaysOf FieldsAreSeen → AskedIsSeenOverBytes
-asked_over_bytes shown on_screen asked each bytes is number question terminal asked_now terminal_is =
-    let begin : Begin = is.begin in
-    let app : Application = application_of begin.panels in
-    let is_app : IsApplication app = shown begin.panels is.is_begin.panels.otherwise is.is_begin.panels.laid_out is.is_begin.panels.apart in
-    let world : World = after begin is.events in
-    let link : Link = world.link number in
-    let stands : LinkStands (link_of number bytes) link = is.reached.stands.links number in
-    let session = session_at number bytes.host in
-    let question_is : question_of app session (service_at number bytes.host) ≡ Some question =
-    ap (λ (p : Panels). question_of (application_of p) session (service_at number bytes.host)) (sym is.reached.panels) ∙ asked_now in
-    let over_messages : asked_by app session link ≡ Some question =
-    same_question app session (service_at number bytes.host) link.host_here link.host question stands.host_here (λ here. (stands.host here).host) question_is in
-    let seen_there = sym (ap (λ (l : SeenLink). l.terminal) (same_seen bytes world is.reached.stands number)) ∙ terminal_is in
-    subst (λ (p : Panels). IsPanelSeen ((application_of p).fields question.panel) question terminal) (sym is.reached.panels)
-    (record {
-      seen = asked app begin.pool begin.models is.events is_app is.is_begin.pool is.is_begin.few is.reached.are_events number session question terminal over_messages seen_there;
-      fields = each app begin.pool begin.models is.events is_app is.is_begin.pool is.is_begin.few is.reached.are_events
-          (shows_its_fields on_screen begin.panels is.is_begin.panels) number session question terminal over_messages seen_there;
-    })
+pub asked_over_bytes : PanelsAreShown → FieldsAreOnTheScreen → AlwaysOf AskedIsSeen → AlwaysOf FieldsAreSeen → Always ScreensAreAsLeft → AskedIsSeenOverBytes
+asked_over_bytes shown on_screen asked each as_left bytes is = record { questions = questions; screens = screens }
+  where
+    begin : Begin
+    begin = is.begin
+
+    app : Application
+    app = application_of begin.panels
+
+    is_app : IsApplication app
+    is_app = shown begin.panels is.is_begin.panels.otherwise is.is_begin.panels.laid_out is.is_begin.panels.apart
+
+    world : World
+    world = after begin is.events
+
+    -- a terminal that is seen is that of the world over messages
+    seen_there : (number : ℕ) (terminal : TerminalSeen) → (seen_connection number bytes).terminal ≡ Some terminal → (seen_link (world.link number)).terminal ≡ Some terminal
+    seen_there number terminal terminal_is = sym (ap (λ (l : SeenLink). l.terminal) (same_seen bytes world is.reached.stands number)) ∙ terminal_is
+
+    screens : (number : ℕ) (terminal : TerminalSeen) → (seen_connection number bytes).terminal ≡ Some terminal → IsScreenAsLeft (row_at terminal.number bytes) terminal
+    screens number terminal terminal_is =
+        subst (λ (s : Shape). IsScreenAsLeft (message_place s) terminal) (sym (size_seen bytes world is.reached.stands number terminal terminal_is))
+        (as_left app begin.serves begin.pool begin.models is.events is_app is.is_begin.pool is.is_begin.few is.reached.are_events number terminal (seen_there number terminal terminal_is))
+
+    questions : (number : ℕ) (question : Question) (terminal : TerminalSeen) → asked_at number bytes ≡ Some question → (seen_connection number bytes).terminal ≡ Some terminal
+        → IsPanelSeen ((application_of bytes.host.panels).fields question.panel) (row_at terminal.number bytes) question terminal
+    questions number question terminal asked_now terminal_is =
+        let link : Link = world.link number in
+        let stands : LinkStands (link_of number bytes) link = is.reached.stands.links number in
+        let session = session_at number bytes.host in
+        let question_is : question_of app session (service_at number bytes.host) ≡ Some question =
+        ap (λ (p : Panels). question_of (application_of p) session (service_at number bytes.host)) (sym is.reached.panels) ∙ asked_now in
+        let over_messages : asked_by app session link ≡ Some question =
+        same_question app session (service_at number bytes.host) link.host_here link.host question stands.host_here (λ here. (stands.host here).host) question_is in
+        let seen : IsSeen (app.fields question.panel) question terminal =
+        asked app begin.serves begin.pool begin.models is.events is_app is.is_begin.pool is.is_begin.few is.reached.are_events number session question terminal over_messages
+        (seen_there number terminal terminal_is) in
+        subst (λ (p : Panels). IsPanelSeen ((application_of p).fields question.panel) (row_at terminal.number bytes) question terminal) (sym is.reached.panels)
+        (record {
+          seen = seen;
+          fields = each app begin.serves begin.pool begin.models is.events is_app is.is_begin.pool is.is_begin.few is.reached.are_events
+              (shows_its_fields on_screen begin.panels is.is_begin.panels) number session question terminal over_messages (seen_there number terminal terminal_is);
+          protected = screens number terminal terminal_is seen.not_clear;
+        })

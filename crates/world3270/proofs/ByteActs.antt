@@ -3,7 +3,7 @@ use Rattle.std.proofs.Common.{◌≡◌, ◌<◌, ◌==◌, ℕ, Bool, true, fal
 use Rattle.host_core.specs.Questions.{act_by, answered_by, answered_on, has_its_panel, is_asking, is_ticket, ticket_of}
 use Rattle.host_core.specs.declared.question.Answer.{Answer as Said}
 use Rattle.host_core.specs.declared.question.Ticket.{Ticket}
-use Rattle.world3270.proofs.Answered.{as_answer}
+use Rattle.world3270.proofs.Answered.{IsDone, by_act, by_answer}
 use Rattle.world3270.proofs.StandsSizes.{is_narrow}
 use Rattle.world3270.proofs.Down.{shape_of_model}
 use Rattle.codes3270.specs.declared.size.Model.{Model}
@@ -27,6 +27,7 @@ use Rattle.host_core.specs.NoteLaws.{IsNoteOf}
 use Rattle.host_core.specs.Notes.{note_command, may_note, noted, noted_as}
 use Rattle.host_core.specs.Says.{item_sent}
 use Rattle.host_core.specs.Session.{Conn, is_agreed}
+use Rattle.host_core.specs.Reports.{no_reports}
 use Rattle.host_core.specs.State.{Host, Connection, Service, unused, most_connections, connection_at, service_at, with_connection, session_at}
 use Rattle.host_core.specs.declared.acted.Acted.{Acted}
 use Rattle.host_core.specs.declared.acted.Acted.TheVariants as acted_as
@@ -65,7 +66,7 @@ told sending number old = with_host (with_connection number (sent_on sending (co
 
 -- the connection, where the host's line is this one
 abbrev with_this : Option ℕ → Transits → List ℕ → TrackedTerminal → Service → List ℕ → ByteLink
-with_this here transits up tracked service out = with_parts here (record { service = service; out = out; rejections = [] }) transits up tracked
+with_this here transits up tracked service out = with_parts here (record { service = service; out = out; reports = no_reports }) transits up tracked
 
 -- the host's line says more, and the connection has that under way
 connection_says : (here : Option ℕ) (transits : Transits) (up : List ℕ) (tracked : TrackedTerminal) (sending : Sent) (service : Service) (out : List ℕ) → is_there service ≡ true → IsNotClosed service
@@ -164,9 +165,11 @@ module _ (sends : HostSends) (number : ℕ) (old : ByteWorld) (world : World) (s
         links = λ other differs. with_other number other (host_sent (Some sending) (world.link number)) world.link differs;
         places = λ other differs. refl;
         connection_count = length-set old.host.connections number (sent_on sending (connection_at number old.host));
+        serves = refl;
         way_count = refl;
         slot_count = refl;
         terminals = refl;
+        world_serves = refl;
         pool = stands.pool;
         before = beyond_is_alone number old world stands;
         behind = beyond_is_alone number old world stands;
@@ -239,9 +242,11 @@ module _ (nop : NopStands) (number : ℕ) (old : ByteWorld) (world : World) (sta
         links = λ other differs. refl;
         places = λ other differs. refl;
         connection_count = length-set old.host.connections number (with_nop (connection_at number old.host));
+        serves = refl;
         way_count = refl;
         slot_count = refl;
         terminals = refl;
+        world_serves = refl;
         pool = stands.pool;
         before = beyond_is_alone number old world stands;
         behind = beyond_is_alone number old world stands;
@@ -344,7 +349,7 @@ record Went (begin : Begin) (events : List Event) (message : Event) (answer : St
   reached : Reached begin (events ++ more) new
 
 went_on : (begin : Begin) (events : List Event) (message : Event) (number : ℕ) (sending : Sent) (old new : ByteWorld) (answer : Stepped) (host : Host) (act : Acted)
-    → DoesAnswer (Some sending) (connection_at number old.host) act (connection_at number host) → host ≡ with_connection number (connection_at number host) old.host
+    → IsDone (Some sending) (connection_at number old.host) act (connection_at number host) → host ≡ with_connection number (connection_at number host) old.host
     → answer ≡ answer_acted act → new ≡ with_host host old → Reached begin events old → Reached begin (events ++ message ∷ []) (told sending number old)
     → Went begin events message answer new
 went_on begin events message number sending old new answer host acted_as.Sent does others answers leaves before reached = record {
@@ -409,8 +414,8 @@ module _ (known : Known) (skips : SkipsAreThose) (given : Given) (stands_for : P
           let suits : Suits sending.message =
           let sent_by = act_sent app link.host sending does in
           subst (λ (s : Sent). Suits s.message) (sym sent_by.1)
-          (act_suits _ link.host.shadow _ (known.worlds.given.belief.fit app link.host sent_by.0 (is_application known.worlds begin is))) in
-          let went = went_on begin events (Event.Act number) number sending old new answer acts.host acts.act (as_answer (Some sending) (connection_at number old.host) acts.act (connection_at number acts.host) acts.acts) acts.others acts.answers acts.leaves reached
+          (act_suits _ _ _ (known.worlds.given.belief.fit app link.host sent_by.0 (is_application known.worlds begin is))) in
+          let went = went_on begin events (Event.Act number) number sending old new answer acts.host acts.act (by_act (Some sending) (connection_at number old.host) acts.act (connection_at number acts.host) acts.acts) acts.others acts.answers acts.leaves reached
           (told_reached begin events (Event.Act number) number sending old is reached tt tt (sym (skips begin events (event.Act number) old is reached tt) ∙ place)
           (ap (λ (o : Option Sent). with_link number (host_sent o link) (after begin events)) does) below found.0 suits) in
           record { more = went.more; comes_to = went.is_once; reached = went.reached }
@@ -426,7 +431,7 @@ module _ (known : Known) (skips : SkipsAreThose) (given : Given) (stands_for : P
   taken_if message answer acted_as.Memory is some = ap (once message) is ∙ sym (ap (once_taken message) is)
   taken_if message answer acted_as.Nothing is some = absurd (some refl)
 
-  does_something : (sending : Sent) (old : Connection) (act : Acted) (new : Connection) → DoesAnswer (Some sending) old act new → act ≡ acted_as.Nothing → ⊥
+  does_something : (sending : Sent) (old : Connection) (act : Acted) (new : Connection) → IsDone (Some sending) old act new → act ≡ acted_as.Nothing → ⊥
   does_something sending old acted_as.Sent new does nothing = absurd (cc)
   does_something sending old acted_as.Memory new does nothing = absurd (cc)
   does_something sending old acted_as.Nothing new does nothing = does
@@ -438,7 +443,7 @@ module _ (known : Known) (skips : SkipsAreThose) (given : Given) (stands_for : P
       by_does (answered_by (application_of old.host.panels) session ticket said (service_at number old.host)) refl parts.0 parts.1 happens
     where
       by_does : (does : Option Sent) → answered_by (application_of old.host.panels) (session_at number old.host) ticket said (service_at number old.host) ≡ does → is_link number ≡ true → is_some does ≡ true
-          → OnConnection (DoesAnswer does) number old answer new → GoesOn begin events (event.Answer number ticket said) old answer new
+          → OnConnection (DoesAnswer (application_of old.host.panels) said does) number old answer new → GoesOn begin events (event.Answer number ticket said) old answer new
       by_does None e linked some acts = absurd (cc)
       by_does (Some sending) e linked some acts =
           let app : Application = application_of begin.panels in
@@ -450,13 +455,15 @@ module _ (known : Known) (skips : SkipsAreThose) (given : Given) (stands_for : P
           let here : link.host_here ≡ true = sym (reached.stands.links number).host_here ∙ found.0 in
           let suits : Suits sending.message =
           subst (λ (s : Sent). Suits s.message) (sym (answer_sent app link.host said sending does))
-          (act_suits _ link.host.shadow _ (known.worlds.given.belief.fit app link.host (act_by app link.host said said.panel) (is_application known.worlds begin is))) in
-          let went = went_on begin events (Event.Answer number said) number sending old new answer acts.host acts.act acts.acts acts.others acts.answers acts.leaves reached
+          (act_suits _ _ _ (known.worlds.given.belief.fit app link.host (act_by app link.host said said.panel) (is_application known.worlds begin is))) in
+          let done : IsDone (Some sending) (connection_at number old.host) acts.act (connection_at number acts.host) =
+          by_answer (application_of old.host.panels) said (Some sending) (connection_at number old.host) acts.act (connection_at number acts.host) acts.acts in
+          let went = went_on begin events (Event.Answer number said) number sending old new answer acts.host acts.act done acts.others acts.answers acts.leaves reached
           (told_reached begin events (Event.Answer number said) number sending old is reached real.0 tt (answer_has_place app said number link sending linked here does)
           (ap (λ (o : Option Sent). with_link number (host_sent o link) (after begin events)) does) below found.0 suits) in
           record {
             more = went.more;
-            comes_to = went.is_once ∙ taken_if (Event.Answer number said) answer acts.act acts.answers (does_something sending (connection_at number old.host) acts.act (connection_at number acts.host) acts.acts);
+            comes_to = went.is_once ∙ taken_if (Event.Answer number said) answer acts.act acts.answers (does_something sending (connection_at number old.host) acts.act (connection_at number acts.host) done);
             reached = went.reached;
           }
 
@@ -475,14 +482,14 @@ module _ (known : Known) (skips : SkipsAreThose) (given : Given) (stands_for : P
           let below : number < most_connections = ltb-true number most_connections (and_parts (is_link number) _ place).0 in
           let found = noting text (service_at number old.host) sending e in
           let does : noted text link.host ≡ Some sending = ap (λ (c : Conn). noted text c) (sym (same_conn begin events old number reached found.0)) ∙ found.1 in
-          let kept = (run_good given app app_is events (new_world app begin.pool begin.models) reached.are_events
-          (new_good given app app_is begin.pool begin.models is.pool)).links number in
+          let kept = (run_good given app app_is events (new_world app begin.serves begin.pool begin.models) reached.are_events
+          (new_good given app app_is begin.serves begin.pool begin.models is.pool)).links number in
           let model : Model = link.term.display.model in
           let note : IsNoteOf link.host.shape (note_command link.host.shape text) = record { text = text; is_text = real.0; is = refl } in
           let suits : Suits sending.message =
           subst (λ (s : Sent). Suits s.message) (sym (note_sent text link.host sending does))
           (link.host.shape, shape_of_model app model link.host.shape app_is kept.sizes.host, is_narrow model link.host.shape kept.sizes.host, note) in
-          let went = went_on begin events (Event.Note number text) number sending old new answer acts.host acts.act (as_answer (Some sending) (connection_at number old.host) acts.act (connection_at number acts.host) acts.acts) acts.others acts.answers acts.leaves reached
+          let went = went_on begin events (Event.Note number text) number sending old new answer acts.host acts.act (by_act (Some sending) (connection_at number old.host) acts.act (connection_at number acts.host) acts.acts) acts.others acts.answers acts.leaves reached
           (told_reached begin events (Event.Note number text) number sending old is reached real.0 tt (sym (skips begin events (event.Note number text) old is reached tt) ∙ place)
           (ap (λ (o : Option Sent). with_link number (host_sent o link) (after begin events)) does) below found.0 suits) in
           record { more = went.more; comes_to = went.is_once; reached = went.reached }

@@ -45,7 +45,7 @@ use Rattle.world3270.proofs.Frames.{found_sits, found_within, connection_other, 
 use Rattle.world3270.proofs.Known.{Facts, Goes, facts_now, facts_then, reached_more}
 use Rattle.world3270.proofs.OneOfMany.{with_other, with_same}
 use Rattle.world3270.proofs.StandsLinks.{stayed}
-use Rattle.world3270.proofs.Unbroken.{among}
+use Rattle.world3270.proofs.Unbroken.{among, none_negative}
 use Rattle.world3270.proofs.UnderWay.{came_flows, came_live, came_under_way}
 
 -- ---- what a terminal makes of bytes doesn't hang on what it has to send
@@ -128,6 +128,7 @@ one_went number terminal step rest world closes here =
       other_links = λ other differs. with_other number other next world.link differs;
       other_places = λ other differs. with_other terminal other (Place.At number) world.place differs;
       terminals = refl;
+      world_serves = refl;
       pool = refl;
     })
 
@@ -153,6 +154,7 @@ went_on number terminal one other was mid now first second = record {
   other_links = λ n differs. second.other_links n differs ∙ first.other_links n differs;
   other_places = λ t differs. second.other_places t differs ∙ first.other_places t differs;
   terminals = second.terminals ∙ first.terminals;
+  world_serves = second.world_serves ∙ first.world_serves;
   pool = second.pool ∙ first.pool;
 }
 
@@ -168,6 +170,7 @@ all_came app number terminal linked [] others world here place down none = recor
   other_links = λ other differs. refl;
   other_places = λ other differs. refl;
   terminals = refl;
+  world_serves = refl;
   pool = refl;
 }
 all_came app number terminal linked (message ∷ taken) others world here place down none =
@@ -216,6 +219,7 @@ record IsTold (number : ℕ) (connection : Connection) (old new : ByteWorld) : T
   connection_is : connection_at number new.host ≡ connection
   other_connections : (other : ℕ) → other ≢ number → connection_at other new.host ≡ connection_at other old.host
   connection_count : length new.host.connections ≡ length old.host.connections
+  serves : new.host.terminals ≡ old.host.terminals
   pool : new.host.pool ≡ old.host.pool
   panels : new.host.panels ≡ old.host.panels
   links : new.links ≡ old.links
@@ -230,6 +234,7 @@ told true count number world below =
       connection_is = connection_same number connection world.host below;
       other_connections = λ other differs. connection_other number other connection world.host differs;
       connection_count = length-set world.host.connections number connection;
+      serves = refl;
       pool = refl;
       panels = refl;
       links = refl;
@@ -239,6 +244,7 @@ told false count number world below = record {
   connection_is = refl;
   other_connections = λ other differs. refl;
   connection_count = refl;
+  serves = refl;
   pool = refl;
   panels = refl;
   links = refl;
@@ -265,6 +271,7 @@ bytes_went number terminal count tracked old connection_below way_below below =
       other_transits = λ other differs. transits_other number other transits next differs ∙ ap (λ (l : List Transits). slice_index_or l other unused_transits) is.links;
       other_slots = λ other differs. ap (λ (s : List TerminalSlot). slice_index_or s other no_slot) is.slots ∙ slot_other terminal other slot old differs;
       connection_count = is.connection_count;
+      serves = is.serves;
       way_count = length-set next.links number transits ∙ ap (λ (l : List Transits). length l) is.links;
       slot_count = ap (λ (s : List TerminalSlot). length s) is.slots ∙ length-set old.slots terminal slot;
       pool = is.pool;
@@ -425,6 +432,7 @@ module _ (known : Known) (begin : Begin) (events : List MessageEvent) (number co
         fit = said.fit;
         carried_out = λ sequence outcome before behind same.
             among sequence outcome before behind said.sends (subst (λ (items : List WireItem). Pairwise StandsUp items said.sends) same said.said) said.none;
+        none = none_negative said.says said.sends said.said said.none;
       }
 
 module _ (known : Known) where
@@ -451,6 +459,7 @@ module _ (known : Known) where
     sent = ap (λ (w : ByteWorld). (slot_at terminal w).tracked.terminal.out) same ∙ sym (append-nil (slot_at terminal old).tracked.terminal.out);
     fit = tt;
     carried_out = λ sequence outcome before behind e. absurd (not_any before behind (response sequence outcome) e);
+    none = tt;
   }
 
   -- A terminal refuses nothing that comes to it.

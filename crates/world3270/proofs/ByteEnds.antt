@@ -51,6 +51,7 @@ left_is_alone terminal number old was agree stands at =
         screen = end.screen_is;
         keyboard = refl;
         last_restored = end.last_restored_is;
+        before_restored = end.before_restored_is;
         erased = end.erased_is;
       },
     )
@@ -103,7 +104,7 @@ begin_is_reached known begin is = record {
   are_events = tt;
   typed = All-nil IsTyped;
   panels = refl;
-  stands = begin_stands (nothing_stands all_items StandsUp refl known.links.no_bytes known.links.start) begin.panels begin.pool begin.models;
+  stands = begin_stands (nothing_stands all_items StandsUp refl known.links.no_bytes known.links.start) begin.serves begin.panels begin.pool begin.models;
 }
 
 -- ---- one event

@@ -63,6 +63,7 @@ stays_alone key tracked display is =
       screen = ap (λ (s : SizedScreen). record s { screen = outcome.screen }) is.screen ∙ ap (λ (o : Outcome). record (sized display) { screen = o.screen }) same;
       keyboard = ap (λ (o : Outcome). o.keyboard) same;
       last_restored = is.last_restored;
+      before_restored = is.before_restored;
       erased = ap (λ (b : Bool). b || erases_if (answer_to_key key tracked.terminal) key) is.erased
           ∙ ap (λ (o : Outcome). display.erased || erases_if o.answer key) same;
     }
@@ -123,6 +124,7 @@ module _ (known : Known) (key : Key) (terminal : ℕ) (old : ByteWorld) (world :
         other_transits = λ other differs. refl;
         other_slots = λ other differs. slot_other terminal other pressed_at old differs;
         connection_count = refl;
+        serves = refl;
         way_count = refl;
         slot_count = length-set old.slots terminal pressed_at;
         pool = refl;
@@ -135,6 +137,7 @@ module _ (known : Known) (key : Key) (terminal : ℕ) (old : ByteWorld) (world :
         other_links = λ other differs. with_other number other next world.link differs;
         other_places = λ other differs. refl;
         terminals = refl;
+        world_serves = refl;
         pool = refl;
       })
       (record {

@@ -86,6 +86,7 @@ pub record BytesWent (number terminal : ℕ) (connection : Connection) (transits
   pub other_transits : (other : ℕ) → other ≢ number → transits_at other new ≡ transits_at other old
   pub other_slots : (other : ℕ) → other ≢ terminal → slot_at other new ≡ slot_at other old
   pub connection_count : length new.host.connections ≡ length old.host.connections
+  pub serves : new.host.terminals ≡ old.host.terminals
   pub way_count : length new.links ≡ length old.links
   pub slot_count : length new.slots ≡ length old.slots
   pub pool : new.host.pool ≡ old.host.pool
@@ -99,6 +100,7 @@ pub record TermWent (number terminal : ℕ) (link : Link) (was now : World) : Ty
   pub other_links : (other : ℕ) → other ≢ number → now.link other ≡ was.link other
   pub other_places : (other : ℕ) → other ≢ terminal → now.place other ≡ was.place other
   pub terminals : now.terminals ≡ was.terminals
+  pub world_serves : now.serves ≡ was.serves
   pub pool : now.pool ≡ was.pool
 
 -- what stands in the one and in the other
@@ -138,9 +140,11 @@ module _ (number terminal : ℕ) (connection : Connection) (transits : Transits)
         links = went.other_links;
         places = went.other_places;
         connection_count = bytes.connection_count;
+        serves = bytes.serves;
         way_count = bytes.way_count;
         slot_count = bytes.slot_count;
         terminals = went.terminals;
+        world_serves = went.world_serves;
         pool = bytes.pool ∙ stands.pool ∙ sym went.pool;
         before = subst (λ (p : Place). IsHere number p) (sym place) refl;
         behind = subst (λ (p : Place). IsHere number p) (sym went.place_is) refl;
@@ -173,9 +177,11 @@ alone_stands terminal slot display old was agree stands there_is alone is_alone 
       links = λ other differs. refl;
       places = λ other differs. with_other terminal other (Place.Alone display) was.place differs;
       connection_count = refl;
+      serves = refl;
       way_count = refl;
       slot_count = length-set old.slots terminal slot;
       terminals = refl;
+      world_serves = refl;
       pool = stands.pool;
       before = alone_there (slot_at terminal old) (was.place terminal) beyond alone (stands.places terminal);
       behind = subst (λ (p : Place). IsHere beyond p) (sym goes) tt;

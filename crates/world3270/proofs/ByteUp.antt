@@ -192,6 +192,7 @@ module _ (known : Known) (begin : Begin) (is : IsBegin begin) (events : List Mes
         term_here = refl;
         places = refl;
         terminals = refl;
+        world_serves = refl;
         stands = subst (λ (d : List ℕ). LinkStands (record (link_of number old) { host_rest = to; up = drop 1 (up_of number old); down = d }) link)
             (sym (nothing_sent (link_of number old).lost (down_of number old)))
             (subst (λ (u : List ℕ). LinkStands (record (link_of number old) { host_rest = to; up = u }) link) bytes_behind
@@ -255,7 +256,7 @@ module _ (known : Known) (begin : Begin) (is : IsBegin begin) (events : List Mes
     step_is : (item : WireItem) (done : HostStep) → StandsUp item message → TakesItem (answer_to old.host.pool) (conn_of (service_at number old.host)) item done → done ≡ step
     step_is item done stand taken =
         let said = subst (λ (m : List ToHost). AllByRecursion IsSaidUp m) e
-        (all_said_up (application_of begin.panels) begin.pool begin.models events reached.are_events number) in
+        (all_said_up (application_of begin.panels) begin.serves begin.pool begin.models events reached.are_events number) in
         let waited = subst (λ (c : Conn). IsAwaited c message) (sym conn_is) (awaited world number message others known_here.forms e) in
         host_takes known.links.one_header known.links.fault_or_header known.links.one_inbound (answer_to old.host.pool) (conn_of (service_at number old.host))
         item message done stand said.0 waited taken
@@ -292,6 +293,7 @@ module _ (known : Known) (begin : Begin) (is : IsBegin begin) (events : List Mes
           term_here = refl;
           places = refl;
           terminals = refl;
+          world_serves = refl;
           stands = subst (λ (u : List ℕ). LinkStands (record (heard number to step.conn (sent_bytes (map item_sent step.sends)) old) { up = u }) (link_behind step others link))
               bytes_behind said;
         } in

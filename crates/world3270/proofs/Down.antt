@@ -2,7 +2,7 @@
 use Rattle.std.proofs.Common.{◌≡◌, ◌==◌, if◌then◌else◌, inr, ◌<◌, ℕ, Bool, true, false, Option, None, Some, List, [], ◌∷◌, ◌++◌, length, map, suc, arith, refl, ap, sym, subst, ◌∙◌, Result, Ok, Err, IsOkAnd, inl}
 use Rattle.tn3270e_msg.specs.Device.{device_for, device_text, has_text}
 use Rattle.codes3270.specs.declared.size.Model.{Model}
-use Rattle.std.specs.Prelude.{is_some, filter_map, replicate}
+use Rattle.std.specs.Prelude.{All, is_some, filter_map, replicate}
 use Rattle.std.specs.List.{list_any}
 use Rattle.std.specs.Str.{bytes_eq}
 use Rattle.std.proofs.lemmas.Bool.{eqb-true}
@@ -19,7 +19,7 @@ use Rattle.datastream.specs.Grammar.{CommandParts}
 use Rattle.datastream.specs.InboundFields.{buffer_data}
 use Rattle.datastream.specs.InboundText.{InboundParts}
 use Rattle.datastream.specs.Meaning.{after_command}
-use Rattle.datastream.specs.Note.{OverCharacters}
+use Rattle.datastream.specs.Note.{OverCharacters, places_noted}
 use Rattle.datastream.specs.Screen.{Screen}
 use Rattle.datastream.specs.Wanted.{WantedScreen}
 use Rattle.datastream.specs.declared.wanted.Want.{Want}
@@ -44,16 +44,18 @@ use Rattle.tn3270e_msg.specs.declared.reply.OwnedMessage.TheVariants.{SendType, 
 use Rattle.tn3270e_msg.specs.declared.term_talk.TermState.{TermState}
 use Rattle.tn3270e_msg.specs.declared.term_talk.TermState.TheVariants.{TypeAsked, FunctionsAsked, Agreed, Closed}
 use Rattle.tn3270e_msg.proofs.Agreement.{responses_alone, same_bytes}
-use Rattle.host_core.specs.Application.{Application, IsShape, IsApplication, IsSizeOf}
+use Rattle.host_core.specs.Application.{Application, IsShape, IsApplication, IsSizeOf, message_place}
 use Rattle.host_core.specs.Messages.{ToTerminal, ToHost}
 use Rattle.host_core.specs.NoteLaws.{TakesNotes, IsNoteOf}
+use Rattle.host_core.proofs.Notes.{each_noted}
 use Rattle.host_core.specs.declared.turn_reason.TurnReason.{TurnReason}
 use Rattle.host_core.specs.declared.turn_reason.TurnReason.TheVariants as turn_reasons
+use Rattle.host_core.specs.declared.unheard.Unheard.{Unheard}
 use Rattle.world3270.specs.Always.{is_negative}
 use Rattle.world3270.specs.Given.{Given}
 use Rattle.world3270.specs.Happens.{verdict_in}
 use Rattle.world3270.specs.Headline.{SentFields}
-use Rattle.world3270.specs.Showing.{WantsItsPanel}
+use Rattle.world3270.specs.Showing.{WantsItsPanelOn}
 use Rattle.world3270.specs.Unreturned.{UnmodifiedIsKept}
 use Rattle.world3270.specs.Link.{Link, sent}
 use Rattle.world3270.specs.Moments.{Kind, Talking, Serving, Moment, UnderWay, IsAt, host_talk_at, term_state_at, turn_at, pending_at, down_at, up_at}
@@ -62,7 +64,7 @@ use Rattle.world3270.specs.Stages.{scene_of, once_taken, FactsAreExact, Suits, I
 use Rattle.world3270.specs.Terminal.{TermStep, with_talk, is_bound, bound_to, once_bound, paint_came, note_came, read_came, talked, took}
 use Rattle.world3270.specs.View.{view_of}
 use Rattle.world3270.proofs.Queues.{more, front, nothing}
-use Rattle.world3270.proofs.Unreturned.{all_kept, noted_on, kept_noted, kept_bare, still_bare, still_one}
+use Rattle.world3270.proofs.Unreturned.{all_as_left, all_kept, as_left_noted, noted_on, kept_noted, kept_bare, still_bare, still_one}
 
 -- the connection once the terminal took the message before the rest
 abbrev pub term_view : TermStep → List ToTerminal → Link → Link
@@ -93,6 +95,7 @@ leads link step rest wanted from to same at l talk left =
       term_talk = talk;
       turn = at.turn ∙ sym l.turn;
       pending = at.pending ∙ sym l.pending;
+      not_cleared = at.not_cleared;
       goes_down = left;
       goes_up = subst (UnderWay link.lost (sent link.lost link.up step.sends)) l.up (more link.lost link.up (up_at model wanted from) step.sends at.goes_up);
     })
@@ -122,7 +125,7 @@ talks : (app : Application) (link : Link) (rest : List ToTerminal) (k : Kept app
     → (may_differ_at to ≡ false → link.term.display.shape ≡ link.host.shape)
     → IsAt (view_of link) k.wanted from → message ≡ ToTerminal.TalksDown saying → TalkTransition link.term.display.model k.wanted (term_state_at from) saying (term_state_at to) sends
     → Leads link.term.display.model k.wanted from to sends → list_any is_negative (filter_map verdict_in sends) ≡ false → UnderWay link.lost rest (down_at link.term.display.model to)
-    → Fact k.wanted (scene_of (view_of (term_view (talk_step link (term_state_at to) sends) rest link))) to → ShownAt app link.host link.term.display.last_restored to
+    → Fact k.wanted (scene_of (view_of (term_view (talk_step link (term_state_at to) sends) rest link))) to → ShownAt app link.host link.term.display.before_restored link.term.display.last_restored link.term.display.screen to
     → Obeyed app link rest (took link.term message)
 talks app link rest k from to saying sends message same at is transition l positive left fact shown =
     subst (λ m. Obeyed app link rest (took link.term m)) (sym is)
@@ -132,6 +135,7 @@ talks app link rest k from to saying sends message same at is transition l posit
         whole = k.whole;
         cursor = k.cursor;
         unreturned = k.unreturned;
+        as_left = k.as_left;
         exact = k.exact;
         wanted = k.wanted;
         moment = to;
@@ -214,7 +218,7 @@ serves link step rest wanted lu from to model at l same left = leads link step r
 -- ---- a paint
 
 takes_paint : Given → (app : Application) → IsApplication app → (link : Link) (rest : List ToTerminal) (k : Kept app (view_of link)) (lu : List ℕ) (number : ℕ) (command : CommandParts) (wants : WantedScreen) (over : Shadow)
-    → IsAt (view_of link) k.wanted (Moment.Serves lu (Serving.Painting number command wants over)) → IsPainted (scene_of (view_of link)) command wants over → WantsItsPanel app link.host over wants
+    → IsAt (view_of link) k.wanted (Moment.Serves lu (Serving.Painting number command wants over)) → IsPainted (scene_of (view_of link)) command wants over → WantsItsPanelOn app link.host over wants link.term.display.screen
     → UnderWay link.lost rest [] → Obeyed app link rest (took link.term (ToTerminal.Paint number wants over))
 takes_paint given app is link rest k lu number command wants over at f asked left =
     let screen : Screen = link.term.display.screen in
@@ -236,6 +240,7 @@ takes_paint given app is link rest k lu number command wants over at f asked lef
         whole = painted-length wants screen ∙ same;
         cursor = subst (λ n. wants.cursor < n) (sym base) f.paintable.showable.cursor;
         unreturned = λ _. all_kept new.cells;
+        as_left = λ _. all_as_left (message_place wants.size) new.cells;
         exact = k.exact;
         wanted = k.wanted;
         moment = Moment.Serves lu (Serving.Answering Kind.APaint number command);
@@ -250,13 +255,13 @@ takes_paint given app is link rest k lu number command wants over at f asked lef
           lock = λ wrong. absurd (cc);
           exact = exact;
           meets = subst (λ s. Meets s new) is_taken (given.belief.taken over wants screen same fits f.meets);
-          closed = subst NothingIsOpen is_taken (given.belief.paint_opens over wants screen same fits f.paintable.showable.kept f.meets (subst KnownIsExact (sym f.over_is) k.exact.known) f.closed);
+          closed = λ relies. subst NothingIsOpen is_taken (given.belief.paint_opens over wants screen same fits f.paintable.showable.kept f.meets (subst KnownIsExact (sym f.over_is) k.exact.known) (f.closed relies));
           knows = subst Knows is_taken (given.belief.known wanted_size over wants);
           held = given.keys.at_first new.cells;
           messages = given.notes.painted_takes link.host.shape over wants screen f.paintable;
-          noted = record { places = record { size = refl; kinds = λ place. refl }; each = λ place. inr refl };
+          noted = record { places = record { size = refl; kinds = λ place. refl }; each = λ place. inr refl; above = λ place before. refl };
         };
-        shown = record { wanted = wants; over = over; wanted_for = asked; before = screen; meets = f.meets; fits = fits; is = refl };
+        shown = record { wanted = wants; over = over; wanted_for = asked.wants; told = asked.told; meets = f.meets; fits = fits; is = refl };
       };
       open_end = refl;
       positive = refl;
@@ -265,7 +270,7 @@ takes_paint given app is link rest k lu number command wants over at f asked lef
 -- ---- a Read Buffer
 
 takes_read : (app : Application) (link : Link) (rest : List ToTerminal) (k : Kept app (view_of link)) → link.term.display.shape ≡ link.host.shape → (lu : List ℕ) (number : ℕ) → IsAt (view_of link) k.wanted (Moment.Serves lu (Serving.Reading number))
-    → IsRead (scene_of (view_of link)) → ShownAt app link.host link.term.display.last_restored (Moment.Serves lu (Serving.Reading number)) → UnderWay link.lost rest []
+    → IsRead (scene_of (view_of link)) → ShownAt app link.host link.term.display.before_restored link.term.display.last_restored link.term.display.screen (Moment.Serves lu (Serving.Reading number)) → UnderWay link.lost rest []
     → Obeyed app link rest (took link.term (ToTerminal.ReadBuffer number))
 takes_read app link rest k same lu number at f shown left =
     let parts : InboundParts = buffer_data link.term.display.shape link.term.display.screen in
@@ -275,6 +280,7 @@ takes_read app link rest k same lu number at f shown left =
         whole = k.whole;
         cursor = k.cursor;
         unreturned = k.unreturned;
+        as_left = k.as_left;
         exact = k.exact;
         wanted = k.wanted;
         moment = Moment.Serves lu (Serving.Reported number parts);
@@ -307,6 +313,12 @@ noted_on_it given shape command screen is note whole takes =
       cursor = bounds.cursor;
       aid = bounds.aid;
     }
+
+-- it writes behind the place where the row of messages begins
+behind_row : (shape : Shape) (command : CommandParts) (screen : Screen) → IsShape shape → IsNoteOf shape command → length screen.cells ≡ cells_in shape
+    → All (λ (at : ℕ). message_place shape < at) (places_noted (length screen.cells) command)
+behind_row shape command screen is note whole =
+    each_noted (λ (at : ℕ). message_place shape < at) shape command (length screen.cells) is note whole (λ place after within. after)
 
 -- what wasn't returned stays, on a screen with a row for messages and on one without fields
 kept_by : Given → (shape : Shape) (command : CommandParts) (screen : Screen) (erased : Bool) (left : List Cell) → IsShape shape → IsNoteOf shape command → length screen.cells ≡ cells_in shape → TakesNotes shape screen.cells
@@ -344,14 +356,14 @@ open_for (turn_reasons.Key aid buffered) old new f o = open_by aid buffered old 
 open_for turn_reasons.Refusal old new f o = absurd o
 
 -- the host will see the screen with the note on it
-sees_noted : Given → (shape : Shape) (command : CommandParts) (screen : Screen) (shadow : Shadow) → IsNoteOf shape command → length screen.cells ≡ cells_in shape → Noted command screen → Sees shape screen shadow
-    → Sees shape (after_command command screen) (taken (cells_in shape) command shadow)
-sees_noted given shape command screen shadow note whole noted s =
-    subst (λ n. Sees shape (after_command command screen) (taken n command shadow)) whole
+sees_noted : Given → (unheard : Unheard) (shape : Shape) (command : CommandParts) (screen : Screen) (shadow : Shadow) → IsNoteOf shape command → length screen.cells ≡ cells_in shape → Noted command screen → Sees unheard shape screen shadow
+    → Sees unheard shape (after_command command screen) (taken (cells_in shape) command shadow)
+sees_noted given unheard shape command screen shadow note whole noted s =
+    subst (λ n. Sees unheard shape (after_command command screen) (taken n command shadow)) whole
     (record {
       exact = let both = given.notes.exact command shadow screen noted.over s.meets s.exact.known s.exact.protected in record { known = both.0; protected = both.1 };
       cleared = λ e. subst (λ n. IsCleared shape (taken n command shadow)) (sym whole) (by_notes (s.cleared (sym noted.aid ∙ e)));
-      closed = open_noted screen.aid (after_command command screen).aid false shadow (taken (length screen.cells) command shadow) noted.aid (given.notes.opens command shadow screen noted.over s.meets) s.closed;
+      closed = λ relies. open_noted screen.aid (after_command command screen).aid false shadow (taken (length screen.cells) command shadow) noted.aid (given.notes.opens command shadow screen noted.over s.meets) (s.closed relies);
       meets = subst (λ n. Meets (taken n command shadow) (after_command command screen)) (written_on ∙ sym whole) (given.belief.written command shadow screen noted.over.spelt noted.over.plain (λ code. whole ∙ sym written_on) s.meets);
       lists = given.notes.listed command shadow screen noted.over s.meets s.lists;
       told = λ sent. given.notes.stays_told command shadow screen noted.over s.meets (s.told (subst SentFields noted.aid sent));
@@ -394,7 +406,7 @@ module _ (given : Given) (app : Application) (is : IsApplication app) (link : Li
       → Leads link.term.display.model k.wanted (Moment.Serves lu from) (Moment.Serves lu to) (note_came number command link.term).sends
       → UnderWay link.lost rest (down_at link.term.display.model (Moment.Serves lu to))
       → Fact k.wanted (scene_of (view_of (term_view (note_came number command link.term) rest link))) (Moment.Serves lu to)
-      → ShownAt app link.host link.term.display.last_restored (Moment.Serves lu to) → Obeyed app link rest (took link.term (ToTerminal.Note number command))
+      → ShownAt app link.host link.term.display.before_restored link.term.display.last_restored (after_command command screen) (Moment.Serves lu to) → Obeyed app link rest (took link.term (ToTerminal.Note number command))
   takes_note lu number command from to at note takes l left fact shown =
       let noted = noted_on_it given shape command screen is_shape note whole_here takes in
       subst (Obeyed app link rest) (ap (λ b. once_bound b (note_came number command link.term) link.term) (sym (bound link k.wanted lu from at)))
@@ -403,6 +415,9 @@ module _ (given : Given) (app : Application) (is : IsApplication app) (link : Li
           whole = noted.size ∙ k.whole;
           cursor = subst (λ n. n < cells_in link.term.display.shape) (sym noted.cursor) k.cursor;
           unreturned = λ uncleared. kept_by given shape command screen link.term.display.erased link.term.display.last_restored.cells is_shape note whole_here takes (k.unreturned (λ clear. uncleared (noted.aid ∙ clear)));
+          as_left = λ uncleared. as_left_noted given.notes.form command (message_place link.term.display.shape) link.term.display.last_restored.cells screen noted.characters
+              (subst (λ (s : Shape). All (λ (at : ℕ). message_place s < at) (places_noted (length screen.cells) command)) (sym same) (behind_row shape command screen is_shape note whole_here))
+              (k.as_left (λ clear. uncleared (noted.aid ∙ clear)));
           exact = k.exact;
           wanted = k.wanted;
           moment = Moment.Serves lu to;
@@ -433,11 +448,12 @@ module _ (given : Given) (app : Application) (is : IsApplication app) (link : Li
           protected = subst (λ n. ProtectedIsExact (taken n command link.host.shadow)) whole both.1;
         };
         meets = subst (λ n. Meets (taken n command link.host.shadow) (after_command command shown)) written_on (given.belief.written command link.host.shadow shown noted.over.spelt noted.over.plain (λ code. whole ∙ sym written_on) f.meets);
-        closed = subst (λ n. NothingIsOpen (taken n command link.host.shadow)) whole (given.notes.opens command link.host.shadow shown noted.over f.meets f.closed);
+        closed = λ relies. subst (λ n. NothingIsOpen (taken n command link.host.shadow)) whole (given.notes.opens command link.host.shadow shown noted.over f.meets (f.closed relies));
         knows = given.notes.placed (cells_in link.host.shape) command link.host.shadow noted.over.writes noted.over.placed f.knows;
         held = given.notes.held link.term.display.erased command shown screen writes f.held;
         messages = given.notes.same_takes shape shown.cells (after_command command shown).cells (given.notes.form command shown noted.characters).attributes f.messages;
-        noted = noted_on given.notes.form command link.term.display.last_restored.cells shown noted.characters writes (still_one given.notes.composes command shown noted.characters) f.noted;
+        noted = noted_on given.notes.form command (message_place shape) link.term.display.last_restored.cells shown noted.characters writes (behind_row shape command shown is_shape note whole)
+            (still_one given.notes.composes command shown noted.characters) f.noted;
       }
 
 -- ---- any message, at any moment
@@ -478,10 +494,10 @@ obeys given app is link message rest e k = by_moment k.moment k.sizes k.at k.fac
           lock = f.0.lock;
           turn_reason = subst (λ o. IsOccasion o screen.aid) (sym f.0.turn_reason) f.0.aid;
           cursor = subst (λ o. IsCursorFor o link.host.cursor screen.cursor) (sym f.0.turn_reason) tt;
-          closed = subst (λ o. IsOpenFor o link.host.shadow) (sym f.0.turn_reason) (none_open link.host.shadow f.0.shadow);
+          closed = λ relies. subst (λ o. IsOpenFor o link.host.shadow) (sym f.0.turn_reason) (none_open link.host.shadow f.0.shadow);
           sees = record {
             exact = k.exact;
-            closed = subst (λ a. IsOpenBy a false link.host.shadow) (sym f.0.aid) (none_open link.host.shadow f.0.shadow);
+            closed = λ relies. subst (λ a. IsOpenBy a false link.host.shadow) (sym f.0.aid) (none_open link.host.shadow f.0.shadow);
             cleared = λ clear. absurd (let x = sym f.0.aid ∙ clear in cc);
             meets = subst (λ s. Meets s screen) (sym f.0.shadow) tt;
             lists = λ some. absurd (some f.0.no_fields);
@@ -500,7 +516,7 @@ obeys given app is link message rest e k = by_moment k.moment k.sizes k.at k.fac
     by_talk (Talking.Rejected reason) same at f = no_more at.goes_down
 
     by_serving : (lu : List ℕ) (serving : Serving) → Sizes app (view_of link) (Moment.Serves lu serving) → IsAt (view_of link) k.wanted (Moment.Serves lu serving) → Fact k.wanted (scene_of (view_of link)) (Moment.Serves lu serving)
-        → ShownAt app link.host link.term.display.last_restored (Moment.Serves lu serving) → Obeyed app link rest (took link.term message)
+        → ShownAt app link.host link.term.display.before_restored link.term.display.last_restored link.term.display.screen (Moment.Serves lu serving) → Obeyed app link rest (took link.term message)
     by_serving lu (Serving.Reading number) s at f shown =
         let first = front link.lost link.down message rest _ [] e at.goes_down in
         as_message app link rest (ToTerminal.ReadBuffer number) message first.0 (takes_read app link rest k (s.same refl) lu number at f shown first.1)
@@ -520,8 +536,8 @@ obeys given app is link message rest e k = by_moment k.moment k.sizes k.at k.fac
         (takes_note given app is link rest k (s.same refl) lu number command (Serving.KeyNoted number command parts) (Serving.KeyBefore number command parts) at f.2.note f.2.takes
         (record { host_talk = refl; turn = refl; pending = refl; up = refl }) first.1 (
           record { lock = f.0.lock; form = f.0.form; size = f.0.size; pressed = f.0.pressed ∙ sym noted.aid; cursor = λ long. f.0.cursor (sym (ap is_short_aid noted.aid) ∙ long) ∙ ap (λ (n : ℕ). Some n) (sym noted.cursor); some = λ none. f.0.some (sym noted.aid ∙ none) },
-          ok_map (Sees link.host.shape screen) (λ shadow. Sees link.host.shape (after_command command screen) (once_taken link.host.shape command shadow)) (heard (cells_in link.host.shape) link.host.shadow parts)
-              (λ shadow seen. sees_noted given link.host.shape command screen shadow f.2.note (whole_here given app is link rest k (s.same refl)) noted seen) f.1,
+          ok_map (Sees link.host.unheard link.host.shape screen) (λ shadow. Sees link.host.unheard link.host.shape (after_command command screen) (once_taken link.host.shape command shadow)) (heard (cells_in link.host.shape) link.host.shadow parts)
+              (λ shadow seen. sees_noted given link.host.unheard link.host.shape command screen shadow f.2.note (whole_here given app is link rest k (s.same refl)) noted seen) f.1,
         ) shown)
     by_serving lu (Serving.NotedLate number command) s at f shown =
         let first = front link.lost link.down message rest _ [] e at.goes_down in
@@ -533,9 +549,9 @@ obeys given app is link message rest e k = by_moment k.moment k.sizes k.at k.fac
           lock = f.0.lock;
           turn_reason = subst (IsOccasion link.host.turn_reason) (sym noted.aid) f.0.turn_reason;
           cursor = subst (λ (n : ℕ). IsCursorFor link.host.turn_reason link.host.cursor n) (sym noted.cursor) f.0.cursor;
-          closed = open_for link.host.turn_reason link.host.shadow (once_taken link.host.shape command link.host.shadow)
-              (λ o. subst (λ n. NothingIsOpen (taken n command link.host.shadow)) (whole_here given app is link rest k (s.same refl)) (given.notes.opens command link.host.shadow screen noted.over f.0.sees.meets o)) f.0.closed;
-          sees = sees_noted given link.host.shape command screen link.host.shadow f.1.note (whole_here given app is link rest k (s.same refl)) noted f.0.sees;
+          closed = λ relies. open_for link.host.turn_reason link.host.shadow (once_taken link.host.shape command link.host.shadow)
+              (λ o. subst (λ n. NothingIsOpen (taken n command link.host.shadow)) (whole_here given app is link rest k (s.same refl)) (given.notes.opens command link.host.shadow screen noted.over f.0.sees.meets o)) (f.0.closed relies);
+          sees = sees_noted given link.host.unheard link.host.shape command screen link.host.shadow f.1.note (whole_here given app is link rest k (s.same refl)) noted f.0.sees;
         }) shown)
     by_serving lu Serving.Deciding s at f shown = no_more at.goes_down
     by_serving lu (Serving.Reported number parts) s at f shown = no_more at.goes_down
@@ -547,7 +563,7 @@ obeys given app is link message rest e k = by_moment k.moment k.sizes k.at k.fac
     by_serving lu (Serving.KeyBefore number command parts) s at f shown = no_more at.goes_down
 
     by_moment : (moment : Moment) → Sizes app (view_of link) moment → IsAt (view_of link) k.wanted moment → Fact k.wanted (scene_of (view_of link)) moment
-        → ShownAt app link.host link.term.display.last_restored moment → Obeyed app link rest (took link.term message)
+        → ShownAt app link.host link.term.display.before_restored link.term.display.last_restored link.term.display.screen moment → Obeyed app link rest (took link.term message)
     by_moment (Moment.Talks talking) s at f shown = by_talk talking (s.same refl) at f
     by_moment (Moment.Begins lu number command wants over) s at f shown =
         let first = front link.lost link.down message rest _ _ e at.goes_down in

@@ -13,6 +13,7 @@ use Rattle.host_core.specs.Messages.{ToTerminal, ToHost}
 use Rattle.host_core.specs.Notes.{noted}
 use Rattle.host_core.specs.Takes.{freed_if, HostStep, took as host_took}
 use Rattle.host_core.specs.Questions.{answered_on}
+use Rattle.host_core.specs.declared.terminals.Terminals.{Terminals}
 use Rattle.world3270.specs.Always.{Always}
 use Rattle.world3270.specs.Given.{Given}
 use Rattle.world3270.specs.Happens.{closed_if, came_up, left_alone, came_down, went_down, key_went, host_parted, parted, term_saw, joined, term_anew, host_left_from, host_anew, done, happens, run}
@@ -167,7 +168,7 @@ term_anew_both app world terminal (Place.Alone display) b = record { held = b.he
 joined_both : (app : Application) (world : World) (terminal : ℕ) (model : Model) (wanted : Option (List ℕ)) (free : Option ℕ) → BothHold world → BothHold (joined app terminal model wanted free world)
 joined_both app world terminal model wanted None b = b
 joined_both app world terminal model wanted (Some number) b =
-    changed world.pool world.link number (begun app model terminal wanted) (λ e. record { host = refl; terminal = refl }) (λ e. refl) b
+    changed world.pool world.link number (begun app world.serves model terminal wanted) (λ e. record { host = refl; terminal = refl }) (λ e. refl) b
 
 -- ---- any event
 
@@ -199,11 +200,11 @@ run_both : Given → (app : Application) (events : List Event) (world : World) �
 run_both given app [] world b = b
 run_both given app (event ∷ events) world b = run_both given app events (happens app event world) (happens_both given app event world b)
 
-new_both : Given → (app : Application) (pool : List Entry) (models : List Model) → BothHold (new_world app pool models)
-new_both given app pool models = record { held = λ number e. absurd (cc); here = λ number lu e. let free = given.pool.nobody pool lu in absurd (cc) }
+new_both : Given → (app : Application) (serves : Terminals) (pool : List Entry) (models : List Model) → BothHold (new_world app serves pool models)
+new_both given app serves pool models = record { held = λ number e. absurd (cc); here = λ number lu e. let free = given.pool.nobody pool lu in absurd (cc) }
 
 pub up_is_held : Given → Always UpIsHeld
-up_is_held given app pool models events is lists few are = (run_both given app events (new_world app pool models) (new_both given app pool models)).held
+up_is_held given app serves pool models events is lists few are = (run_both given app events (new_world app serves pool models) (new_both given app serves pool models)).held
 
 pub holders_are_here : Given → Always HoldersAreHere
-holders_are_here given app pool models events is lists few are = (run_both given app events (new_world app pool models) (new_both given app pool models)).here
+holders_are_here given app serves pool models events is lists few are = (run_both given app events (new_world app serves pool models) (new_both given app serves pool models)).here

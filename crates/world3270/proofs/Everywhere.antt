@@ -18,6 +18,7 @@ use Rattle.host_core.specs.Notes.{noted}
 use Rattle.host_core.specs.Takes.{Answers, HostStep, took as host_took}
 use Rattle.host_core.specs.Questions.{answered_on}
 use Rattle.host_core.specs.declared.question.Answer.{Answer as Said}
+use Rattle.host_core.specs.declared.terminals.Terminals.{Terminals}
 use Rattle.world3270.specs.Given.{Given}
 use Rattle.world3270.specs.Happens.{closed_if, said, freed_if, came_up, left_alone, place_after, came_down, went_down, key_went, parted, term_saw, joined, term_anew, host_left_from, done, happens, run}
 use Rattle.world3270.specs.Link.{Link, begun, unused, cut, host_left, host_stepped, host_sent, term_left, term_left_if, term_stepped}
@@ -32,8 +33,8 @@ use Rattle.world3270.proofs.Worlds.{GoodWorld, happens_good, new_good}
 
 -- what each step keeps, where events are such
 pub record Steps (app : Application) (IsSuch : Event → Type 0) (OfLink : Link → Type 0) (OfDisplay : Display → Type 0) : Type 0 where
-  pub never : OfLink (unused app)
-  pub begins : (model : Model) (terminal : ℕ) (wanted : Option (List ℕ)) → OfLink (begun app model terminal wanted)
+  pub never : (serves : Terminals) → OfLink (unused app serves)
+  pub begins : (serves : Terminals) (model : Model) (terminal : ℕ) (wanted : Option (List ℕ)) → OfLink (begun app serves model terminal wanted)
   pub up : (pool : Answers) (link : Link) (message : ToHost) (rest : List ToHost) → link.up ≡ message ∷ rest → Kept app (view_of link) → OfLink link
       → OfLink (host_stepped (host_took pool link.host message) rest link)
   pub acts : (link : Link) → Kept app (view_of link) → OfLink link → OfLink (host_sent (acted app link.host) link)
@@ -138,7 +139,7 @@ module _ (given : Given) (app : Application) (is : IsApplication app) (IsSuch : 
 
   joined_holds : (world : World) (terminal : ℕ) (model : Model) (wanted : Option (List ℕ)) (free : Option ℕ) → Holds world → Holds (joined app terminal model wanted free world)
   joined_holds world terminal model wanted None h = h
-  joined_holds world terminal model wanted (Some number) h = moved world number terminal (begun app model terminal wanted) (Place.At number) (steps.begins model terminal wanted) tt h
+  joined_holds world terminal model wanted (Some number) h = moved world number terminal (begun app world.serves model terminal wanted) (Place.At number) (steps.begins world.serves model terminal wanted) tt h
 
   -- ---- any event
 
@@ -175,7 +176,7 @@ module _ (given : Given) (app : Application) (is : IsApplication app) (IsSuch : 
       let here = All-head IsSuch event events such in
       run_holds events (happens app event world) are.1 (All-tail IsSuch event events such) (happens_good given app is event world are.0 g) (happens_holds event world here g h)
 
-  pub everywhere : (pool : List Entry) (models : List Model) (events : List Event) → IsPool pool → AreEvents events → All IsSuch events → Holds (run app events (new_world app pool models))
-  everywhere pool models events lists are such =
-      run_holds events (new_world app pool models) are such (new_good given app is pool models lists)
-      (record { links = λ number. steps.never; places = λ terminal. steps.fresh (slice_index_or models terminal M2) })
+  pub everywhere : (serves : Terminals) (pool : List Entry) (models : List Model) (events : List Event) → IsPool pool → AreEvents events → All IsSuch events → Holds (run app events (new_world app serves pool models))
+  everywhere serves pool models events lists are such =
+      run_holds events (new_world app serves pool models) are such (new_good given app is serves pool models lists)
+      (record { links = λ number. steps.never serves; places = λ terminal. steps.fresh (slice_index_or models terminal M2) })

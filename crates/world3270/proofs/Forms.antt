@@ -69,7 +69,7 @@ awaited app v parts rest k e =
     record { form = both.0 ∙ sym (ap form_awaited k.at.pending); size = both.1 }
 
 pub forms_awaited : Given → Always FormsAreAwaited
-forms_awaited given app pool models events is lists few are =
-    let world : World = run app events (new_world app pool models) in
-    let g = run_good given app is events (new_world app pool models) are (new_good given app is pool models lists) in
+forms_awaited given app serves pool models events is lists few are =
+    let world : World = run app events (new_world app serves pool models) in
+    let g = run_good given app is events (new_world app serves pool models) are (new_good given app is serves pool models lists) in
     λ number parts rest e. awaited app (view_of (world.link number)) parts rest (g.links number) e

@@ -185,9 +185,11 @@ pub record Changed (number terminal : ℕ) (old new : ByteWorld) (was now : Worl
   pub links : (other : ℕ) → other ≢ number → now.link other ≡ was.link other
   pub places : (other : ℕ) → other ≢ terminal → now.place other ≡ was.place other
   pub connection_count : length new.host.connections ≡ length old.host.connections
+  pub serves : new.host.terminals ≡ old.host.terminals
   pub way_count : length new.links ≡ length old.links
   pub slot_count : length new.slots ≡ length old.slots
   pub terminals : now.terminals ≡ was.terminals
+  pub world_serves : now.serves ≡ was.serves
   pub pool : new.host.pool ≡ now.pool
   pub before : IsHere number (was.place terminal)
   pub behind : IsHere number (now.place terminal)
@@ -270,6 +272,7 @@ module _ (number terminal : ℕ) (old new : ByteWorld) (was now : World) (c : Ch
     transits = c.way_count ∙ stands.transits;
     terminals = c.slot_count ∙ stands.terminals ∙ sym c.terminals;
     pool = c.pool;
+    serves = c.serves ∙ stands.serves ∙ sym c.world_serves;
     none_closed = closed_stands;
     settled = settled_stands;
     flows = λ other. subst (λ (h : Option ℕ). AreTransits h other new) (sym (now_there agrees other)) (flow_stands other);

@@ -28,7 +28,7 @@ use Rattle.world3270.specs.Link.{Link}
 use Rattle.world3270.specs.Moments.{Talking, Serving, Moment, UnderWay, term_state_at, host_talk_at, turn_at, pending_at, up_at}
 use Rattle.world3270.specs.TurnReasons.{IsOccasion, IsOpenBy, IsOpenFor, IsCleared, ActsOnTheKey, KnowsTheCleared, LeavesNothingOpen}
 use Rattle.world3270.specs.Seen.{HostSeen, TerminalSeen, conn_seen, end_seen, host_seen, seen, seen_link, terminal_seen}
-use Rattle.world3270.specs.Stages.{scene_of, Fact, Kept}
+use Rattle.world3270.specs.Stages.{scene_of, Fact, IfRelies, Kept}
 use Rattle.world3270.specs.Terminal.{TermEnd, bound_to}
 use Rattle.world3270.specs.View.{View, view_of}
 use Rattle.world3270.specs.World.{World, new_world}
@@ -101,7 +101,7 @@ pub record Knows (v : View) : Type 0 where
   pub lists : ListsFields v.host.shadow v.screen
   pub told : SentFields v.screen.aid → IsTold v.host.shadow v.screen
   pub turn_reason : IsOccasion v.host.turn_reason v.screen.aid
-  pub closed : IsOpenFor v.host.turn_reason v.host.shadow
+  pub closed : IfRelies v.host.unheard (IsOpenFor v.host.turn_reason v.host.shadow)
   pub cleared : v.screen.aid ≡ ClearAid → IsCleared v.host.shape v.host.shadow
 
 -- the moments at which it holds the turn, with nothing that waits for an answer
@@ -111,7 +111,7 @@ knows_by wanted v (Moment.Talks talking) f t p = record {
   lists = λ some. absurd (some f.0.no_fields);
   told = λ sent. absurd (subst SentFields f.0.aid sent);
   turn_reason = subst (λ o. IsOccasion o v.screen.aid) (sym f.0.turn_reason) f.0.aid;
-  closed = subst (λ o. IsOpenFor o v.host.shadow) (sym f.0.turn_reason) (none_open v.host.shadow f.0.shadow);
+  closed = λ relies. subst (λ o. IsOpenFor o v.host.shadow) (sym f.0.turn_reason) (none_open v.host.shadow f.0.shadow);
   cleared = λ clear. absurd (let x = sym f.0.aid ∙ clear in cc);
 }
 knows_by wanted v (Moment.Begins lu number command wants over) f t p = absurd (cc)
@@ -208,27 +208,58 @@ none_at model wanted (Moment.Serves lu (Serving.KeyBehind kind number command pa
 none_at model wanted (Moment.Serves lu (Serving.KeyNoted number command parts)) = refl
 none_at model wanted (Moment.Serves lu (Serving.KeyBefore number command parts)) = refl
 
+-- in the host's turn the reason is agreement or a key
+no_refusal : (reason : TurnReason) (aid : Aid) → IsOccasion reason aid → reason ≡ turn_reasons.Refusal → ⊥
+no_refusal turn_reasons.Agreement aid is e = absurd (cc)
+no_refusal (turn_reasons.Key pressed buffered) aid is e = absurd (cc)
+no_refusal turn_reasons.Refusal aid is e = is
+
+heard_by : (wanted : Option (List ℕ)) (v : View) (moment : Moment) → Fact wanted (scene_of v) moment → turn_at moment ≡ whose.Host → v.host.turn_reason ≡ turn_reasons.Refusal → ⊥
+heard_by wanted v (Moment.Talks talking) f t e = absurd (let first = sym f.0.turn_reason ∙ e in cc)
+heard_by wanted v (Moment.Begins lu number command wants over) f t e = absurd (cc)
+heard_by wanted v (Moment.Serves lu Serving.Deciding) f t e = no_refusal v.host.turn_reason v.screen.aid f.turn_reason e
+heard_by wanted v (Moment.Serves lu (Serving.Reading number)) f t e = no_refusal v.host.turn_reason v.screen.aid f.decides.turn_reason e
+heard_by wanted v (Moment.Serves lu (Serving.Reported number parts)) f t e = no_refusal v.host.turn_reason v.screen.aid f.0.decides.turn_reason e
+heard_by wanted v (Moment.Serves lu (Serving.NotedLate number command)) f t e = no_refusal v.host.turn_reason v.screen.aid f.0.turn_reason e
+heard_by wanted v (Moment.Serves lu (Serving.AnsweredLate number command)) f t e = no_refusal v.host.turn_reason v.screen.aid f.turn_reason e
+heard_by wanted v (Moment.Serves lu (Serving.Painting number command wants over)) f t e = absurd (cc)
+heard_by wanted v (Moment.Serves lu (Serving.Answering kind number command)) f t e = absurd (cc)
+heard_by wanted v (Moment.Serves lu Serving.Operating) f t e = absurd (cc)
+heard_by wanted v (Moment.Serves lu (Serving.Noting number command)) f t e = absurd (cc)
+heard_by wanted v (Moment.Serves lu (Serving.KeyAlone parts)) f t e = absurd (cc)
+heard_by wanted v (Moment.Serves lu (Serving.KeyBehind kind number command parts)) f t e = absurd (cc)
+heard_by wanted v (Moment.Serves lu (Serving.KeyNoted number command parts)) f t e = absurd (cc)
+heard_by wanted v (Moment.Serves lu (Serving.KeyBefore number command parts)) f t e = absurd (cc)
+
+none_heard : (app : Application) (v : View) → Kept app v → v.host.turn ≡ whose.Host → v.host.turn_reason ≡ turn_reasons.Refusal → ⊥
+none_heard app v k turn reason = heard_by k.wanted v k.moment k.fact (sym k.at.turn ∙ turn) reason
+
 none_refused : (app : Application) (v : View) → Kept app v → list_any is_refusal v.up ≡ false
 none_refused app v k = none_under v.lost v.up (up_at v.model k.wanted k.moment) k.at.goes_up (none_at v.model k.wanted k.moment)
 
 -- ---- the theorems
 
 pub headline : Given → Always HeadlineHolds
-headline given app pool models events is lists few are =
-    let world : World = run app events (new_world app pool models) in
-    let g = run_good given app is events (new_world app pool models) are (new_good given app is pool models lists) in
+headline given app serves pool models events is lists few are =
+    let world : World = run app events (new_world app serves pool models) in
+    let g = run_good given app is events (new_world app serves pool models) are (new_good given app is serves pool models lists) in
     record { one_session_each = one_session app world g; bound_is_granted = bound_granted app world g; agrees = λ number h. agrees given app (world.link number) (g.links number) h }
 
 pub nobody_refuses : Given → Always NobodyRefuses
-nobody_refuses given app pool models events is lists few are =
-    let world : World = run app events (new_world app pool models) in
-    let g = run_good given app is events (new_world app pool models) are (new_good given app is pool models lists) in
-    record { none_said = g.positive; none_refused = λ number. none_refused app (view_of (world.link number)) (g.links number); none_closed = g.uncaused }
+nobody_refuses given app serves pool models events is lists few are =
+    let world : World = run app events (new_world app serves pool models) in
+    let g = run_good given app is events (new_world app serves pool models) are (new_good given app is serves pool models lists) in
+    record {
+      none_said = g.positive;
+      none_refused = λ number. none_refused app (view_of (world.link number)) (g.links number);
+      none_heard = λ number. none_heard app (view_of (world.link number)) (g.links number);
+      none_closed = g.uncaused;
+    }
 
 pub acts_on_the_key : Given → Always ActsOnTheKey
-acts_on_the_key given app pool models events is lists few are =
-    let world : World = run app events (new_world app pool models) in
-    let g = run_good given app is events (new_world app pool models) are (new_good given app is pool models lists) in
+acts_on_the_key given app serves pool models events is lists few are =
+    let world : World = run app events (new_world app serves pool models) in
+    let g = run_good given app is events (new_world app serves pool models) are (new_good given app is serves pool models lists) in
     λ number h. (knows_turn app (world.link number) (g.links number) h).turn_reason
 
 sent_closed : (aid : Aid) (buffered : Bool) (s : Shadow) → SentFields aid → IsOpenBy aid buffered s → NothingIsOpen s
@@ -244,15 +275,15 @@ closed_by_key (turn_reasons.Key pressed buffered) aid s is sent o = sent_closed 
 closed_by_key turn_reasons.Refusal aid s is sent o = absurd is
 
 pub leaves_nothing_open : Given → Always LeavesNothingOpen
-leaves_nothing_open given app pool models events is lists few are =
-    let world : World = run app events (new_world app pool models) in
-    let g = run_good given app is events (new_world app pool models) are (new_good given app is pool models lists) in
-    λ number h sent.
+leaves_nothing_open given app serves pool models events is lists few are =
+    let world : World = run app events (new_world app serves pool models) in
+    let g = run_good given app is events (new_world app serves pool models) are (new_good given app is serves pool models lists) in
+    λ number h relies sent.
     let known = knows_turn app (world.link number) (g.links number) h in
-    closed_by_key (world.link number).host.turn_reason (world.link number).term.display.screen.aid (world.link number).host.shadow known.turn_reason sent known.closed
+    closed_by_key (world.link number).host.turn_reason (world.link number).term.display.screen.aid (world.link number).host.shadow known.turn_reason sent (known.closed relies)
 
 pub knows_the_cleared : Given → Always KnowsTheCleared
-knows_the_cleared given app pool models events is lists few are =
-    let world : World = run app events (new_world app pool models) in
-    let g = run_good given app is events (new_world app pool models) are (new_good given app is pool models lists) in
+knows_the_cleared given app serves pool models events is lists few are =
+    let world : World = run app events (new_world app serves pool models) in
+    let g = run_good given app is events (new_world app serves pool models) are (new_good given app is serves pool models lists) in
     λ number h. (knows_turn app (world.link number) (g.links number) h).cleared

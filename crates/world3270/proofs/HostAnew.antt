@@ -48,6 +48,7 @@ record LeftBelow (count : ℕ) (old now : ByteWorld) : Type 0 where
   slots : now.slots ≡ old.slots
   way_count : length now.links ≡ length old.links
   connection_count : length now.host.connections ≡ length old.host.connections
+  serves : now.host.terminals ≡ old.host.terminals
   transits : (number : ℕ) → number < count → transits_at number now ≡ transits_left number old
   others : (number : ℕ) → count ≤ number → (transits_at number now ≡ transits_at number old) × (connection_at number now.host ≡ connection_at number old.host)
 
@@ -72,6 +73,7 @@ one_more count old now so_far below within there = record {
   slots = so_far.slots;
   way_count = length-set now.links count behind ∙ so_far.way_count;
   connection_count = length-set now.host.connections count unused ∙ so_far.connection_count;
+  serves = so_far.serves;
   transits = λ number under. by_test number under (number == count) refl;
   others = λ number past.
       let differs : number ≢ count = λ e. absurd (omega arith) in
@@ -105,6 +107,7 @@ none_more count old now so_far there = record {
   slots = so_far.slots;
   way_count = so_far.way_count;
   connection_count = so_far.connection_count;
+  serves = so_far.serves;
   transits = λ number under. by_test number under (number == count) refl;
   others = λ number past. so_far.others number (omega arith);
 }
@@ -127,6 +130,7 @@ left_below zero old long few = record {
   slots = refl;
   way_count = refl;
   connection_count = refl;
+  serves = refl;
   transits = λ number under. absurd (omega arith);
   others = λ number past. (refl, refl);
 }
@@ -256,6 +260,7 @@ module _ (leaves : HostLeaves) (old : ByteWorld) (was : World) (agree : EndsAgre
     transits = left_all.way_count ∙ stands.transits;
     terminals = ap (λ (s : List TerminalSlot). length s) left_all.slots ∙ stands.terminals;
     pool = left_all.pool ∙ ap all_free stands.pool;
+    serves = left_all.serves ∙ stands.serves;
     none_closed = λ number. subst (λ (l : Connection). IsNotClosed l.service) (sym (connection number)) tt;
     settled = λ number. subst (λ (l : Connection). IsSettled l) (sym (connection number)) (λ free. refl);
     flows = λ number. subst (λ (h : Option ℕ). AreTransits h number new) (sym (there number)) (parts number).0;

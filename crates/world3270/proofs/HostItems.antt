@@ -17,7 +17,7 @@ use Rattle.tn3270e_msg.proofs.Hearings.{sent_is_heard}
 use Rattle.term_core.specs.Says.{outcome_flag, outcome_code, response_header, data_header}
 use Rattle.term_core.specs.declared.outcome.Outcome.{Outcome}
 use Rattle.term_core.specs.declared.outcome.Outcome.TheVariants.{DeviceEnd, Refused}
-use Rattle.host_core.specs.Items.{IsOther, TakesRecord, TakesRecordIf, Talks, TakesItem, verdict_of}
+use Rattle.host_core.specs.Items.{TakesData, IsOther, TakesRecord, TakesRecordIf, Talks, TakesItem, verdict_of}
 use Rattle.host_core.specs.Messages.{ToHost, Verdict}
 use Rattle.host_core.specs.Session.{Conn, is_agreed}
 use Rattle.host_core.specs.Takes.{Answers, HostStep, form_awaited, data_came, response_came, once_agreed, talked, took}
@@ -89,19 +89,23 @@ no_fault size form parts fault body of_form of_size is bad = let same = first_in
 -- ---- records
 
 module _ (one_header : OneHeader) (fault_or_header : FaultIsNoHeader) (one_inbound : OneInbound) where
+  -- data in the form that is awaited is no second key's
+  data_is_taken : (conn : Conn) (body : List ℕ) (parts : InboundParts) (step : HostStep) → IsAwaitedBy conn parts → IsInbound parts body → TakesData conn body step → step ≡ data_came parts conn.turn conn.pending conn
+  data_is_taken conn body parts step awaited is (TakesData.hears parts' form size is' e) =
+      e ∙ ap (λ (p : InboundParts). data_came p conn.turn conn.pending conn) (one_inbound body parts' parts (form ∙ sym awaited.form) (size ∙ sym awaited.size) is' is)
+  data_is_taken conn body parts step awaited is (TakesData.is_second_key fault parts' bad may form size is' e) =
+      absurd (no_fault conn.shape (form_awaited conn.pending) parts fault body awaited.form awaited.size is bad)
+  data_is_taken conn body parts step awaited is (TakesData.no_data fault bad no_key e) =
+      absurd (no_fault conn.shape (form_awaited conn.pending) parts fault body awaited.form awaited.size is bad)
+
   data_taken : (conn : Conn) (bytes body : List ℕ) (header : Header) (parts : InboundParts) (step : HostStep) → header.kind ≡ Data3270 → Begins bytes header body
       → IsAwaitedBy conn parts → IsInbound parts body → TakesRecord conn bytes step → step ≡ data_came parts conn.turn conn.pending conn
   data_taken conn bytes body header parts step kind begins awaited is (TakesRecord.no_header fault has e) = absurd (fault_or_header bytes fault header body has begins)
   data_taken conn bytes body header parts step kind begins awaited is (TakesRecord.dropped other rest begins' drops e) =
       let same = (one_header bytes other header rest body begins' begins).0 in
       absurd (subst IsOther (ap (λ (h : Header). h.kind) same ∙ kind) drops)
-  data_taken conn bytes body header parts step kind begins awaited is (TakesRecord.no_data other rest fault begins' kind' bad e) =
-      let same = (one_header bytes other header rest body begins' begins).1 in
-      absurd (no_fault conn.shape (form_awaited conn.pending) parts fault body awaited.form awaited.size is (subst (λ (b : List ℕ). IsNoInbound conn.shape (form_awaited conn.pending) fault b) same bad))
-  data_taken conn bytes body header parts step kind begins awaited is (TakesRecord.hears other rest parts' begins' kind' form size is' e) =
-      let same = (one_header bytes other header rest body begins' begins).1 in
-      let parts_are : parts' ≡ parts = one_inbound body parts' parts (form ∙ sym awaited.form) (size ∙ sym awaited.size) (subst (λ (b : List ℕ). IsInbound parts' b) same is') is in
-      e ∙ ap (λ (p : InboundParts). data_came p conn.turn conn.pending conn) parts_are
+  data_taken conn bytes body header parts step kind begins awaited is (TakesRecord.data_is other rest begins' kind' takes) =
+      data_is_taken conn body parts step awaited is (subst (λ (b : List ℕ). TakesData conn b step) (one_header bytes other header rest body begins' begins).1 takes)
   data_taken conn bytes body header parts step kind begins awaited is (TakesRecord.answered other rest begins' kind' e) =
       let same = ap (λ (h : Header). h.kind) (one_header bytes other header rest body begins' begins).0 in
       let both : Response ≡ Data3270 = sym kind' ∙ same ∙ kind in
@@ -113,11 +117,7 @@ module _ (one_header : OneHeader) (fault_or_header : FaultIsNoHeader) (one_inbou
   response_taken conn bytes body header verdict step kind begins says_it (TakesRecord.dropped other rest begins' drops e) =
       let same = (one_header bytes other header rest body begins' begins).0 in
       absurd (subst IsOther (ap (λ (h : Header). h.kind) same ∙ kind) drops)
-  response_taken conn bytes body header verdict step kind begins says_it (TakesRecord.no_data other rest fault begins' kind' bad e) =
-      let same = ap (λ (h : Header). h.kind) (one_header bytes other header rest body begins' begins).0 in
-      let both : Data3270 ≡ Response = sym kind' ∙ same ∙ kind in
-      absurd (cc)
-  response_taken conn bytes body header verdict step kind begins says_it (TakesRecord.hears other rest parts begins' kind' form size is e) =
+  response_taken conn bytes body header verdict step kind begins says_it (TakesRecord.data_is other rest begins' kind' takes) =
       let same = ap (λ (h : Header). h.kind) (one_header bytes other header rest body begins' begins).0 in
       let both : Data3270 ≡ Response = sym kind' ∙ same ∙ kind in
       absurd (cc)

@@ -12,7 +12,7 @@ use Rattle.shadow.specs.declared.fault.HeardFault.{HeardFault}
 use Rattle.tn3270e_msg.specs.HostTable.{host_transition, answer_transition}
 use Rattle.tn3270e_msg.specs.Talk.{Talk, follow, Saying, says, sayings}
 use Rattle.tn3270e_msg.specs.declared.cause.Cause.{Cause}
-use Rattle.tn3270e_msg.specs.declared.cause.Cause.TheVariants.{Negative}
+use Rattle.tn3270e_msg.specs.declared.cause.Cause.TheVariants.{BadInbound, Negative}
 use Rattle.tn3270e_msg.specs.declared.host_talk.HostState.{HostState}
 use Rattle.tn3270e_msg.specs.declared.host_talk.HostState.TheVariants.{Offered, Asked, Asking, Named, Countered, Agreed, Closed}
 use Rattle.tn3270e_msg.specs.declared.reply.Reason.{Reason}
@@ -23,30 +23,33 @@ use Rattle.host_core.specs.declared.turn.Turn.{Turn}
 use Rattle.host_core.specs.declared.turn.Turn.TheVariants as whose
 use Rattle.host_core.specs.declared.turn_reason.TurnReason.{TurnReason}
 use Rattle.host_core.specs.declared.turn_reason.TurnReason.TheVariants as turn_reasons
+use Rattle.host_core.specs.declared.unheard.Unheard.TheVariants as unheards
 use Rattle.host_core.specs.Session.{Conn, Pending, is_agreed}
 use Rattle.host_core.specs.Rejections.{lu_asked}
-use Rattle.host_core.specs.Takes.{Answers, HostStep, quiet, closed_by, replied, granted_by, asked, talked_on, hears, believed, once_read, buffer_came, key_came, key_data_came, data_came, answered, refused, write_refused, if_answers, verdict_came, read_verdict_came, response_came, once_agreed, took}
+use Rattle.host_core.specs.Takes.{Answers, HostStep, quiet, closed_by, replied, granted_by, asked, talked_on, hears, believed, once_read, buffer_came, key_came, key_data_came, data_came, answered, refused, write_refused, if_answers, verdict_came, read_verdict_came, response_came, once_agreed, dropping, second_key, second_key_data, out_of_turn, may_have_changed, took}
 
 -- its command still waits for its answer, or nothing does
 pub record JustTalks (old : Conn) (step : HostStep) : Type 0 where
   pub number : step.conn.next_seq ≡ old.next_seq
+  pub panel : step.conn.panel ≡ old.panel
   pub values : step.conn.values ≡ old.values
+  pub message : step.conn.message ≡ old.message
   pub pending : (step.conn.pending ≡ old.pending) ⊎ (step.conn.pending ≡ Pending.Nothing)
   pub talk : List Saying
   pub says : step.sends ≡ map ToTerminal.TalksDown talk
 
 quietly : (conn : Conn) → JustTalks conn (quiet conn)
-quietly conn = record { number = refl; values = refl; pending = inl refl; talk = []; says = refl }
+quietly conn = record { number = refl; panel = refl; values = refl; message = refl; pending = inl refl; talk = []; says = refl }
 
 closes : (conn : Conn) (cause : Cause) → JustTalks conn (closed_by cause conn)
-closes conn cause = record { number = refl; values = refl; pending = inl refl; talk = []; says = refl }
+closes conn cause = record { number = refl; panel = refl; values = refl; message = refl; pending = inl refl; talk = []; says = refl }
 
 -- nothing is pending then
-settles : (conn new : Conn) → new.next_seq ≡ conn.next_seq → new.values ≡ conn.values → new.pending ≡ Pending.Nothing → JustTalks conn (quiet new)
-settles conn new number values none = record { number = number; values = values; pending = inr none; talk = []; says = refl }
+settles : (conn new : Conn) → new.next_seq ≡ conn.next_seq → new.panel ≡ conn.panel → new.values ≡ conn.values → new.message ≡ conn.message → new.pending ≡ Pending.Nothing → JustTalks conn (quiet new)
+settles conn new number panel values message none = record { number = number; panel = panel; values = values; message = message; pending = inr none; talk = []; says = refl }
 
 replies : (conn : Conn) (lu grants : Option (List ℕ)) (next : Talk HostState × Reply) → JustTalks conn (replied conn lu grants next)
-replies conn lu grants next = record { number = refl; values = refl; pending = inl refl; talk = sayings next.1; says = refl }
+replies conn lu grants next = record { number = refl; panel = refl; values = refl; message = refl; pending = inl refl; talk = sayings next.1; says = refl }
 
 asks : (conn : Conn) (lu : Option (List ℕ)) (talk : Talk HostState) (answer : Result (List ℕ) Reason) (state : HostState) → JustTalks conn (asked conn lu talk answer state)
 asks conn lu talk answer (Asking device) = replies conn lu (granted_by answer) (follow Closed talk (answer_transition device answer))
@@ -71,7 +74,7 @@ talks pool conn lu talk (reply.Close cause) = replies conn lu None (talk, reply.
 -- what waits for an answer still does, or nothing does
 believes : (turn_reason : TurnReason) (pending : Pending) (cursor : Option ℕ) (conn : Conn) (result : Result Shadow HeardFault) → (pending ≡ conn.pending) ⊎ (pending ≡ Pending.Nothing)
     → JustTalks conn (believed turn_reason pending cursor conn result)
-believes turn_reason pending cursor conn (Ok shadow) waits = record { number = refl; values = refl; pending = waits; talk = []; says = refl }
+believes turn_reason pending cursor conn (Ok shadow) waits = record { number = refl; panel = refl; values = refl; message = refl; pending = waits; talk = []; says = refl }
 believes turn_reason pending cursor conn (Err fault) waits = closes conn _
 
 hears_key : (parts : InboundParts) (aid : Aid) (conn : Conn) → JustTalks conn (key_came parts aid conn)
@@ -86,16 +89,41 @@ hears_key_data parts Modified conn = hears_key parts parts.aid conn
 hears_key_data parts AllModified conn = closes conn _
 hears_key_data parts Buffer conn = closes conn _
 
+drops : (conn new : Conn) (aid : Aid) → new.next_seq ≡ conn.next_seq → new.panel ≡ conn.panel → new.values ≡ conn.values → new.message ≡ conn.message → new.pending ≡ conn.pending → JustTalks conn (dropping aid new)
+drops conn new aid number panel values message pending = record { number = number; panel = panel; values = values; message = message; pending = inl pending; talk = []; says = refl }
+
+drops_key : (aid : Aid) (pending : Pending) (conn : Conn) → JustTalks conn (second_key aid pending conn)
+drops_key NoAid pending conn = closes conn _
+drops_key Enter pending conn = drops conn conn Enter refl refl refl refl refl
+drops_key Clear Pending.Nothing conn = drops conn (record conn { unheard = unheards.Clear }) Clear refl refl refl refl refl
+drops_key Clear (Pending.Writing number command) conn = closes conn _
+drops_key Clear (Pending.Reading number) conn = closes conn _
+drops_key Clear (Pending.Noting number command) conn = closes conn _
+drops_key (Pf key) pending conn = drops conn conn (Pf key) refl refl refl refl refl
+drops_key (Pa key) pending conn = drops conn conn (Pa key) refl refl refl refl refl
+
+drops_key_data : (parts : InboundParts) (form : Form) (conn : Conn) → JustTalks conn (second_key_data parts form conn)
+drops_key_data parts Modified conn = drops_key parts.aid conn.pending conn
+drops_key_data parts AllModified conn = closes conn _
+drops_key_data parts Buffer conn = closes conn _
+
+comes_out_of_turn : (parts : InboundParts) (conn : Conn) → JustTalks conn (out_of_turn parts conn)
+comes_out_of_turn parts conn = by_test (may_have_changed conn.unheard)
+  where
+    by_test : (b : Bool) → JustTalks conn (if b then second_key_data parts parts.form conn else closed_by BadInbound conn)
+    by_test true = drops_key_data parts parts.form conn
+    by_test false = closes conn BadInbound
+
 hears_buffer : (parts : InboundParts) (form : Form) (conn : Conn) → JustTalks conn (buffer_came parts form conn)
 hears_buffer parts Buffer conn = believes (once_read conn.turn_reason) Pending.Nothing parts.cursor conn (hears parts conn) (inr refl)
-hears_buffer parts Modified conn = closes conn _
-hears_buffer parts AllModified conn = closes conn _
+hears_buffer parts Modified conn = comes_out_of_turn parts conn
+hears_buffer parts AllModified conn = comes_out_of_turn parts conn
 
 hears_data : (parts : InboundParts) (turn : Turn) (pending : Pending) (conn : Conn) → JustTalks conn (data_came parts turn pending conn)
 hears_data parts turn (Pending.Reading number) conn = hears_buffer parts parts.form conn
-hears_data parts turn (Pending.Writing number command) conn = closes conn _
-hears_data parts whose.Host Pending.Nothing conn = closes conn _
-hears_data parts whose.Host (Pending.Noting number command) conn = closes conn _
+hears_data parts turn (Pending.Writing number command) conn = comes_out_of_turn parts conn
+hears_data parts whose.Host Pending.Nothing conn = comes_out_of_turn parts conn
+hears_data parts whose.Host (Pending.Noting number command) conn = comes_out_of_turn parts conn
 hears_data parts whose.Terminal Pending.Nothing conn = hears_key_data parts parts.form conn
 hears_data parts whose.Terminal (Pending.Noting number command) conn = hears_key_data parts parts.form conn
 
@@ -110,15 +138,15 @@ loses_a_write command conn = by_test (is_erase command.code)
   where
     by_test : (b : Bool) → JustTalks conn (if b then closed_by Negative conn else quiet (refused conn))
     by_test true = closes conn Negative
-    by_test false = settles conn (refused conn) refl refl refl
+    by_test false = settles conn (refused conn) refl refl refl refl refl
 
 judges : (command : CommandParts) (verdict : Verdict) (conn : Conn) → JustTalks conn (verdict_came command verdict conn)
-judges command Verdict.Positive conn = settles conn (answered command conn) refl refl refl
+judges command Verdict.Positive conn = settles conn (answered command conn) refl refl refl refl refl
 judges command Verdict.Negative conn = loses_a_write command conn
 
 judges_read : (answers : Bool) (verdict : Verdict) (conn : Conn) → JustTalks conn (read_verdict_came answers verdict conn)
 judges_read answers Verdict.Positive conn = closes conn _
-judges_read answers Verdict.Negative conn = if_it_answers answers _ conn (settles conn (refused conn) refl refl refl)
+judges_read answers Verdict.Negative conn = if_it_answers answers _ conn (settles conn (refused conn) refl refl refl refl refl)
 
 is_answered : (number : ℕ) (verdict : Verdict) (pending : Pending) (conn : Conn) → JustTalks conn (response_came number verdict pending conn)
 is_answered number verdict Pending.Nothing conn = closes conn _

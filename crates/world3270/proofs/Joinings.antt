@@ -17,6 +17,7 @@ use Rattle.world3270.specs.ByteWorld.{ByteWorld, Transits, TerminalSlot, under_w
 use Rattle.world3270.specs.Link.{Link, begun, unused as unused_link}
 use Rattle.world3270.specs.Places.{EndsAgree}
 use Rattle.world3270.specs.Standing.{WorldStands, IsFlow, IsAt, IsNotClosed, IsSettled, AreTransits, conn_of, rest_of, with_out, link_with}
+use Rattle.host_core.specs.declared.terminals.Terminals.{Terminals}
 use Rattle.world3270.specs.Stands.{StandsUp, BytesUp, LinkStands, all_items}
 use Rattle.world3270.specs.StandsLinks.{NothingStands, BeginStands, begun_bytes}
 use Rattle.world3270.specs.Terminal.{new_display}
@@ -45,10 +46,10 @@ module _ (model : Model) (number terminal : ℕ) (wanted : Option (List ℕ)) (o
   connected = with_transits number begun_transits (with_slot terminal (attached_slot (model_at terminal old) wanted number) (with_host (with_opened number old.host) old))
 
   -- the connection that begins
-  begun_link : BeginStands → transits_at number connected ≡ begun_transits → connection_at number connected.host ≡ opened old.host.panels → slot_at terminal connected ≡ attached_slot (model_at terminal old) wanted number → model_at terminal old ≡ model
-      → LinkStands (link_with (Some terminal) number connected) (begun (application_of old.host.panels) model terminal wanted)
-  begun_link begins transits connection slot is =
-      like_stands (begun_bytes old.host.panels model terminal wanted) (link_with (Some terminal) number connected) (begun (application_of old.host.panels) model terminal wanted)
+  begun_link : (serves : Terminals) → BeginStands → transits_at number connected ≡ begun_transits → connection_at number connected.host ≡ opened serves old.host.panels → slot_at terminal connected ≡ attached_slot (model_at terminal old) wanted number → model_at terminal old ≡ model
+      → LinkStands (link_with (Some terminal) number connected) (begun (application_of old.host.panels) serves model terminal wanted)
+  begun_link serves begins transits connection slot is =
+      like_stands (begun_bytes serves old.host.panels model terminal wanted) (link_with (Some terminal) number connected) (begun (application_of old.host.panels) serves model terminal wanted)
       (record {
         lost = ap (λ (w : Transits). not (is_live w.down)) transits;
         host_here = ap (λ (l : Connection). is_there l.service) connection;
@@ -58,7 +59,7 @@ module _ (model : Model) (number terminal : ℕ) (wanted : Option (List ℕ)) (o
         host = λ e. (ap (λ (l : Connection). conn_of l.service) connection, ap (λ (l : Connection). rest_of l.service) connection);
         tracked = λ who e. ap (λ (s : TerminalSlot). with_out [] s.tracked) slot ∙ ap (λ (m : Model). newly_tracked m wanted) is;
       })
-      (begins old.host.panels model terminal wanted)
+      (begins serves old.host.panels model terminal wanted)
 
   begun_flow : transits_at number connected ≡ begun_transits → AreTransits (Some terminal) number connected
   begun_flow transits = record {
@@ -69,36 +70,39 @@ module _ (model : Model) (number terminal : ℕ) (wanted : Option (List ℕ)) (o
 
   pub connected_stands : (was : World) → BeginStands → EndsAgree was → WorldStands old was → number < length old.links → terminal < length old.slots
       → (slot_at terminal old).at ≡ None → model_at terminal old ≡ model
-      → EndsAgree (record was { link = with_at number (begun (application_of old.host.panels) model terminal wanted) was.link; place = with_at terminal (Place.At number) was.place })
-      → WorldStands connected (record was { link = with_at number (begun (application_of old.host.panels) model terminal wanted) was.link; place = with_at terminal (Place.At number) was.place })
+      → EndsAgree (record was { link = with_at number (begun (application_of old.host.panels) was.serves model terminal wanted) was.link; place = with_at terminal (Place.At number) was.place })
+      → WorldStands connected (record was { link = with_at number (begun (application_of old.host.panels) was.serves model terminal wanted) was.link; place = with_at terminal (Place.At number) was.place })
   connected_stands was begins agree stands below there_is alone modelled agrees =
-      let now : World = record was { link = with_at number (begun (application_of old.host.panels) model terminal wanted) was.link; place = with_at terminal (Place.At number) was.place } in
+      let now : World = record was { link = with_at number (begun (application_of old.host.panels) was.serves model terminal wanted) was.link; place = with_at terminal (Place.At number) was.place } in
       let hosted : ByteWorld = with_host (with_opened number old.host) old in
       let attached : ByteWorld = with_slot terminal (attached_slot (model_at terminal old) wanted number) hosted in
       let within : number < length old.host.connections = subst (λ (n : ℕ). number < n) (stands.transits ∙ sym stands.connections) below in
       let transits : transits_at number connected ≡ begun_transits = transits_same number begun_transits attached below in
-      let connection : connection_at number connected.host ≡ opened old.host.panels = connection_same number (opened old.host.panels) old.host within in
+      let connection : connection_at number connected.host ≡ opened was.serves old.host.panels =
+      connection_same number (opened old.host.terminals old.host.panels) old.host within ∙ ap (λ (t : Terminals). opened t old.host.panels) stands.serves in
       let slot : slot_at terminal connected ≡ attached_slot (model_at terminal old) wanted number = slot_same terminal (attached_slot (model_at terminal old) wanted number) hosted there_is in
-      let is : now.link number ≡ begun (application_of old.host.panels) model terminal wanted = with_same number (begun (application_of old.host.panels) model terminal wanted) was.link in
+      let is : now.link number ≡ begun (application_of old.host.panels) was.serves model terminal wanted = with_same number (begun (application_of old.host.panels) was.serves model terminal wanted) was.link in
       let goes : now.place terminal ≡ Place.At number = with_same terminal (Place.At number) was.place in
       changed_stands number terminal old connected was now
       (record {
-        connections = λ other differs. connection_other number other (opened old.host.panels) old.host differs;
+        connections = λ other differs. connection_other number other (opened old.host.terminals old.host.panels) old.host differs;
         transits = λ other differs. transits_other number other begun_transits attached differs;
         slots = λ other differs. slot_other terminal other (attached_slot (model_at terminal old) wanted number) hosted differs;
-        links = λ other differs. with_other number other (begun (application_of old.host.panels) model terminal wanted) was.link differs;
+        links = λ other differs. with_other number other (begun (application_of old.host.panels) was.serves model terminal wanted) was.link differs;
         places = λ other differs. with_other terminal other (Place.At number) was.place differs;
-        connection_count = length-set old.host.connections number (opened old.host.panels);
+        connection_count = length-set old.host.connections number (opened old.host.terminals old.host.panels);
+        serves = refl;
         way_count = length-set old.links number begun_transits;
         slot_count = length-set old.slots terminal (attached_slot (model_at terminal old) wanted number);
         terminals = refl;
+        world_serves = refl;
         pool = stands.pool;
         before = alone_there (slot_at terminal old) (was.place terminal) number alone (stands.places terminal);
         behind = subst (λ (p : Place). IsHere number p) (sym goes) refl;
         none_closed = subst (λ (l : Connection). IsNotClosed l.service) (sym connection) tt;
         settled = subst (λ (l : Connection). IsSettled l) (sym connection) (λ free. absurd (cc));
         flow = subst (λ (l : Link). AreTransits l.term_here number connected) (sym is) (begun_flow transits);
-        link = subst (λ (l : Link). LinkStands (link_with l.term_here number connected) l) (sym is) (begun_link begins transits connection slot modelled);
+        link = subst (λ (l : Link). LinkStands (link_with l.term_here number connected) l) (sym is) (begun_link was.serves begins transits connection slot modelled);
         place = subst (λ (p : Place). IsAt (slot_at terminal connected) p) (sym goes) (ap (λ (s : TerminalSlot). s.at) slot);
       })
       agree stands agrees
@@ -106,7 +110,7 @@ module _ (model : Model) (number terminal : ℕ) (wanted : Option (List ℕ)) (o
 -- ---- a terminal that begins anew
 
 new_is_alone : (model : Model) → IsAt (new_slot model) (Place.Alone (new_display model model_2))
-new_is_alone model = (refl, record { detached = refl; silent = refl; screen = refl; keyboard = refl; last_restored = refl; erased = refl })
+new_is_alone model = (refl, record { detached = refl; silent = refl; screen = refl; keyboard = refl; last_restored = refl; before_restored = refl; erased = refl })
 
 -- with the model that it had
 pub begins_alone : (terminal : ℕ) (old : ByteWorld) (model : Model) → model_at terminal old ≡ model → IsAt (new_slot (model_at terminal old)) (Place.Alone (new_display model model_2))
@@ -133,9 +137,9 @@ slot_of_model [] terminal = refl
 slot_of_model (model ∷ models) zero = refl
 slot_of_model (model ∷ models) (suc terminal) = slot_of_model models terminal
 
-module _ (empty : NothingStands all_items StandsUp) (panels : Panels) (pool : List Entry) (models : List Model) where
+module _ (empty : NothingStands all_items StandsUp) (serves : Terminals) (panels : Panels) (pool : List Entry) (models : List Model) where
   abbrev begins : ByteWorld
-  begins = new_byte_world panels pool models
+  begins = new_byte_world serves panels pool models
 
   nobody : (number : ℕ) → terminal_at number begins.slots ≡ None
   nobody number = position_from-zero (λ slot. is_attached_to number slot.at) (map new_slot models) ∙ none_from number models 0
@@ -154,7 +158,7 @@ module _ (empty : NothingStands all_items StandsUp) (panels : Panels) (pool : Li
     up = subst (λ (w : Transits). IsFlow false [] w.up) (sym (transits_begun number)) refl;
   }
 
-  link_begun : (number : ℕ) → LinkStands (link_with None number begins) (unused_link (application_of panels))
+  link_begun : (number : ℕ) → LinkStands (link_with None number begins) (unused_link (application_of panels) serves)
   link_begun number = record {
     lost = ap (λ (w : Transits). not (is_live w.down)) (transits_begun number);
     host_here = ap (λ (l : Connection). is_there l.service) (connection_begun number);
@@ -165,16 +169,17 @@ module _ (empty : NothingStands all_items StandsUp) (panels : Panels) (pool : Li
     term = λ terminal e. absurd (cc);
   }
 
-  pub begin_stands : WorldStands begins (new_world (application_of panels) pool models)
+  pub begin_stands : WorldStands begins (new_world (application_of panels) serves pool models)
   begin_stands = record {
     connections = length-replicate most_connections unused;
     transits = length-replicate most_connections unused_transits;
     terminals = length-map models new_slot;
     pool = refl;
+    serves = refl;
     none_closed = λ number. subst (λ (l : Connection). IsNotClosed l.service) (sym (connection_begun number)) tt;
     settled = λ number. subst (λ (l : Connection). IsSettled l) (sym (connection_begun number)) (λ free. refl);
     flows = λ number. subst (λ (h : Option ℕ). AreTransits h number begins) (sym (nobody number)) (flow_begun number);
-    links = λ number. subst (λ (h : Option ℕ). LinkStands (link_with h number begins) (unused_link (application_of panels))) (sym (nobody number)) (link_begun number);
+    links = λ number. subst (λ (h : Option ℕ). LinkStands (link_with h number begins) (unused_link (application_of panels) serves)) (sym (nobody number)) (link_begun number);
     places = λ terminal. subst (λ (s : TerminalSlot). IsAt s (Place.Alone (new_display (slice_index_or models terminal M2) model_2))) (sym (slot_of_model models terminal))
         (new_is_alone (slice_index_or models terminal M2));
   }

@@ -34,20 +34,22 @@ use Rattle.shadow.specs.Meets.{Meets, Knows}
 use Rattle.shadow.specs.Openness.{IsClearedBelief, IsLong, IsNotOpen, NothingIsOpen}
 use Rattle.shadow.specs.declared.fault.HeardFault.{HeardFault}
 use Rattle.tn3270e_msg.specs.TermTable.{Term}
-use Rattle.host_core.specs.Application.{Application}
+use Rattle.host_core.specs.Application.{Application, message_place}
 use Rattle.host_core.specs.Messages.{ToHost}
 use Rattle.host_core.specs.NoteLaws.{HasMessageRow, TakesNotes}
 use Rattle.world3270.specs.Given.{Given}
 use Rattle.world3270.specs.Link.{Link, sent, term_stepped}
 use Rattle.world3270.specs.Moments.{Serving, Moment, UnderWay, IsAt, turn_at, pending_at, served_down, served_up}
 use Rattle.world3270.specs.TurnReasons.{IsCleared, IsOpenBy}
-use Rattle.world3270.specs.Stages.{Scene, scene_of, once_taken, FactsAreExact, Operates, Sees, IsPressed, WillSee, Fact, Kept, Sizes, ShownAt}
+use Rattle.host_core.specs.declared.unheard.Unheard.{Unheard}
+use Rattle.world3270.specs.Stages.{Scene, scene_of, once_taken, FactsAreExact, IfRelies, Operates, Sees, IsPressed, WillSee, Fact, Kept, Sizes, ShownAt}
 use Rattle.world3270.specs.Terminal.{Display, is_bound, bound_to, data_of, erases_if, outcome_of, key_came}
 use Rattle.world3270.specs.View.{View, view_of}
 use Rattle.world3270.proofs.Down.{ok_map}
 use Rattle.world3270.proofs.Queues.{more, nothing_sent}
 use Rattle.world3270.proofs.Sent.{key_form, key_aid, key_cursor, key_size, sent_long, nulls_known}
-use Rattle.world3270.proofs.Unreturned.{kept_of}
+use Rattle.world3270.specs.Unreturned.{NotedSince}
+use Rattle.world3270.proofs.Unreturned.{as_left_of, kept_of}
 
 -- ---- in Wait
 
@@ -58,7 +60,7 @@ record Waits (key : Key) (screen : Screen) (outcome : Outcome) : Type 0 where
   keeps : erases_if outcome.answer key ≡ false
   silent : (bound : Bool) (shape : Shape) (now : Screen) → data_of bound outcome.answer shape now ≡ []
 
-quiet_refused : (bound : Bool) (why : Refusal) (shape : Shape) (now : Screen) → data_of bound (Refused why) shape now ≡ []
+pub quiet_refused : (bound : Bool) (why : Refusal) (shape : Shape) (now : Screen) → data_of bound (Refused why) shape now ≡ []
 quiet_refused true why shape now = refl
 quiet_refused false why shape now = refl
 
@@ -171,7 +173,7 @@ key_view key link = term_stepped (key_came key link.term) link.down link
 abbrev seen_as : View → List ToHost → Screen → Lock → Bool → View
 seen_as v up screen lock erased = record v { up = up; screen = screen; lock = lock; erased = erased }
 
-or_false : (b : Bool) → (b || false) ≡ b
+pub or_false : (b : Bool) → (b || false) ≡ b
 or_false true = refl
 or_false false = refl
 
@@ -226,17 +228,17 @@ opens_by EnterAid s size clear long = long refl
 opens_by (PfAid key) s size clear long = long refl
 
 -- the host will hear it, and then see the screen
-will_see : Given → (erased : Bool) (shape size : Shape) (shadow : Shadow) (left screen : Screen) (aid : Aid) → screen.aid ≡ aid → length screen.cells ≡ cells_in shape → FactsAreExact shadow → Knows shadow → NothingIsOpen shadow → Meets shadow left
-    → KeepsSent erased aid left.cells screen.cells → IsOkAnd (heard (cells_in shape) shadow (modified_data Modified size screen)) (Sees shape screen)
-will_see given erased shape size shadow left screen aid is whole exact knows closed meets keeps =
-    subst (λ n. IsOkAnd (heard n shadow parts) (Sees shape screen)) whole
-    (ok_map (λ s. Believed (is_short_aid screen.aid) screen s × FactsAreExact s × (screen.aid ≡ ClearAid → IsCleared shape s) × IsOpenBy screen.aid false s) (Sees shape screen) result
+will_see : Given → (unheard : Unheard) (erased : Bool) (shape size : Shape) (shadow : Shadow) (left screen : Screen) (aid : Aid) → screen.aid ≡ aid → length screen.cells ≡ cells_in shape → FactsAreExact shadow → Knows shadow → IfRelies unheard (NothingIsOpen shadow) → Meets shadow left
+    → KeepsSent erased aid left.cells screen.cells → IsOkAnd (heard (cells_in shape) shadow (modified_data Modified size screen)) (Sees unheard shape screen)
+will_see given unheard erased shape size shadow left screen aid is whole exact knows closed meets keeps =
+    subst (λ n. IsOkAnd (heard n shadow parts) (Sees unheard shape screen)) whole
+    (ok_map (λ s. Believed (is_short_aid screen.aid) screen s × FactsAreExact s × (screen.aid ≡ ClearAid → IsCleared shape s) × IfRelies unheard (IsOpenBy screen.aid false s)) (Sees unheard shape screen) result
     (λ s all. record { exact = all.1; closed = all.3; cleared = all.2; meets = all.0.0; lists = all.0.1; told = λ sent. all.0.2 (sent_long screen.aid sent) })
     (by_result result
     (given.belief.hears size erased shadow left screen knows meets (sent_from erased left.cells screen.cells screen.aid (subst (λ a. KeepsSent erased a left.cells screen.cells) (sym is) keeps)))
     (given.belief.heard_exact (length screen.cells) shadow parts exact.known) (given.belief.heard_protected (length screen.cells) shadow parts exact.protected)
     (λ clear. given.belief.cleared (length screen.cells) shadow parts (key_form size screen) (key_aid size screen ∙ clear))
-    (λ long. given.belief.long_opens (length screen.cells) shadow parts (is_long long) closed)))
+    (λ relies long. given.belief.long_opens (length screen.cells) shadow parts (is_long long) (closed relies))))
   where
     parts : InboundParts
     parts = modified_data Modified size screen
@@ -245,10 +247,10 @@ will_see given erased shape size shadow left screen aid is whole exact knows clo
     result = heard (length screen.cells) shadow parts
 
     by_result : (r : Result Shadow HeardFault) → IsOkAnd r (Believed (is_short_aid screen.aid) screen) → IfOk r KnownIsExact → IfOk r ProtectedIsExact → (screen.aid ≡ ClearAid → IsOkAnd r (IsClearedBelief (length screen.cells)))
-        → (is_short_aid screen.aid ≡ false → IfOk r NothingIsOpen)
-        → IsOkAnd r (λ s. Believed (is_short_aid screen.aid) screen s × FactsAreExact s × (screen.aid ≡ ClearAid → IsCleared shape s) × IsOpenBy screen.aid false s)
+        → IfRelies unheard (is_short_aid screen.aid ≡ false → IfOk r NothingIsOpen)
+        → IsOkAnd r (λ s. Believed (is_short_aid screen.aid) screen s × FactsAreExact s × (screen.aid ≡ ClearAid → IsCleared shape s) × IfRelies unheard (IsOpenBy screen.aid false s))
     by_result (Ok s) believed known protected clear long =
-        (believed, record { known = known; protected = protected }, λ e. nulls_known shape s (subst (λ n. IsClearedBelief n s) whole (clear e)), opens_by screen.aid s (length screen.cells) clear long)
+        (believed, record { known = known; protected = protected }, λ e. nulls_known shape s (subst (λ n. IsClearedBelief n s) whole (clear e)), λ relies. opens_by screen.aid s (length screen.cells) clear (long relies))
     by_result (Err fault) believed known protected clear long = absurd believed
 
     is_long : is_short_aid screen.aid ≡ false → IsLong parts.form parts.aid
@@ -268,6 +270,7 @@ module _ (given : Given) (app : Application) (link : Link) (key : Key) (k : Kept
     term_talk = at.term_talk;
     turn = at.turn;
     pending = at.pending;
+    not_cleared = at.not_cleared;
     goes_down = at.goes_down;
     goes_up = subst (UnderWay v.lost (sent v.lost v.up [])) (append-nil (served_up from)) (more v.lost v.up (served_up from) [] at.goes_up);
   }
@@ -280,6 +283,7 @@ module _ (given : Given) (app : Application) (link : Link) (key : Key) (k : Kept
     term_talk = at.term_talk;
     turn = at.turn ∙ sym turn;
     pending = at.pending ∙ sym pending;
+    not_cleared = at.not_cleared;
     goes_down = subst (UnderWay v.lost v.down) (sym down) at.goes_down;
     goes_up = subst (UnderWay v.lost (sent v.lost v.up (ToHost.Data parts ∷ []))) up (more v.lost v.up (served_up from) (ToHost.Data parts ∷ []) at.goes_up);
   }
@@ -294,8 +298,12 @@ module _ (given : Given) (app : Application) (link : Link) (key : Key) (k : Kept
     press : (parts : InboundParts) (screen : Screen) (lock : Lock) (erased : Bool) → IsPressed (scene_now screen lock erased) parts → WillSee (scene_now screen lock erased) shadow parts → TakesNotes v.host.shape screen.cells
         → Fact k.wanted (scene_now screen lock erased) (Moment.Serves lu (to parts))
     at_to : (parts : InboundParts) (screen : Screen) (lock : Lock) (erased : Bool) → IsAt (seen_as v (sent v.lost v.up (ToHost.Data parts ∷ [])) screen lock erased) k.wanted (Moment.Serves lu (to parts))
-    shown : ShownAt app v.host v.last_restored (Moment.Serves lu from)
-    shown_to : (parts : InboundParts) → ShownAt app v.host v.last_restored (Moment.Serves lu (to parts))
+    shown : (screen : Screen) → ShownAt app v.host v.before_restored v.last_restored screen (Moment.Serves lu from)
+    shown_to : (parts : InboundParts) (screen : Screen) → ShownAt app v.host v.before_restored v.last_restored screen (Moment.Serves lu (to parts))
+
+  -- what was noted, on the screen of this size
+  noted_here : NotedSince (message_place v.shape) v.last_restored.cells f.shown.cells
+  noted_here = subst (λ (s : Shape). NotedSince (message_place s) v.last_restored.cells f.shown.cells) (sym same) f.noted
 
   -- a key that sends nothing
   stays : Typing → (screen : Screen) (lock : Lock) (erased : Bool) → length screen.cells ≡ cells_in v.shape → screen.cursor < cells_in v.shape → (lock ≡ Wait → ⊥) → Held erased f.shown.cells screen.cells
@@ -303,14 +311,15 @@ module _ (given : Given) (app : Application) (link : Link) (key : Key) (k : Kept
   stays typing screen lock erased whole cursor free held = record {
     whole = whole;
     cursor = cursor;
-    unreturned = λ _. kept_of given.notes.still_protected erased v.last_restored.cells f.shown.cells screen.cells held f.noted;
+    unreturned = λ _. kept_of given.notes.still_protected erased (message_place v.host.shape) v.last_restored.cells f.shown.cells screen.cells held f.noted;
+    as_left = λ _. as_left_of erased (message_place v.shape) v.last_restored.cells f.shown.cells screen.cells held noted_here;
     exact = k.exact;
     wanted = k.wanted;
     moment = Moment.Serves lu from;
     sizes = record { host = k.sizes.host; screen = k.sizes.screen; same = λ steady. same };
     at = stays_at screen lock erased;
     fact = typing.stay screen lock erased (record { shown = f.shown; lock = free; exact = f.exact; meets = f.meets; closed = f.closed; knows = f.knows; held = held; messages = f.messages; noted = f.noted });
-    shown = typing.shown;
+    shown = typing.shown screen;
   }
 
   -- a key that sends
@@ -318,10 +327,13 @@ module _ (given : Given) (app : Application) (link : Link) (key : Key) (k : Kept
       → KeepsSent erased aid f.shown.cells screen.cells → Kept app (seen_as v (sent v.lost v.up (ToHost.Data (modified_data Modified v.shape screen) ∷ [])) screen lock erased)
   sends typing screen lock erased aid whole cursor waits is some keeps =
       let parts : InboundParts = modified_data Modified v.shape screen in
+      let still : (screen.aid ≡ ClearAid → ⊥) → Held erased f.shown.cells screen.cells =
+      λ uncleared. held_fields erased f.shown.cells screen.cells aid keeps (λ clear. uncleared (is ∙ clear)) in
       record {
         whole = whole;
         cursor = cursor;
-        unreturned = λ uncleared. kept_of given.notes.still_protected erased v.last_restored.cells f.shown.cells screen.cells (held_fields erased f.shown.cells screen.cells aid keeps (λ clear. uncleared (is ∙ clear))) f.noted;
+        unreturned = λ uncleared. kept_of given.notes.still_protected erased (message_place v.host.shape) v.last_restored.cells f.shown.cells screen.cells (still uncleared) f.noted;
+        as_left = λ uncleared. as_left_of erased (message_place v.shape) v.last_restored.cells f.shown.cells screen.cells (still uncleared) noted_here;
         exact = k.exact;
         wanted = k.wanted;
         moment = Moment.Serves lu (typing.to parts);
@@ -329,9 +341,9 @@ module _ (given : Given) (app : Application) (link : Link) (key : Key) (k : Kept
         at = typing.at_to parts screen lock erased;
         fact = typing.press parts screen lock erased
             (record { lock = waits; form = key_form v.shape screen; size = key_size v.shape screen ∙ same; pressed = key_aid v.shape screen; cursor = key_cursor v.shape screen; some = λ none. some (sym is ∙ none) })
-            (will_see given erased v.host.shape v.shape shadow f.shown screen aid is (whole ∙ ap (λ (s : Shape). cells_in s) same) f.exact f.knows f.closed f.meets keeps)
+            (will_see given v.host.unheard erased v.host.shape v.shape shadow f.shown screen aid is (whole ∙ ap (λ (s : Shape). cells_in s) same) f.exact f.knows f.closed f.meets keeps)
             (takes_notes given v.host.shape erased f.shown.cells screen.cells aid keeps f.messages);
-        shown = typing.shown_to parts;
+        shown = typing.shown_to parts screen;
       }
 
   -- the connection with what was said, by the answer
@@ -374,7 +386,7 @@ keys given app link key k = by_moment k.moment k.sizes k.at k.fact k.shown
     wait e = subst (Kept app) (sym (key_waits key link e)) k
 
     by_serving : (lu : List ℕ) (serving : Serving) → Sizes app (view_of link) (Moment.Serves lu serving) → IsAt (view_of link) k.wanted (Moment.Serves lu serving) → Fact k.wanted (scene_of (view_of link)) (Moment.Serves lu serving)
-        → ShownAt app link.host link.term.display.last_restored (Moment.Serves lu serving) → Kept app (view_of (key_view key link))
+        → ShownAt app link.host link.term.display.before_restored link.term.display.last_restored link.term.display.screen (Moment.Serves lu serving) → Kept app (view_of (key_view key link))
     by_serving lu (Serving.Answering kind number command) s at f shown =
         let shadow : Shadow = once_taken link.host.shape command link.host.shadow in
         types given app link key k lu (Serving.Answering kind number command) shadow at (s.same refl) f (record {
@@ -382,8 +394,8 @@ keys given app link key k = by_moment k.moment k.sizes k.at k.fact k.shown
           stay = λ screen lock erased operates. operates;
           press = λ parts screen lock erased pressed sees takes. (pressed, sees, takes, f.exact);
           at_to = λ parts screen lock erased. sends_at given app link key k lu (Serving.Answering kind number command) shadow at (s.same refl) f (Serving.KeyBehind kind number command parts) parts screen lock erased refl refl refl refl;
-          shown = shown;
-          shown_to = λ parts. shown;
+          shown = λ screen. shown;
+          shown_to = λ parts screen. shown;
         })
     by_serving lu Serving.Operating s at f shown =
         types given app link key k lu Serving.Operating link.host.shadow at (s.same refl) f (record {
@@ -391,8 +403,8 @@ keys given app link key k = by_moment k.moment k.sizes k.at k.fact k.shown
           stay = λ screen lock erased operates. operates;
           press = λ parts screen lock erased pressed sees takes. (pressed, sees, takes);
           at_to = λ parts screen lock erased. sends_at given app link key k lu Serving.Operating link.host.shadow at (s.same refl) f (Serving.KeyAlone parts) parts screen lock erased refl refl refl refl;
-          shown = shown;
-          shown_to = λ parts. shown;
+          shown = λ screen. shown;
+          shown_to = λ parts screen. shown;
         })
     by_serving lu (Serving.Noting number command) s at f shown =
         types given app link key k lu (Serving.Noting number command) link.host.shadow at (s.same refl) f.0 (record {
@@ -400,8 +412,8 @@ keys given app link key k = by_moment k.moment k.sizes k.at k.fact k.shown
           stay = λ screen lock erased operates. (operates, f.1);
           press = λ parts screen lock erased pressed sees takes. (pressed, sees, record { note = f.1; takes = takes });
           at_to = λ parts screen lock erased. sends_at given app link key k lu (Serving.Noting number command) link.host.shadow at (s.same refl) f.0 (Serving.KeyNoted number command parts) parts screen lock erased refl refl refl refl;
-          shown = shown;
-          shown_to = λ parts. shown;
+          shown = λ screen. shown;
+          shown_to = λ parts screen. shown;
         })
     by_serving lu Serving.Deciding s at f shown = wait f.lock
     by_serving lu (Serving.Reading number) s at f shown = wait f.decides.lock
@@ -414,7 +426,7 @@ keys given app link key k = by_moment k.moment k.sizes k.at k.fact k.shown
     by_serving lu (Serving.KeyNoted number command parts) s at f shown = wait f.0.lock
     by_serving lu (Serving.KeyBefore number command parts) s at f shown = wait f.0.lock
 
-    by_moment : (moment : Moment) → Sizes app (view_of link) moment → IsAt (view_of link) k.wanted moment → Fact k.wanted (scene_of (view_of link)) moment → ShownAt app link.host link.term.display.last_restored moment
+    by_moment : (moment : Moment) → Sizes app (view_of link) moment → IsAt (view_of link) k.wanted moment → Fact k.wanted (scene_of (view_of link)) moment → ShownAt app link.host link.term.display.before_restored link.term.display.last_restored link.term.display.screen moment
         → Kept app (view_of (key_view key link))
     by_moment (Moment.Talks talking) s at f shown = wait f.0.lock
     by_moment (Moment.Begins lu number command wants over) s at f shown = wait f.lock

@@ -51,16 +51,16 @@ facts known begin is events are typed =
     let app = is_application known begin is in
     let asks = asks_for_screens known begin is in
     record {
-      headline = known.headline (application_of begin.panels) begin.pool begin.models events app is.pool is.few are;
-      nobody_refuses = known.nobody_refuses (application_of begin.panels) begin.pool begin.models events app is.pool is.few are;
-      agree = known.agree (application_of begin.panels) begin.pool begin.models events app is.pool is.few are;
-      up_held = known.up_held (application_of begin.panels) begin.pool begin.models events app is.pool is.few are;
-      forms = known.forms (application_of begin.panels) begin.pool begin.models events app is.pool is.few are;
-      numbers = known.numbers (application_of begin.panels) begin.pool begin.models events app is.pool is.few are;
-      may = known.may (application_of begin.panels) begin.pool begin.models events app is.pool is.few are (the_sizes begin.panels);
-      sendable = known.sendable (application_of begin.panels) begin.pool begin.models events app asks is.pool is.few are typed;
-      paints = known.paints (application_of begin.panels) begin.pool begin.models events app asks is.pool is.few are typed;
-      spelt = known.spelt (application_of begin.panels) begin.pool begin.models events app asks is.pool is.few are typed;
+      headline = known.headline (application_of begin.panels) begin.serves begin.pool begin.models events app is.pool is.few are;
+      nobody_refuses = known.nobody_refuses (application_of begin.panels) begin.serves begin.pool begin.models events app is.pool is.few are;
+      agree = known.agree (application_of begin.panels) begin.serves begin.pool begin.models events app is.pool is.few are;
+      up_held = known.up_held (application_of begin.panels) begin.serves begin.pool begin.models events app is.pool is.few are;
+      forms = known.forms (application_of begin.panels) begin.serves begin.pool begin.models events app is.pool is.few are;
+      numbers = known.numbers (application_of begin.panels) begin.serves begin.pool begin.models events app is.pool is.few are;
+      may = known.may (application_of begin.panels) begin.serves begin.pool begin.models events app is.pool is.few are (the_sizes begin.panels);
+      sendable = known.sendable (application_of begin.panels) begin.serves begin.pool begin.models events app asks is.pool is.few are typed;
+      paints = known.paints (application_of begin.panels) begin.serves begin.pool begin.models events app asks is.pool is.few are typed;
+      spelt = known.spelt (application_of begin.panels) begin.serves begin.pool begin.models events app asks is.pool is.few are typed;
     }
 
 -- ---- one step
@@ -72,7 +72,7 @@ Goes event = (begin : Begin) (events : List Event) (old : ByteWorld) (answer : S
     → GoesOn begin events event old answer new
 
 pub after_more : (begin : Begin) (events more : List Event) → after begin (events ++ more) ≡ run (application_of begin.panels) more (after begin events)
-after_more begin events more = run-append (application_of begin.panels) events more (new_world (application_of begin.panels) begin.pool begin.models)
+after_more begin events more = run-append (application_of begin.panels) events more (new_world (application_of begin.panels) begin.serves begin.pool begin.models)
 
 pub are_more : (events more : List Event) → AreEvents events → AreEvents more → AreEvents (events ++ more)
 are_more [] more are others = others

@@ -28,18 +28,18 @@ use Rattle.world3270.proofs.Unbroken.{down_same, up_same}
 -- ---- one of many changed
 
 -- what holds of each of them still does, where it goes on to hold of the one that changed
-one_kept : {X : Type 0} (P : X → Type 0) (number : ℕ) (new : X) (old : ℕ → X) → (P (old number) → P new) → (other : ℕ) → P (old other) → P (with_at number new old other)
+pub one_kept : {X : Type 0} (P : X → Type 0) (number : ℕ) (new : X) (old : ℕ → X) → (P (old number) → P new) → (other : ℕ) → P (old other) → P (with_at number new old other)
 one_kept {X} P number new old keeps other was = by_test (other == number) refl
   where
     by_test : (b : Bool) → (other == number) ≡ b → P (if b then new else old other)
     by_test true e = keeps (subst (λ (n : ℕ). P (old n)) (eqb-true other number e) was)
     by_test false e = was
 
-other_kept : {X : Type 0} (P : X → Type 0) (number : ℕ) (new : X) (old : ℕ → X) (other : ℕ) → (other == number) ≡ false → P (old other) → P (with_at number new old other)
+pub other_kept : {X : Type 0} (P : X → Type 0) (number : ℕ) (new : X) (old : ℕ → X) (other : ℕ) → (other == number) ≡ false → P (old other) → P (with_at number new old other)
 other_kept {X} P number new old other differs was = subst (λ (b : Bool). P (if b then new else old other)) (sym differs) was
 
 -- an event happened, or was skipped
-if_placed : (P : World → Type 0) (place : Bool) (made old : World) → P old → P made → P (if place then made else old)
+pub if_placed : (P : World → Type 0) (place : Bool) (made old : World) → P old → P made → P (if place then made else old)
 if_placed P true made old was now = now
 if_placed P false made old was now = was
 

@@ -10,6 +10,7 @@ pub mod Up
 pub mod Acting
 pub mod Answered
 pub mod Keys
+pub mod KeyMoves
 pub mod Worlds
 pub mod Headline
 pub mod RunsInPieces
@@ -41,7 +42,9 @@ pub mod HostSteps
 pub mod Everywhere
 pub mod Numbers
 pub mod OnScreen
+pub mod ShownFields
 pub mod ShownPanels
+pub mod ShownSince
 pub mod Sendable
 pub mod Slots
 pub mod Steps
@@ -55,6 +58,7 @@ pub mod EventRuns
 pub mod ByteTerms
 pub mod ByteKeys
 pub mod Unbroken
+pub mod ProtocolErrors
 pub mod ByteDown
 pub mod BytePlaced
 pub mod ItemsSpelt

@@ -101,7 +101,7 @@ term_anew_fades app world terminal number (Place.Alone display) = as_it_is (worl
 -- a connection that begins isn't lost
 joined_fades : (app : Application) (world : World) (terminal number : ℕ) (model : Model) (wanted : Option (List ℕ)) (free : Option ℕ) → Fades (world.link number) ((joined app terminal model wanted free world).link number)
 joined_fades app world terminal number model wanted None = as_it_is (world.link number)
-joined_fades app world terminal number model wanted (Some found) = at_number world.link found number (begun app model terminal wanted) (λ before after. absurd (cc))
+joined_fades app world terminal number model wanted (Some found) = at_number world.link found number (begun app world.serves model terminal wanted) (λ before after. absurd (cc))
 
 host_anew_fades : (link : Link) → Fades link (host_left_from link)
 host_anew_fades link = by_here link.host_here

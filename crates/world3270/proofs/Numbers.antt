@@ -130,8 +130,8 @@ notes_if text link false n = tt
 
 steps : (app : Application) → Steps app (λ event. ⊤) AreNumbered (λ display. ⊤)
 steps app = record {
-  never = record { next = omega arith; pending = tt; down = All-nil FitsDown; up = All-nil FitsUp };
-  begins = λ model terminal wanted. record { next = omega arith; pending = tt; down = All-cons FitsDown _ [] tt (All-nil FitsDown); up = All-nil FitsUp };
+  never = λ serves. record { next = omega arith; pending = tt; down = All-nil FitsDown; up = All-nil FitsUp };
+  begins = λ serves model terminal wanted. record { next = omega arith; pending = tt; down = All-cons FitsDown _ [] tt (All-nil FitsDown); up = All-nil FitsUp };
   up = λ pool link message rest e k n.
       let step : HostStep = host_took pool link.host message in
       let fits = host_fits pool link.host message (record { next = n.next; pending = n.pending }) in
@@ -170,5 +170,5 @@ steps app = record {
 }
 
 pub numbers_fit : Given → Always NumbersFit
-numbers_fit given app pool models events is lists few are =
-    (everywhere given app is (λ event. ⊤) AreNumbered (λ display. ⊤) (steps app) pool models events lists are (λ k d below. tt)).links
+numbers_fit given app serves pool models events is lists few are =
+    (everywhere given app is (λ event. ⊤) AreNumbered (λ display. ⊤) (steps app) serves pool models events lists are (λ k d below. tt)).links

@@ -1,12 +1,11 @@
 -- A screen that shows a panel has each field of the panel, at its place and with its length, whatever keys were pressed since but Clear.
-use Rattle.std.proofs.Common.{◌≡◌, ◌⊎◌, inl, inr, ◌==◌, not, ◌+◌, ◌-◌, ◌<◌, ◌≤◌, arith, ℕ, zero, suc, Bool, true, false, None, Some, List, [], ◌∷◌, ◌++◌, length, drop, take, refl, ap, sym, subst, ◌∙◌, if◌then◌else◌}
-use Rattle.std.specs.Prelude.{slice_get, slice_index_or, replicate}
+use Rattle.std.proofs.Common.{◌≡◌, ◌⊎◌, inl, inr, ◌+◌, ◌-◌, ◌<◌, ◌≤◌, arith, ℕ, zero, suc, true, false, None, Some, List, [], ◌∷◌, ◌++◌, length, drop, take, refl, ap, sym, ◌∙◌}
+use Rattle.std.specs.Prelude.{slice_get, slice_index_or}
 use Rattle.std.specs.List.{Contains}
-use Rattle.std.proofs.lemmas.Bool.{and_parts, cases_lt, eqb-true, eq-eqb}
+use Rattle.std.proofs.lemmas.Bool.{cases_lt}
 use Rattle.std.proofs.lemmas.List.{get_or-drop, get_or_past}
 use Rattle.std.proofs.lemmas.Option.{get_or_from_slice_get, slice_get_cases, slice_get_past}
 use Rattle.codes3270.specs.Size.{cells_in}
-use Rattle.codes3270.specs.declared.attribute.Attr.{Attr as Attribute}
 use Rattle.codes3270.specs.declared.attribute.Cell.{Cell}
 use Rattle.codes3270.specs.declared.attribute.Cell.TheVariants.{Char, Attr}
 use Rattle.datastream.specs.Fields.{Field, fields}
@@ -17,88 +16,13 @@ use Rattle.datastream.specs.declared.wanted.Want.TheVariants.{Char as WantChar, 
 use Rattle.datastream.proofs.FieldViews.{field_listed, listed_field}
 use Rattle.panels.specs.KeptFields.{IsCharacterOf, IsFieldOn}
 use Rattle.panels.specs.declared.extent.Extent.{Extent}
-use Rattle.shadow.specs.Belief.{Belief, Shadow, cells_of_fields}
-use Rattle.shadow.specs.Fits.{is_attribute, is_paintable}
+use Rattle.shadow.specs.Belief.{Shadow}
+use Rattle.shadow.specs.Fits.{is_paintable}
 use Rattle.shadow.specs.Meets.{Meets}
-use Rattle.shadow.specs.Painted.{attr_or_kept, cells_under, keeps_ahead, painted_from, plainly_painted}
+use Rattle.shadow.specs.Painted.{plainly_painted}
 use Rattle.shadow.specs.Pairs.{Pairwise}
-use Rattle.shadow.proofs.ExactPainted.{IsFree, KeptIsFree, kept_free}
-use Rattle.shadow.proofs.Keeps.{HasNoKeep, KeepsChars, keeps_chars, no_keep, no_keep_ahead, paintable_apart, paintable_fits}
-use Rattle.shadow.proofs.LaidOut.{fields_size}
+use Rattle.shadow.proofs.PaintedFields.{IsAsWanted, painted_as_wanted, wanted_at}
 use Rattle.world3270.specs.Unreturned.{SamePlaces}
-use Rattle.world3270.proofs.Down.{length_under}
-
--- ---- a painted screen has attributes where they are wanted
-
--- a cell is an attribute exactly if one is wanted there
-abbrev IsAsWanted : Want → Cell → Type 0
-IsAsWanted want cell = is_char cell ≡ not (is_attribute want)
-
-kept_attr : (reset : Bool) (attribute : Attribute) (there : Cell) → IsFree there → is_char (attr_or_kept true reset attribute there) ≡ false
-kept_attr reset attribute (Char byte) free = absurd free
-kept_attr true attribute (Attr other) free = refl
-kept_attr false attribute (Attr other) free = refl
-
-attr_painted : (keeps reset : Bool) (attribute : Attribute) (there : Cell) → (keeps ≡ true → IsFree there) → is_char (attr_or_kept keeps reset attribute there) ≡ false
-attr_painted true reset attribute there free = kept_attr reset attribute there (free refl)
-attr_painted false reset attribute there free = refl
-
-as_wanted : (reset : Bool) (whole rest : List Want) (cells : List Cell) → length cells ≡ length rest → KeepsChars rest cells → KeptIsFree whole rest cells
-    → Pairwise IsAsWanted rest (painted_from reset whole rest cells)
-as_wanted reset whole [] cells same keeps free = tt
-as_wanted reset whole (want ∷ rest) [] same keeps free = absurd (omega arith)
-as_wanted reset whole (WantChar byte ∷ rest) (there ∷ cells) same keeps free = (refl, as_wanted reset whole rest cells (omega arith) keeps free)
-as_wanted reset whole (Keep ∷ rest) (Char byte ∷ cells) same keeps free = (refl, as_wanted reset whole rest cells (omega arith) keeps free)
-as_wanted reset whole (Keep ∷ rest) (Attr attribute ∷ cells) same keeps free = absurd keeps
-as_wanted reset whole (WantAttr attribute ∷ rest) (there ∷ cells) same keeps free =
-    (attr_painted (keeps_ahead (rest ++ whole)) reset attribute there free.0, as_wanted reset whole rest cells (omega arith) keeps free.1)
-
--- where nothing is kept, nothing has to be there
-none_kept : (whole rest : List Want) (cells : List Cell) → HasNoKeep whole → HasNoKeep rest → KeepsChars rest cells × KeptIsFree whole rest cells
-none_kept whole [] cells h k = (tt, tt)
-none_kept whole (want ∷ rest) [] h k = (tt, tt)
-none_kept whole (WantChar byte ∷ rest) (there ∷ cells) h k = none_kept whole rest cells h k
-none_kept whole (Keep ∷ rest) (there ∷ cells) h k = absurd (cc)
-none_kept whole (WantAttr attribute ∷ rest) (there ∷ cells) h k =
-    let more = none_kept whole rest cells h k in
-    (more.0, (λ keeps. absurd (let none = sym (no_keep_ahead rest whole k h) ∙ keeps in cc), more.1))
-
-under_same : (size : ℕ) (cells : List Cell) → length cells ≡ size → cells_under size cells ≡ cells
-under_same size cells e = ap (λ (same : Bool). if same then cells else replicate size (Char 0)) (eq-eqb (length cells) size e)
-
-painted_as_wanted : (over : Shadow) (wanted : WantedScreen) (before : Screen) → length wanted.cells ≡ cells_in wanted.size → is_paintable over wanted ≡ true → Meets over before
-    → Pairwise IsAsWanted wanted.cells (plainly_painted wanted before).cells
-painted_as_wanted over wanted before same fits meets = by_belief over fits meets
-  where
-    under : List Cell
-    under = cells_under (length wanted.cells) before.cells
-
-    from : KeepsChars wanted.cells under × KeptIsFree wanted.cells wanted.cells under → Pairwise IsAsWanted wanted.cells (plainly_painted wanted before).cells
-    from kept = as_wanted wanted.reset wanted.cells wanted.cells under (length_under (length wanted.cells) before.cells) kept.0 kept.1
-
-    none : HasNoKeep wanted.cells → Pairwise IsAsWanted wanted.cells (plainly_painted wanted before).cells
-    none h = from (none_kept wanted.cells wanted.cells under h h)
-
-    by_size : (beliefs : List Belief) → is_paintable (Shadow.Formatted beliefs) wanted ≡ true → Meets (Shadow.Formatted beliefs) before → (b : Bool) → (cells_of_fields beliefs == cells_in wanted.size) ≡ b
-        → Pairwise IsAsWanted wanted.cells (plainly_painted wanted before).cells
-    by_size beliefs fits meets false apart = none (paintable_apart beliefs wanted fits apart)
-    by_size beliefs fits meets true e =
-        let there : length before.cells ≡ cells_in wanted.size = sym (fields_size before.cells beliefs meets.1 meets.0) ∙ eqb-true (cells_of_fields beliefs) (cells_in wanted.size) e in
-        let fit = paintable_fits (Shadow.Formatted beliefs) wanted fits in
-        let chars : KeepsChars wanted.cells before.cells = keeps_chars beliefs wanted.cells before.cells (same ∙ sym there) meets.1 fit in
-        let free : KeptIsFree wanted.cells wanted.cells before.cells = kept_free beliefs wanted.cells before.cells meets.1 0 wanted.cells before.cells refl (and_parts _ _ fit).1 in
-        from (subst (λ (cells : List Cell). KeepsChars wanted.cells cells × KeptIsFree wanted.cells wanted.cells cells) (sym (under_same (length wanted.cells) before.cells (there ∙ sym same))) (chars, free))
-
-    by_belief : (over : Shadow) → is_paintable over wanted ≡ true → Meets over before → Pairwise IsAsWanted wanted.cells (plainly_painted wanted before).cells
-    by_belief Shadow.NothingKnown fits meets = none (no_keep wanted.cells (paintable_fits Shadow.NothingKnown wanted fits))
-    by_belief (Shadow.Unformatted known) fits meets = none (no_keep wanted.cells (paintable_fits (Shadow.Unformatted known) wanted fits))
-    by_belief (Shadow.Formatted beliefs) fits meets = by_size beliefs fits meets (cells_of_fields beliefs == cells_in wanted.size) refl
-
-wanted_at : (wants : List Want) (cells : List Cell) (place : ℕ) (want : Want) → Pairwise IsAsWanted wants cells → slice_get wants place ≡ Some want → is_char_at cells place ≡ not (is_attribute want)
-wanted_at [] cells place want each is = absurd (cc)
-wanted_at (first ∷ wants) [] place want each is = absurd each
-wanted_at (first ∷ wants) (cell ∷ cells) zero want each is = each.0 ∙ ap (λ (w : Want). not (is_attribute w)) (let same : Some first ≡ Some want = is in cc)
-wanted_at (first ∷ wants) (cell ∷ cells) (suc place) want each is = wanted_at wants cells place want each.1 is
 
 -- ---- a field among cells
 

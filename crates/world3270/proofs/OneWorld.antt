@@ -8,13 +8,14 @@ use Rattle.tn3270e_msg.specs.declared.cause.Fed.{Fed}
 use Rattle.tn3270e_msg.specs.declared.cause.Stop.{Stop}
 use Rattle.tn3270e_msg.specs.declared.cause.Stop.TheVariants as stop
 use Rattle.host_core.specs.Acts.{Sent}
-use Rattle.host_core.specs.Application.{application_of}
+use Rattle.host_core.specs.Application.{Application, application_of}
 use Rattle.host_core.specs.Bytes.{Counter, TakesByte, TakesBytes}
 use Rattle.host_core.specs.Does.{Does as HostDoes, acted_by, noted_by, DoesAnswer}
 use Rattle.host_core.specs.Feeds.{Feeds, IsOpen, StopsFor as HostStopsFor, counter_at, with_counter}
 use Rattle.host_core.specs.Machine.{OneOutcome as OneHost}
 use Rattle.host_core.specs.State.{Host, Connection, Service, connection_at, service_at, with_connection, session_at}
 use Rattle.host_core.specs.declared.acted.Acted.{Acted}
+use Rattle.host_core.specs.declared.question.Answer.{Answer as Said}
 use Rattle.host_core.specs.declared.acted.Acted.TheVariants as acted
 use Rattle.term_core.specs.Bytes.{TakesByte as TermTakesByte}
 use Rattle.term_core.specs.Feeds.{IsAttached, StopsFor as TermStopsFor}
@@ -22,7 +23,7 @@ use Rattle.term_core.specs.Laws.{OneOutcome as OneTerminal}
 use Rattle.term_core.specs.Room.{out_room}
 use Rattle.term_core.specs.State.{Link, Terminal, Detached, Closed}
 use Rattle.host_core.specs.Questions.{answered_by}
-use Rattle.world3270.proofs.Answered.{as_answer}
+use Rattle.world3270.proofs.Answered.{IsDone, by_act, by_answer}
 use Rattle.world3270.specs.ByteRuns.{AllHappen, Runs, StopsAt, refused_at}
 use Rattle.world3270.specs.ByteSteps.{OnConnection, ComesDown, ComesUp, Connects, ConnectsIf, GoesDown, Happens, HappensIf, Is, Presses, TrackedFeeds, answer_acted, answer_fed, down_came, free_number, has_place, host_gone_if, terminal_gone_if, up_came}
 use Rattle.world3270.specs.ByteWorld.{ByteWorld, down_of, slot_at, terminal_at, up_of, with_host, with_slot}
@@ -190,7 +191,7 @@ module _ (one_terminal : OneTerminal) where
   one_tracked_byte : (old one other : TrackedTerminal) (byte : ℕ) → TrackedTakesByte old byte one → TrackedTakesByte old byte other → one ≡ other
   one_tracked_byte old one other byte is also =
       let same : one.terminal ≡ other.terminal = one_terminal old.terminal one.terminal other.terminal (byte ∷ []) (one.terminal, is.takes, refl) (other.terminal, also.takes, refl) in
-      let history : one.history ≡ other.history = is.history ∙ ap (λ (t : Terminal). marked t.station old.history) same ∙ sym also.history in
+      let history : one.history ≡ other.history = is.history ∙ ap (λ (t : Terminal). marked old.terminal.station t.station old.history) same ∙ sym also.history in
       ap (λ (t : Terminal). tracked_of t one.history) same ∙ ap (λ (h : History). tracked_of other.terminal h) history
 
   one_tracked : (old one other : TrackedTerminal) (bytes : List ℕ) → TrackedTakes old bytes one → TrackedTakes old bytes other → one ≡ other
@@ -277,8 +278,8 @@ one_press terminal key old new other answer reply (Presses.refused lacks is new_
 one_press terminal key old new other answer reply (Presses.done is new_is) none (Presses.refused lacks also other_is) other_none = absurd (not_memory reply also other_none)
 one_press terminal key old new other answer reply (Presses.done is new_is) none (Presses.done also other_is) other_none = (is ∙ sym also, new_is ∙ sym other_is)
 
-one_answering : (does : Option Sent) (old one other : Connection) (act reply : Acted) → DoesAnswer does old act one → refused_at (answer_acted act) ≡ None
-    → DoesAnswer does old reply other → refused_at (answer_acted reply) ≡ None → (act ≡ reply) × (one ≡ other)
+one_answering : (does : Option Sent) (old one other : Connection) (act reply : Acted) → IsDone does old act one → refused_at (answer_acted act) ≡ None
+    → IsDone does old reply other → refused_at (answer_acted reply) ≡ None → (act ≡ reply) × (one ≡ other)
 one_answering None old one other act reply is none also other_none = (is.0 ∙ sym also.0, is.1 ∙ sym also.1)
 one_answering (Some sent) old one other acted.Sent acted.Sent is none also other_none = (refl, is ∙ sym also)
 one_answering (Some sent) old one other acted.Sent acted.Memory is none also other_none = absurd (not_memory stepped.Memory refl other_none)
@@ -288,7 +289,7 @@ one_answering (Some sent) old one other acted.Nothing reply is none also other_n
 
 one_doing : (does : Option Sent) (old one other : Connection) (act reply : Acted) → HostDoes does old act one → refused_at (answer_acted act) ≡ None
     → HostDoes does old reply other → refused_at (answer_acted reply) ≡ None → (act ≡ reply) × (one ≡ other)
-one_doing does old one other act reply is none also other_none = one_answering does old one other act reply (as_answer does old act one is) none (as_answer does old reply other also) other_none
+one_doing does old one other act reply is none also other_none = one_answering does old one other act reply (by_act does old act one is) none (by_act does old reply other also) other_none
 
 one_call : (becomes : Connection → Acted → Connection → Type 0) (number : ℕ) (old new other : ByteWorld) (answer reply : Stepped)
     → ((one two : Connection) (act again : Acted) → becomes (connection_at number old.host) act one → refused_at (answer_acted act) ≡ None
@@ -307,10 +308,15 @@ one_act : (does : Option Sent) (number : ℕ) (old new other : ByteWorld) (answe
 one_act does number old new other answer reply =
     one_call (HostDoes does) number old new other answer reply (one_doing does (connection_at number old.host))
 
-one_answer : (does : Option Sent) (number : ℕ) (old new other : ByteWorld) (answer reply : Stepped) → OnConnection (DoesAnswer does) number old answer new → refused_at answer ≡ None
-    → OnConnection (DoesAnswer does) number old reply other → refused_at reply ≡ None → Alike answer reply new other
-one_answer does number old new other answer reply =
-    one_call (DoesAnswer does) number old new other answer reply (one_answering does (connection_at number old.host))
+one_said : (app : Application) (said : Said) (does : Option Sent) (old one other : Connection) (act reply : Acted) → DoesAnswer app said does old act one → refused_at (answer_acted act) ≡ None
+    → DoesAnswer app said does old reply other → refused_at (answer_acted reply) ≡ None → (act ≡ reply) × (one ≡ other)
+one_said app said does old one other act reply is none also other_none =
+    one_answering does old one other act reply (by_answer app said does old act one is) none (by_answer app said does old reply other also) other_none
+
+one_answer : (app : Application) (said : Said) (does : Option Sent) (number : ℕ) (old new other : ByteWorld) (answer reply : Stepped) → OnConnection (DoesAnswer app said does) number old answer new
+    → refused_at answer ≡ None → OnConnection (DoesAnswer app said does) number old reply other → refused_at reply ≡ None → Alike answer reply new other
+one_answer app said does number old new other answer reply =
+    one_call (DoesAnswer app said does) number old new other answer reply (one_said app said does (connection_at number old.host))
 
 one_connection : (terminal : ℕ) (wanted : Option (List ℕ)) (number : ℕ) (old new other : ByteWorld) (answer reply : Stepped) → Connects terminal wanted number old answer new
     → refused_at answer ≡ None → Connects terminal wanted number old reply other → refused_at reply ≡ None → Alike answer reply new other
@@ -345,7 +351,7 @@ module _ (one_host : OneHost) (one_terminal : OneTerminal) where
   one_happening (event.Act number) old new other answer reply is none also other_none =
       one_act (acted_by (application_of old.host.panels) (service_at number old.host)) number old new other answer reply is none also other_none
   one_happening (event.Answer number ticket said) old new other answer reply is none also other_none =
-      one_answer (answered_by (application_of old.host.panels) (session_at number old.host) ticket said (service_at number old.host)) number old new other answer reply is none also other_none
+      one_answer (application_of old.host.panels) said (answered_by (application_of old.host.panels) (session_at number old.host) ticket said (service_at number old.host)) number old new other answer reply is none also other_none
   one_happening (event.Note number text) old new other answer reply is none also other_none =
       one_act (noted_by text (service_at number old.host)) number old new other answer reply is none also other_none
   one_happening (event.KeepAlive number) old new other answer reply is none also other_none = one_made _ new other answer reply is also

@@ -21,7 +21,7 @@ use Rattle.shadow.specs.declared.fault.HeardFault.{HeardFault}
 use Rattle.tn3270e_msg.specs.HostTable.{host_transition}
 use Rattle.tn3270e_msg.specs.Talk.{Talk, follow, says}
 use Rattle.tn3270e_msg.specs.declared.cause.Cause.{Cause}
-use Rattle.tn3270e_msg.specs.declared.cause.Cause.TheVariants.{Negative}
+use Rattle.tn3270e_msg.specs.declared.cause.Cause.TheVariants.{BadInbound, Negative}
 use Rattle.tn3270e_msg.specs.declared.host_talk.HostState.{HostState}
 use Rattle.tn3270e_msg.specs.declared.host_talk.HostState.TheVariants.{Offered, Asked, Asking, Named, Countered, Agreed, Closed}
 use Rattle.tn3270e_msg.specs.declared.reply.Reason.{Reason}
@@ -37,7 +37,7 @@ use Rattle.host_core.specs.declared.turn_reason.TurnReason.{TurnReason}
 use Rattle.host_core.specs.declared.turn_reason.TurnReason.TheVariants as turn_reasons
 use Rattle.host_core.specs.Session.{Conn, Pending, is_agreed}
 use Rattle.host_core.specs.Rejections.{lu_asked}
-use Rattle.host_core.specs.Takes.{Answers, HostStep, quiet, closed_by, asked, talked_on, hears, believed, once_read, buffer_came, key_came, key_data_came, data_came, refused, write_refused, if_answers, verdict_came, read_verdict_came, response_came, once_agreed, took as host_took}
+use Rattle.host_core.specs.Takes.{Answers, HostStep, quiet, closed_by, asked, talked_on, hears, believed, once_read, buffer_came, key_came, key_data_came, data_came, refused, write_refused, if_answers, verdict_came, read_verdict_came, response_came, once_agreed, second_key, second_key_data, out_of_turn, may_have_changed, took as host_took}
 use Rattle.host_core.specs.Questions.{answered_on}
 use Rattle.world3270.specs.Always.{Always}
 use Rattle.world3270.specs.Given.{Given}
@@ -86,7 +86,7 @@ term_saw_link world terminal number (Place.Alone display) e = refl
 
 joined_link : (app : Application) (world : World) (terminal number : ℕ) (model : Model) (wanted : Option (List ℕ)) (free : Option ℕ) → is_found number free ≡ false → (joined app terminal model wanted free world).link number ≡ world.link number
 joined_link app world terminal number model wanted None e = refl
-joined_link app world terminal number model wanted (Some found) e = with_other found number (begun app model terminal wanted) world.link (differs number found e)
+joined_link app world terminal number model wanted (Some found) e = with_other found number (begun app world.serves model terminal wanted) world.link (differs number found e)
 
 term_anew_link : (app : Application) (world : World) (terminal number : ℕ) (place : Place) → is_at number place ≡ false → (term_anew app terminal place world).link number ≡ world.link number
 term_anew_link app world terminal number (Place.At at) e = with_other at number (term_left (world.link at)) world.link (differs number at e)
@@ -164,16 +164,38 @@ key_data_grants parts Modified conn = key_grants parts parts.aid conn
 key_data_grants parts AllModified conn = refl
 key_data_grants parts Buffer conn = refl
 
+second_key_grants : (aid : Aid) (pending : Pending) (conn : Conn) → (second_key aid pending conn).grants ≡ None
+second_key_grants NoAid pending conn = refl
+second_key_grants Enter pending conn = refl
+second_key_grants Clear Pending.Nothing conn = refl
+second_key_grants Clear (Pending.Writing number command) conn = refl
+second_key_grants Clear (Pending.Reading number) conn = refl
+second_key_grants Clear (Pending.Noting number command) conn = refl
+second_key_grants (Pf key) pending conn = refl
+second_key_grants (Pa key) pending conn = refl
+
+second_key_data_grants : (parts : InboundParts) (form : Form) (conn : Conn) → (second_key_data parts form conn).grants ≡ None
+second_key_data_grants parts Modified conn = second_key_grants parts.aid conn.pending conn
+second_key_data_grants parts AllModified conn = refl
+second_key_data_grants parts Buffer conn = refl
+
+out_of_turn_grants : (parts : InboundParts) (conn : Conn) → (out_of_turn parts conn).grants ≡ None
+out_of_turn_grants parts conn = by_test (may_have_changed conn.unheard)
+  where
+    by_test : (b : Bool) → HostStep.grants (if b then second_key_data parts parts.form conn else closed_by BadInbound conn) ≡ None
+    by_test true = second_key_data_grants parts parts.form conn
+    by_test false = refl
+
 buffer_grants : (parts : InboundParts) (form : Form) (conn : Conn) → (buffer_came parts form conn).grants ≡ None
 buffer_grants parts Buffer conn = believed_grants (once_read conn.turn_reason) Pending.Nothing parts.cursor conn (hears parts conn)
-buffer_grants parts Modified conn = refl
-buffer_grants parts AllModified conn = refl
+buffer_grants parts Modified conn = out_of_turn_grants parts conn
+buffer_grants parts AllModified conn = out_of_turn_grants parts conn
 
 data_grants : (parts : InboundParts) (turn : Turn) (pending : Pending) (conn : Conn) → (data_came parts turn pending conn).grants ≡ None
 data_grants parts turn (Pending.Reading number) conn = buffer_grants parts parts.form conn
-data_grants parts turn (Pending.Writing number command) conn = refl
-data_grants parts whose.Host Pending.Nothing conn = refl
-data_grants parts whose.Host (Pending.Noting number command) conn = refl
+data_grants parts turn (Pending.Writing number command) conn = out_of_turn_grants parts conn
+data_grants parts whose.Host Pending.Nothing conn = out_of_turn_grants parts conn
+data_grants parts whose.Host (Pending.Noting number command) conn = out_of_turn_grants parts conn
 data_grants parts whose.Terminal Pending.Nothing conn = key_data_grants parts parts.form conn
 data_grants parts whose.Terminal (Pending.Noting number command) conn = key_data_grants parts parts.form conn
 
@@ -341,5 +363,5 @@ holders_stay given app event world number lu sound e = by_test (has_place app ev
     by_test false = same_holder world.pool world.pool number lu refl
 
 pub pool_is_sound : Given → Always PoolIsSound
-pool_is_sound given app pool models events is lists few are =
-    (run_good given app is events (new_world app pool models) are (new_good given app is pool models lists)).sound
+pool_is_sound given app serves pool models events is lists few are =
+    (run_good given app is events (new_world app serves pool models) are (new_good given app is serves pool models lists)).sound

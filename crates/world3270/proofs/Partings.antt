@@ -154,9 +154,11 @@ module _ (number : ℕ) (old : ByteWorld) (was : World) (agree : EndsAgree was) 
           links = λ other differs. with_other number other (link_cut (was.link number)) was.link differs;
           places = λ other differs. refl;
           connection_count = refl;
+          serves = refl;
           way_count = length-set old.links number (lost_transits number old);
           slot_count = refl;
           terminals = refl;
+          world_serves = refl;
           pool = stands.pool;
           before = beyond_is_alone number old was stands;
           behind = beyond_is_alone number old was stands;
@@ -201,9 +203,11 @@ module _ (number : ℕ) (old : ByteWorld) (was : World) (agree : EndsAgree was) 
           links = λ other differs. with_other number other (host_left (was.link number)) was.link differs;
           places = λ other differs. refl;
           connection_count = length-set old.host.connections number unused;
+          serves = refl;
           way_count = length-set old.links number host_transits;
           slot_count = refl;
           terminals = refl;
+          world_serves = refl;
           pool = ap (given_back number) stands.pool;
           before = beyond_is_alone number old was stands;
           behind = beyond_is_alone number old was stands;
@@ -251,9 +255,11 @@ module _ (number : ℕ) (old : ByteWorld) (was : World) (agree : EndsAgree was) 
           links = λ other differs. with_other number other (term_left (was.link number)) was.link differs;
           places = λ other differs. with_other terminal other (Place.Alone display) was.place differs;
           connection_count = refl;
+          serves = refl;
           way_count = length-set old.links number (terminal_transits terminal);
           slot_count = length-set old.slots terminal slot;
           terminals = refl;
+          world_serves = refl;
           pool = stands.pool;
           before = subst (λ (p : Place). IsHere number p) (sym at) refl;
           behind = subst (λ (p : Place). IsHere number p) (sym goes) tt;

@@ -168,7 +168,7 @@ term_anew_agrees app world terminal (Place.Alone display) e a = alone_changed wo
 -- ---- connections
 
 -- what is found passes
-found_passes : {X : Type 0} (p : X → Bool) (xs : List X) (x : X) → find p xs ≡ Some x → p x ≡ true
+pub found_passes : {X : Type 0} (p : X → Bool) (xs : List X) (x : X) → find p xs ≡ Some x → p x ≡ true
 found_passes p [] x e = absurd (cc)
 found_passes p (y ∷ ys) x e = by_test (p y) refl e (found_passes p ys x)
   where
@@ -186,8 +186,8 @@ joined_agrees : (app : Application) (world : World) (terminal : ℕ) (model : Mo
 joined_agrees app world terminal model wanted None display e is a = a
 joined_agrees app world terminal model wanted (Some number) display e is a =
     let free = found_passes (λ n. is_free (world.link n)) (range_with_len 0 link_count) number e in
-    moved world.link world.place terminal number (begun app model terminal wanted) (Place.At number) a
-    (joins world.link world.place terminal number (begun app model terminal wanted) display is (nobody_there (world.link number).host_here (world.link number).term_here free) refl a)
+    moved world.link world.place terminal number (begun app world.serves model terminal wanted) (Place.At number) a
+    (joins world.link world.place terminal number (begun app world.serves model terminal wanted) display is (nobody_there (world.link number).host_here (world.link number).term_here free) refl a)
 
 joins_agrees : (app : Application) (world : World) (terminal : ℕ) (model : Model) (wanted : Option (List ℕ)) (place : Place) → may_connect world place ≡ true → world.place terminal ≡ place → EndsAgree world
     → EndsAgree (joined app terminal model wanted (free_number world.link) world)
@@ -223,4 +223,4 @@ run_agrees app [] world a = a
 run_agrees app (event ∷ events) world a = run_agrees app events (happens app event world) (happens_agrees app event world a)
 
 pub ends_agree : Always EndsAgree
-ends_agree app pool models events is lists few are = run_agrees app events (new_world app pool models) (λ terminal number. (λ e. absurd (cc), λ e. absurd (cc)))
+ends_agree app serves pool models events is lists few are = run_agrees app events (new_world app serves pool models) (λ terminal number. (λ e. absurd (cc), λ e. absurd (cc)))

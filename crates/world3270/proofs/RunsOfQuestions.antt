@@ -1,12 +1,16 @@
 -- The run of the example in which the application is asked, computed.
-use Rattle.std.proofs.Common.{◌≡◌, List, [], ◌∷◌, ◌++◌, Some, refl}
+use Rattle.std.proofs.Common.{◌≡◌, ◌==◌, lit≤, ap, Bool, true, false, List, [], ◌∷◌, ◌++◌, Some, refl}
+use Rattle.codes3270.specs.declared.attribute.Cell.{Cell}
+use Rattle.codes3270.specs.declared.attribute.Cell.TheVariants.{Char, Attr}
+use Rattle.host_core.specs.Application.{message_place}
 use Rattle.keyboard.specs.Places.{onward, backward}
 use Rattle.keyboard.specs.declared.key.Key.TheVariants as key
 use Rattle.tn3270e_msg.specs.Device.{device_of}
+use Rattle.world3270.specs.AsLeft.{ProtectedIsAsLeft}
 use Rattle.world3270.specs.ExampleApplication.{small, tall}
 use Rattle.world3270.specs.ExampleEnds.{settle, presses, after, end_on, bound_and_shows}
-use Rattle.world3270.specs.ExampleQuestions.{asked_entry, again, answered_again, renamed, answered_on, asked_in, question, kept_sign_on, AskingRun}
-use Rattle.world3270.specs.ExampleScreens.{greeting_seen}
+use Rattle.world3270.specs.ExampleQuestions.{another_sign_on, asked_entry, again, answered_again, left_on, renamed, answered_on, asked_in, question, kept_sign_on, AskingRun}
+use Rattle.world3270.specs.ExampleScreens.{fresh_sign_on, greeting_seen}
 use Rattle.world3270.specs.World.{Event}
 use Rattle.world3270.proofs.ExampleGiven.{is_well_formed, is_well_noted, are_events}
 use Rattle.world3270.proofs.SignedOn.{request_taken, agreement_taken, acted_on, agree, start, asks, signed, once_signed}
@@ -24,6 +28,18 @@ asks_it : asked_in 7 (after asked_entry) ≡ Some question
 unfolding start asks signed acted_on agree request_taken agreement_taken device_of onward backward
 asks_it = once_signed (asked_in 7) enters (Some question) refl
 
+left_it : left_on (after asked_entry) ≡ fresh_sign_on
+unfolding start asks signed acted_on agree request_taken agreement_taken device_of onward backward
+left_it = once_signed left_on enters fresh_sign_on refl
+
+-- its first letter differs
+abbrev is_c : Cell → Bool
+is_c (Char byte) = byte == 0xC3
+is_c (Attr attribute) = false
+
+no_other : ProtectedIsAsLeft (message_place small) fresh_sign_on.cells another_sign_on → ⊥
+no_other is = absurd (let same : true ≡ false = ap is_c (is.cells 1 (lit≤ tt) refl) in cc)
+
 keeps_it : end_on 0 (after answered_again) ≡ bound_and_shows small kept_sign_on
 unfolding start asks signed acted_on agree request_taken agreement_taken device_of onward backward
 keeps_it = once_signed (end_on 0) keeps (bound_and_shows small kept_sign_on) refl
@@ -34,4 +50,4 @@ shows_it = once_signed (end_on 0) renames (bound_and_shows tall (greeting_seen (
 
 pub asking_run : AskingRun
 unfolding is_well_formed is_well_noted
-asking_run = record { are_events = are_events answered_on refl; asked = asks_it; kept = keeps_it; answered = shows_it }
+asking_run = record { are_events = are_events answered_on refl; asked = asks_it; left = left_it; no_other = no_other; kept = keeps_it; answered = shows_it }

@@ -21,6 +21,7 @@ use Rattle.host_core.specs.Messages.{ToTerminal, ToHost}
 use Rattle.host_core.specs.Notes.{noted}
 use Rattle.host_core.specs.Takes.{HostStep, pool_after, took as host_took}
 use Rattle.host_core.specs.Questions.{answered_on}
+use Rattle.host_core.specs.declared.terminals.Terminals.{Terminals}
 use Rattle.world3270.specs.Happens.{closed_if, said, came_up, place_after, came_down, went_down, key_went, term_saw, joined, term_anew, host_left_from, done, happens, run}
 use Rattle.world3270.specs.Link.{Link, sent as sent_on, host_left, host_left_if, host_stepped, host_sent, term_left, term_left_if, term_stepped, begun}
 use Rattle.world3270.specs.Placed.{has_place, free_number}
@@ -189,7 +190,7 @@ anew_named app world terminal (Place.Alone display) h = h
 joined_named : (app : Application) (world : World) (terminal : ℕ) (model : Model) (wanted : Option (List ℕ)) (free : Option ℕ) → IsLuIfSome wanted → AreNamed world.link
     → AreNamed (joined app terminal model wanted free world).link
 joined_named app world terminal model wanted None is h = h
-joined_named app world terminal model wanted (Some number) is h = changed number (begun app model terminal wanted) world.link (record { wanted = is; up = tt }) h
+joined_named app world terminal model wanted (Some number) is h = changed number (begun app world.serves model terminal wanted) world.link (record { wanted = is; up = tt }) h
 
 done_named : (app : Application) (event : Event) (world : World) → IsEvent event → AreNamed world.link → AreNamed (done app event world).link
 done_named app (Event.Press terminal key) world is h = key_named world terminal key (world.place terminal) h
@@ -225,7 +226,7 @@ run_named app [] world are h = h
 run_named app (event ∷ events) world are h = run_named app events (happens app event world) are.1 (happens_named app event world are.0 h)
 
 -- Whatever comes up is said so, in any world that a list of events leads to.
-pub all_said_up : (app : Application) (pool : List Entry) (models : List Model) (events : List Event) → AreEvents events
-    → (number : ℕ) → AllByRecursion IsSaidUp ((run app events (new_world app pool models)).link number).up
-all_said_up app pool models events are number =
-    (run_named app events (new_world app pool models) are (λ other. record { wanted = tt; up = tt }) number).up
+pub all_said_up : (app : Application) (serves : Terminals) (pool : List Entry) (models : List Model) (events : List Event) → AreEvents events
+    → (number : ℕ) → AllByRecursion IsSaidUp ((run app events (new_world app serves pool models)).link number).up
+all_said_up app serves pool models events are number =
+    (run_named app events (new_world app serves pool models) are (λ other. record { wanted = tt; up = tt }) number).up

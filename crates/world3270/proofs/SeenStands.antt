@@ -42,8 +42,8 @@ host_part (Service.Open rest held) false conn is there same = absurd (cc)
 host_part (Service.Closed cause) here conn is there same = absurd is
 
 -- the terminal's end with these parts
-abbrev seen_as : ℕ → Option (List ℕ) → Screen → Screen → Bool → TerminalSeen
-seen_as number bound screen left erased = record { number = number; bound = bound; screen = screen; last_restored = left; erased = erased }
+abbrev seen_as : ℕ → Option (List ℕ) → (screen left before : Screen) → Bool → TerminalSeen
+seen_as number bound screen left before erased = record { number = number; bound = bound; screen = screen; last_restored = left; before_restored = before; erased = erased }
 
 -- a connection with these parts
 abbrev linked : Bool → Option HostSeen → Option TerminalSeen → SeenLink
@@ -62,10 +62,11 @@ module _ (bytes : ByteWorld) (world : World) (stands : WorldStands bytes world) 
       ap (λ (l : Attachment). bound_of (phase_of l)) term.holds.attached ∙ same_bound term.holds.talk.talk.state
       ∙ ap (λ (t : Term). bound_to t.talk.state) end.talk_is in
       let same : tracked_seen terminal tracked ≡ end_seen terminal link.term =
-      ap (λ (b : Option (List ℕ)). seen_as terminal b tracked.terminal.station.screen.screen tracked.history.last_restored tracked.history.erased) bound
-      ∙ ap (λ (s : SizedScreen). seen_as terminal (bound_to link.term.talk.talk.state) s.screen tracked.history.last_restored tracked.history.erased) end.screen_is
-      ∙ ap (λ (s : Screen). seen_as terminal (bound_to link.term.talk.talk.state) link.term.display.screen s tracked.history.erased) end.last_restored_is
-      ∙ ap (λ (e : Bool). seen_as terminal (bound_to link.term.talk.talk.state) link.term.display.screen link.term.display.last_restored e) end.erased_is in
+      ap (λ (b : Option (List ℕ)). seen_as terminal b tracked.terminal.station.screen.screen tracked.history.last_restored tracked.history.before_restored tracked.history.erased) bound
+      ∙ ap (λ (s : SizedScreen). seen_as terminal (bound_to link.term.talk.talk.state) s.screen tracked.history.last_restored tracked.history.before_restored tracked.history.erased) end.screen_is
+      ∙ ap (λ (s : Screen). seen_as terminal (bound_to link.term.talk.talk.state) link.term.display.screen s tracked.history.before_restored tracked.history.erased) end.last_restored_is
+      ∙ ap (λ (s : Screen). seen_as terminal (bound_to link.term.talk.talk.state) link.term.display.screen link.term.display.last_restored s tracked.history.erased) end.before_restored_is
+      ∙ ap (λ (e : Bool). seen_as terminal (bound_to link.term.talk.talk.state) link.term.display.screen link.term.display.last_restored link.term.display.before_restored e) end.erased_is in
       ap (λ (t : TerminalSeen). Some t) same ∙ ap (λ (h : Option ℕ). terminal_seen h link.term) is.term_here
 
   -- A connection over bytes is seen as the one over messages that it represents.
@@ -80,6 +81,19 @@ module _ (bytes : ByteWorld) (world : World) (stands : WorldStands bytes world) 
       ap (λ (l : Bool). linked l (service_seen (service_at number bytes.host)) (attached_seen (terminal_at number bytes.slots) bytes)) is.lost
       ∙ ap (λ (h : Option HostSeen). linked link.lost h (attached_seen (terminal_at number bytes.slots) bytes)) host
       ∙ ap (λ (t : Option TerminalSeen). linked link.lost (host_seen link.host_here link.host) t) terminal
+
+  -- The screen of a terminal that is seen has the size of the one over messages.
+  pub size_seen : (number : ℕ) (terminal : TerminalSeen) → (seen_connection number bytes).terminal ≡ Some terminal
+      → (slot_at terminal.number bytes).tracked.terminal.station.screen.size ≡ (world.link number).term.display.shape
+  size_seen number terminal found = by_slot (terminal_at number bytes.slots) (stands.links number) found
+    where
+      by_slot : (here : Option ℕ) → LinkStands (link_with here number bytes) (world.link number) → attached_seen here bytes ≡ Some terminal
+          → (slot_at terminal.number bytes).tracked.terminal.station.screen.size ≡ (world.link number).term.display.shape
+      by_slot None is found = absurd (cc)
+      by_slot (Some slot) is found =
+          let same : tracked_seen slot (slot_at slot bytes).tracked ≡ terminal = let both : Some (tracked_seen slot (slot_at slot bytes).tracked) ≡ Some terminal = found in cc in
+          ap (λ (t : TerminalSeen). (slot_at t.number bytes).tracked.terminal.station.screen.size) (sym same)
+          ∙ ap (λ (s : SizedScreen). s.size) (is.term slot (sym is.term_here)).holds.is_end.screen_is
 
   live_seen : (number : ℕ) (lu : List ℕ) → IsLive (seen_connection number bytes) lu → IsLive (seen_link (world.link number)) lu
   live_seen number lu live = subst (λ (l : SeenLink). IsLive l lu) (same_seen number) live

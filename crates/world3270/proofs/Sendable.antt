@@ -52,7 +52,7 @@ use Rattle.shadow.specs.Meets.{Holds, FieldMeets, Meets, told}
 use Rattle.shadow.specs.Painted.{keeps_ahead, attr_or_kept, cells_under, painted_from, plainly_painted}
 use Rattle.shadow.specs.Pairs.{Pairwise}
 use Rattle.tn3270e_msg.specs.declared.cause.Cause.{Cause}
-use Rattle.host_core.specs.Acts.{Act, Decision, Sent, text_known, learned, first_missing, is_to_be_read, unless_missing, once_filled_in, led, after_key as after_the_key, decided, decision_on, wanted_by, done, may_act, acted}
+use Rattle.host_core.specs.Acts.{Act, Decision, Sent, text_known, learned, first_missing, is_to_be_read, unless_missing, once_filled_in, led, after_key as after_the_key, decided, decision_on, wanted_by, done, may_act, acted, when_shown}
 use Rattle.host_core.specs.Application.{Application, IsShape, IsApplication, AsksForScreens, AreTexts}
 use Rattle.host_core.specs.Messages.{ToTerminal, ToHost, Verdict}
 use Rattle.host_core.specs.NoteLaws.{TakesNotes, IsProperNote}
@@ -63,6 +63,7 @@ use Rattle.host_core.specs.declared.turn_reason.TurnReason.{TurnReason}
 use Rattle.host_core.specs.declared.turn_reason.TurnReason.TheVariants as turn_reasons
 use Rattle.host_core.specs.Session.{Conn, Pending, is_agreed, model_in}
 use Rattle.host_core.specs.Takes.{HostStep, took as host_took}
+use Rattle.host_core.specs.declared.terminals.Terminals.{Terminals}
 use Rattle.world3270.specs.Given.{Given}
 use Rattle.world3270.specs.Happens.{run}
 use Rattle.world3270.specs.Link.{Link, host_left_if, host_sent}
@@ -103,8 +104,8 @@ key_size given app key display h =
 
 size_steps : Given → (app : Application) → IsApplication app → Steps app (λ event. ⊤) (λ link. ⊤) (λ display. HasASize app display)
 size_steps given app is = record {
-  never = tt;
-  begins = λ model terminal wanted. tt;
+  never = λ serves. tt;
+  begins = λ serves model terminal wanted. tt;
   up = λ pool link message rest e k h. tt;
   acts = λ link k h. tt;
   answers = λ number said link such k h. tt;
@@ -125,10 +126,10 @@ size_in_place app world (Place.At number) kept is = link_size app (world.link nu
 size_in_place app world (Place.Alone display) kept is = is
 
 pub screens_have_a_size : Given → AlwaysOf ScreensHaveASize
-screens_have_a_size given app pool models events is lists few are terminal =
-    let world : World = run app events (new_world app pool models) in
-    let g = run_good given app is events (new_world app pool models) are (new_good given app is pool models lists) in
-    let all = everywhere given app is (λ event. ⊤) (λ link. ⊤) (λ display. HasASize app display) (size_steps given app is) pool models events lists are (λ k d below. tt) in
+screens_have_a_size given app serves pool models events is lists few are terminal =
+    let world : World = run app events (new_world app serves pool models) in
+    let g = run_good given app is events (new_world app serves pool models) are (new_good given app is serves pool models lists) in
+    let all = everywhere given app is (λ event. ⊤) (λ link. ⊤) (λ display. HasASize app display) (size_steps given app is) serves pool models events lists are (λ k d below. tt) in
     size_in_place app world (world.place terminal) g.links (all.places terminal)
 
 -- ---- a note that comes down
@@ -336,7 +337,7 @@ record SendsTexts (sending : Sent) : Type 0 where
 
 done_texts : (app : Application) (conn : Conn) (act : Act) → AsksForScreens app → AreTexts conn.values → ActsOnTexts act → SendsTexts (done app conn act)
 done_texts app conn Act.Read asks texts is = record { message = tt; values = texts }
-done_texts app conn (Act.Show panel message keep values) asks texts is = record { message = wanted_is app conn (app.shown (model_in conn) panel) message keep values asks is; values = is }
+done_texts app conn (Act.Show panel message keep values) asks texts is = record { message = wanted_is app (when_shown conn) (app.shown (model_in conn) panel) message keep values asks is; values = is }
 
 -- a blank screen takes any note
 blank_chars : (cells : ℕ) → list_all is_char (replicate cells (CharCell 0)) ≡ true
@@ -503,8 +504,8 @@ all_typed (event ∷ events) are typed =
 
 steps : SentIsRead → Given → (app : Application) → IsApplication app → AsksForScreens app → Steps app IsTypedEvent CanSend (λ display. IsSendable display.screen)
 steps read given app is asks = record {
-  never = record { screen = blank_sendable M2 app.begins is.begins; spelt = All-nil CanBeSpelt; writes = All-nil IsWritten; values = All-nil AreCharacters };
-  begins = λ model terminal wanted. record { screen = blank_sendable model app.begins is.begins; spelt = All-nil CanBeSpelt; writes = All-cons IsWritten _ [] tt (All-nil IsWritten); values = All-nil AreCharacters };
+  never = λ serves. record { screen = blank_sendable M2 app.begins is.begins; spelt = All-nil CanBeSpelt; writes = All-nil IsWritten; values = All-nil AreCharacters };
+  begins = λ serves model terminal wanted. record { screen = blank_sendable model app.begins is.begins; spelt = All-nil CanBeSpelt; writes = All-cons IsWritten _ [] tt (All-nil IsWritten); values = All-nil AreCharacters };
   up = λ pool link message rest e k c.
       let step : HostStep = host_took pool link.host message in
       let just = just_talks pool link.host message in
@@ -556,25 +557,25 @@ in_place world (Place.At number) can is = (can number).screen
 in_place world (Place.Alone display) can is = is
 
 -- of each connection and each display
-all_can : SentIsRead → Given → (app : Application) (pool : List Entry) (models : List Model) (events : List Event)
+all_can : SentIsRead → Given → (app : Application) (serves : Terminals) (pool : List Entry) (models : List Model) (events : List Event)
     → IsApplication app → AsksForScreens app → IsPool pool → length models ≤ 16 → AreEvents events → All IsTyped events
-    → let world = run app events (new_world app pool models) in Everywhere CanSend (λ display. IsSendable display.screen) world.link world.place
-all_can read given app pool models events is asks lists few are typed =
-    everywhere given app is IsTypedEvent CanSend (λ display. IsSendable display.screen) (steps read given app is asks) pool models events lists are (all_typed events are typed)
+    → let world = run app events (new_world app serves pool models) in Everywhere CanSend (λ display. IsSendable display.screen) world.link world.place
+all_can read given app serves pool models events is asks lists few are typed =
+    everywhere given app is IsTypedEvent CanSend (λ display. IsSendable display.screen) (steps read given app is asks) serves pool models events lists are (all_typed events are typed)
 
 pub screens_are_sendable : SentIsRead → Given → AlwaysTyped ScreensAreSendable
-screens_are_sendable read given app pool models events is asks lists few are typed terminal =
-    let world : World = run app events (new_world app pool models) in
-    let all = all_can read given app pool models events is asks lists few are typed in
-    let keeps = screens_have_a_size given app pool models events is lists few are terminal in
+screens_are_sendable read given app serves pool models events is asks lists few are typed terminal =
+    let world : World = run app events (new_world app serves pool models) in
+    let all = all_can read given app serves pool models events is asks lists few are typed in
+    let keeps = screens_have_a_size given app serves pool models events is lists few are terminal in
     record {
       sendable = in_place world (world.place terminal) all.links (all.places terminal);
       whole = keeps.whole;
     }
 
 pub data_can_be_spelt : SentIsRead → Given → AlwaysTyped DataCanBeSpelt
-data_can_be_spelt read given app pool models events is asks lists few are typed number =
-    ((all_can read given app pool models events is asks lists few are typed).links number).spelt
+data_can_be_spelt read given app serves pool models events is asks lists few are typed number =
+    ((all_can read given app serves pool models events is asks lists few are typed).links number).spelt
 
 -- what holds of each message that is written holds of all of them
 each_written : (P : ToTerminal → Type 0) → ((message : ToTerminal) → IsWritten message → P message) → (messages : List ToTerminal) → All IsWritten messages → All P messages
@@ -589,9 +590,9 @@ paints_a_screen (ToTerminal.ReadBuffer number) written = tt
 paints_a_screen (ToTerminal.Note number command) written = tt
 
 pub paints_are_screens : SentIsRead → Given → AlwaysTyped PaintsAreScreens
-paints_are_screens read given app pool models events is asks lists few are typed number =
-    let all = all_can read given app pool models events is asks lists few are typed in
-    each_written PaintsAScreen paints_a_screen ((run app events (new_world app pool models)).link number).down (all.links number).writes
+paints_are_screens read given app serves pool models events is asks lists few are typed number =
+    let all = all_can read given app serves pool models events is asks lists few are typed in
+    each_written PaintsAScreen paints_a_screen ((run app events (new_world app serves pool models)).link number).down (all.links number).writes
 
 message_spelt : PaintIsSpelt → (message : ToTerminal) → IsWritten message → IsSpelt message
 message_spelt law (ToTerminal.TalksDown saying) written = tt
@@ -601,10 +602,10 @@ message_spelt law (ToTerminal.ReadBuffer number) written = tt
 message_spelt law (ToTerminal.Note number command) written = written.1
 
 pub paints_are_spelt : SentIsRead → Given → AlwaysTyped PaintsAreSpelt
-paints_are_spelt read given app pool models events is asks lists few are typed number =
-    let all = all_can read given app pool models events is asks lists few are typed in
-    each_written IsSpelt (message_spelt given.belief.spelt) ((run app events (new_world app pool models)).link number).down (all.links number).writes
+paints_are_spelt read given app serves pool models events is asks lists few are typed number =
+    let all = all_can read given app serves pool models events is asks lists few are typed in
+    each_written IsSpelt (message_spelt given.belief.spelt) ((run app events (new_world app serves pool models)).link number).down (all.links number).writes
 
 pub values_are_texts : SentIsRead → Given → AlwaysTyped ValuesAreTexts
-values_are_texts read given app pool models events is asks lists few are typed number =
-    ((all_can read given app pool models events is asks lists few are typed).links number).values
+values_are_texts read given app serves pool models events is asks lists few are typed number =
+    ((all_can read given app serves pool models events is asks lists few are typed).links number).values

@@ -22,6 +22,7 @@ use Rattle.host_core.specs.Messages.{ToTerminal, ToHost}
 use Rattle.host_core.specs.declared.turn.Turn.{Turn}
 use Rattle.host_core.specs.declared.turn.Turn.TheVariants as whose
 use Rattle.host_core.specs.Takes.{talked_on}
+use Rattle.host_core.specs.declared.terminals.Terminals.TheVariants.{Waiting as WaitingTerminals}
 use Rattle.world3270.specs.ExampleApplication.{example, l1, example_pool}
 use Rattle.world3270.specs.ExampleEnds.{rounds, connects, connected, after, Decides}
 use Rattle.world3270.specs.Happens.{happens, run, host_took_it, came_up, term_took_it, came_down, went_down}
@@ -94,7 +95,7 @@ agreeing app before rest world is after_it = runs_compose app before (rounds 0 1
 
 -- the example from its begin
 unfoldable pub start : World
-start = new_world example example_pool (M5 ∷ [])
+start = new_world example WaitingTerminals example_pool (M5 ∷ [])
 
 unfoldable pub asks : List Event
 asks = connects ++ rounds 0 3

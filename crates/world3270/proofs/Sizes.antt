@@ -38,7 +38,7 @@ agree app link k = record {
 }
 
 pub all_sizes_agree : Given → AlwaysOf AllSizesAgree
-all_sizes_agree given app pool models events is lists few are number =
-    let world : World = run app events (new_world app pool models) in
-    let g = run_good given app is events (new_world app pool models) are (new_good given app is pool models lists) in
+all_sizes_agree given app serves pool models events is lists few are number =
+    let world : World = run app events (new_world app serves pool models) in
+    let g = run_good given app is events (new_world app serves pool models) are (new_good given app is serves pool models lists) in
     agree app (world.link number) (g.links number)

@@ -19,15 +19,16 @@ use Rattle.tn3270e_msg.specs.declared.cause.Stop.{Stop}
 use Rattle.tn3270e_msg.specs.declared.cause.Stop.TheVariants as stop
 use Rattle.world3270.specs.ByteWorld.{TerminalSlot}
 use Rattle.world3270.specs.InFlight.{IsSoundSlot}
-use Rattle.world3270.specs.TrackedTerminals.{TrackedTerminal, TrackedTakes, TrackedTakesByte, marked}
+use Rattle.world3270.specs.TrackedTerminals.{TrackedTerminal, TrackedTakes, TrackedTakesByte, restored_by}
 
-abbrev begins_as : Terminal → Screen → Option ℕ → TerminalSlot
-begins_as terminal screen at = record { tracked = record { terminal = terminal; history = record { last_restored = screen; erased = false } }; at = at }
+abbrev begins_as : Terminal → (left before : Screen) → Option ℕ → TerminalSlot
+begins_as terminal left before at = record { tracked = record { terminal = terminal; history = record { last_restored = left; before_restored = before; erased = false } }; at = at }
 
-pub begun : (terminal begins : Terminal) (screen : SizedScreen) (model : Model) (at : Option ℕ) → terminal ≡ begins → screen ≡ blank_of model
-    → begins_as terminal screen.screen at ≡ begins_as begins (blank_screen (cells_in model_2)) at
-begun terminal begins screen model at same blank =
-    ap (λ (t : Terminal). begins_as t screen.screen at) same ∙ ap (λ (s : SizedScreen). begins_as begins s.screen at) blank
+pub begun : (terminal begins : Terminal) (left before : SizedScreen) (model : Model) (at : Option ℕ) → terminal ≡ begins → left ≡ blank_of model → before ≡ blank_of model
+    → begins_as terminal left.screen before.screen at ≡ begins_as begins (blank_screen (cells_in model_2)) (blank_screen (cells_in model_2)) at
+begun terminal begins left before model at same blank also =
+    ap (λ (t : Terminal). begins_as t left.screen before.screen at) same ∙ ap (λ (s : SizedScreen). begins_as begins s.screen before.screen at) blank
+    ∙ ap (λ (s : SizedScreen). begins_as begins (blank_screen (cells_in model_2)) s.screen at) also
 
 -- ---- a byte
 
@@ -54,21 +55,21 @@ closed_by old new byte zero cause attached few takes closed =
 closed_by old new byte (suc zero) cause attached few takes closed = one_taken old new byte 1 refl takes
 closed_by old new byte (suc (suc taken)) cause attached few takes closed = absurd (omega arith)
 
-pub byte_went_on : (room : ℕ) (old : TrackedTerminal) (terminal : Terminal) (byte : ℕ) (fed : Fed) (new : TrackedTerminal) → IsAttached old.terminal.link
+pub byte_went_on : (room : ℕ) (old : TrackedTerminal) (terminal : Terminal) (byte : ℕ) (fed : Fed) (new : TrackedTerminal) (before : Screen) → IsAttached old.terminal.link → before ≡ old.terminal.station.screen.screen
     → Feeds room old.terminal (byte ∷ []) fed terminal → fed.stop ≡ stop.Going
-    → new ≡ record { terminal = terminal; history = marked terminal.station old.history } → TrackedTakesByte old byte new × IsAttached new.terminal.link
-byte_went_on room old terminal byte fed new attached feeds going is =
+    → new ≡ record { terminal = terminal; history = restored_by terminal.station.took_write before terminal.station.screen.screen old.history } → TrackedTakesByte old byte new × IsAttached new.terminal.link
+byte_went_on room old terminal byte fed new before attached found feeds going is =
     let stops = subst (λ (s : Stop). StopsFor room s old.terminal (byte ∷ []) fed.taken terminal) going feeds.stops in
     let went = went_on room old.terminal terminal byte fed.taken attached feeds.takes stops in
-    subst (λ (s : TrackedTerminal). TrackedTakesByte old byte s × IsAttached s.terminal.link) (sym is) (record { takes = went.0; history = refl }, went.1)
+    subst (λ (s : TrackedTerminal). TrackedTakesByte old byte s × IsAttached s.terminal.link) (sym is) (record { takes = went.0; history = ap (λ (b : Screen). restored_by terminal.station.took_write b terminal.station.screen.screen old.history) found }, went.1)
 
-pub byte_closed : (room : ℕ) (old : TrackedTerminal) (terminal : Terminal) (byte : ℕ) (cause : Cause) (fed : Fed) (new : TrackedTerminal) → IsAttached old.terminal.link
+pub byte_closed : (room : ℕ) (old : TrackedTerminal) (terminal : Terminal) (byte : ℕ) (cause : Cause) (fed : Fed) (new : TrackedTerminal) (before : Screen) → IsAttached old.terminal.link → before ≡ old.terminal.station.screen.screen
     → Feeds room old.terminal (byte ∷ []) fed terminal → fed.stop ≡ stop.Closed cause
-    → new ≡ record { terminal = terminal; history = marked terminal.station old.history } → TrackedTakesByte old byte new × (new.terminal.link ≡ Closed cause)
-byte_closed room old terminal byte cause fed new attached feeds closed is =
+    → new ≡ record { terminal = terminal; history = restored_by terminal.station.took_write before terminal.station.screen.screen old.history } → TrackedTakesByte old byte new × (new.terminal.link ≡ Closed cause)
+byte_closed room old terminal byte cause fed new before attached found feeds closed is =
     let stops = subst (λ (s : Stop). StopsFor room s old.terminal (byte ∷ []) fed.taken terminal) closed feeds.stops in
     let took = closed_by old.terminal terminal byte fed.taken cause attached feeds.few feeds.takes stops in
-    subst (λ (s : TrackedTerminal). TrackedTakesByte old byte s × (s.terminal.link ≡ Closed cause)) (sym is) (record { takes = took; history = refl }, stops)
+    subst (λ (s : TrackedTerminal). TrackedTakesByte old byte s × (s.terminal.link ≡ Closed cause)) (sym is) (record { takes = took; history = ap (λ (b : Screen). restored_by terminal.station.took_write b terminal.station.screen.screen old.history) found }, stops)
 
 -- ---- the room of a terminal's output
 

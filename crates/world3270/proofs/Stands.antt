@@ -276,30 +276,45 @@ note_marks_nothing command note =
 -- what a write leaves is the screen behind it; else the history stays
 record Leaves (marks : Bool) (before after : Display) : Type 0 where
   last_restored : after.last_restored ≡ (if marks then after.screen else before.last_restored)
+  before_restored : after.before_restored ≡ (if marks then before.screen else before.before_restored)
   erased : after.erased ≡ (if marks then false else before.erased)
 
 leaves_painted : (bound : Bool) (number : ℕ) (wanted : WantedScreen) (end : TermEnd) → Leaves bound end.display (once_bound bound (paint_came number wanted end) end).end.display
-leaves_painted true number wanted end = record { last_restored = refl; erased = refl }
-leaves_painted false number wanted end = record { last_restored = refl; erased = refl }
+leaves_painted true number wanted end = record { last_restored = refl; before_restored = refl; erased = refl }
+leaves_painted false number wanted end = record { last_restored = refl; before_restored = refl; erased = refl }
 
 leaves_read : (bound : Bool) (end : TermEnd) → Leaves false end.display (once_bound bound (read_came end) end).end.display
-leaves_read true end = record { last_restored = refl; erased = refl }
-leaves_read false end = record { last_restored = refl; erased = refl }
+leaves_read true end = record { last_restored = refl; before_restored = refl; erased = refl }
+leaves_read false end = record { last_restored = refl; before_restored = refl; erased = refl }
 
 leaves_noted : (bound : Bool) (number : ℕ) (command : CommandParts) (end : TermEnd) → Leaves false end.display (once_bound bound (note_came number command end) end).end.display
-leaves_noted true number command end = record { last_restored = refl; erased = refl }
-leaves_noted false number command end = record { last_restored = refl; erased = refl }
+leaves_noted true number command end = record { last_restored = refl; before_restored = refl; erased = refl }
+leaves_noted false number command end = record { last_restored = refl; before_restored = refl; erased = refl }
 
 leaves : (message : ToTerminal) (end : TermEnd) → Leaves (is_painted end message) end.display (took end message).end.display
-leaves (ToTerminal.TalksDown saying) end = record { last_restored = refl; erased = refl }
+leaves (ToTerminal.TalksDown saying) end = record { last_restored = refl; before_restored = refl; erased = refl }
 leaves (ToTerminal.Paint number wanted believed) end = leaves_painted (is_bound end) number wanted end
 leaves (ToTerminal.ReadBuffer number) end = leaves_read (is_bound end) end
 leaves (ToTerminal.Note number command) end = leaves_noted (is_bound end) number command end
 
-same_restored : (marks : Bool) (station : Station) (old : History) (before after : Display) → old.last_restored ≡ before.last_restored → old.erased ≡ before.erased → station.screen.screen ≡ after.screen
-    → Leaves marks before after → ((restored_by marks station.screen.screen old).last_restored ≡ after.last_restored) × ((restored_by marks station.screen.screen old).erased ≡ after.erased)
-same_restored true station old before after left erased screen now = (screen ∙ sym now.last_restored, sym now.erased)
-same_restored false station old before after left erased screen now = (left ∙ sym now.last_restored, erased ∙ sym now.erased)
+-- the history of the display
+record IsHistory (history : History) (display : Display) : Type 0 where
+  last_restored : history.last_restored ≡ display.last_restored
+  before_restored : history.before_restored ≡ display.before_restored
+  erased : history.erased ≡ display.erased
+
+same_restored : (marks : Bool) (was station : Station) (old : History) (before after : Display) → IsHistory old before → was.screen.screen ≡ before.screen → station.screen.screen ≡ after.screen
+    → Leaves marks before after → IsHistory (restored_by marks was.screen.screen station.screen.screen old) after
+same_restored true was station old before after is found screen now = record {
+  last_restored = screen ∙ sym now.last_restored;
+  before_restored = found ∙ sym now.before_restored;
+  erased = sym now.erased;
+}
+same_restored false was station old before after is found screen now = record {
+  last_restored = is.last_restored ∙ sym now.last_restored;
+  before_restored = is.before_restored ∙ sym now.before_restored;
+  erased = is.erased ∙ sym now.erased;
+}
 
 and_true : (b : Bool) → (b && true) ≡ b
 and_true true = refl
@@ -464,17 +479,19 @@ module _ (sizes : MeetsIsOfSize) (one_header : OneHeader) (fault_or_header : Fau
   pub term_takes : SentIsRead → TermTakes
   term_takes reads message item old end step comes =
       let same = same_item reads message item old end step comes in
-      let history : step.end.history ≡ restored_by (is_painted end message) step.end.station.screen.screen old.history =
-      comes.takes.history ∙ ap (λ (w : Bool). restored_by w step.end.station.screen.screen old.history) same.wrote in
-      let left = same_restored (is_painted end message) step.end.station old.history end.display (took end message).end.display comes.is_end.last_restored_is comes.is_end.erased_is
-      (ap (λ (s : SizedScreen). s.screen) same.is_end.screen_is) (leaves message end) in
+      let history : step.end.history ≡ restored_by (is_painted end message) old.station.screen.screen step.end.station.screen.screen old.history =
+      comes.takes.history ∙ ap (λ (w : Bool). restored_by w old.station.screen.screen step.end.station.screen.screen old.history) same.wrote in
+      let left = same_restored (is_painted end message) old.station step.end.station old.history end.display (took end message).end.display
+      (record { last_restored = comes.is_end.last_restored_is; before_restored = comes.is_end.before_restored_is; erased = comes.is_end.erased_is })
+      (ap (λ (s : SizedScreen). s.screen) comes.is_end.screen_is) (ap (λ (s : SizedScreen). s.screen) same.is_end.screen_is) (leaves message end) in
       record {
         is_end = record {
           talk_is = same.is_end.talk_is;
           screen_is = same.is_end.screen_is;
           keyboard_is = same.is_end.keyboard_is;
-          last_restored_is = ap (λ (h : History). h.last_restored) history ∙ left.0;
-          erased_is = ap (λ (h : History). h.erased) history ∙ left.1;
+          last_restored_is = ap (λ (h : History). h.last_restored) history ∙ left.last_restored;
+          before_restored_is = ap (λ (h : History). h.before_restored) history ∙ left.before_restored;
+          erased_is = ap (λ (h : History). h.erased) history ∙ left.erased;
         };
         said = same.said;
         fit = same.fit;
@@ -511,7 +528,7 @@ nop_has_no_effect old end step is_open is taken =
     let same =
     dropped old.talk step.end.talk (before_byte old.station) step.end.station no_operation end step.says step.closes (side_of old end is) refl (λ comes heard. heard)
     (no_talk_stays old.talk.model old.talk.wanted old.talk.talk.state (subst IsOpen (sym state) is_open)) talks in
-    let history : step.end.history ≡ old.history = taken.history ∙ ap (λ (w : Bool). restored_by w step.end.station.screen.screen old.history) same.wrote in
+    let history : step.end.history ≡ old.history = taken.history ∙ ap (λ (w : Bool). restored_by w old.station.screen.screen step.end.station.screen.screen old.history) same.wrote in
     record {
       same = record {
         is_end = record {
@@ -519,6 +536,7 @@ nop_has_no_effect old end step is_open is taken =
           screen_is = same.is_end.screen_is;
           keyboard_is = same.is_end.keyboard_is;
           last_restored_is = ap (λ (h : History). h.last_restored) history ∙ is.last_restored_is;
+          before_restored_is = ap (λ (h : History). h.before_restored) history ∙ is.before_restored_is;
           erased_is = ap (λ (h : History). h.erased) history ∙ is.erased_is;
         };
         said = same.said;
@@ -582,6 +600,7 @@ term_presses ascend listed whole reads key old rest end holds sendable =
           screen_is = ap (λ (s : SizedScreen). record s { screen = (key_outcome key station).screen }) is.screen_is ∙ ap (λ (o : Outcome). record (sized end.display) { screen = o.screen }) outcome;
           keyboard_is = ap (λ (o : Outcome). o.keyboard) outcome;
           last_restored_is = is.last_restored_is;
+          before_restored_is = is.before_restored_is;
           erased_is = ap (λ (b : Bool). b || erases_if (key_outcome key station).answer key) is.erased_is
               ∙ ap (λ (o : Outcome). end.display.erased || erases_if o.answer key) outcome;
         };
@@ -686,7 +705,7 @@ stands_go_on spoken Stands piecewise goes_on rest mid bytes behind items message
 -- ---- a connection at its begin
 
 pub begin_stands : ItemIsRead → NothingIsRest → NothingStands all_items StandsUp → BeginStands
-begin_stands written is_rest empty panels model terminal wanted = record {
+begin_stands written is_rest empty serves panels model terminal wanted = record {
   lost = refl;
   host_here = refl;
   term_here = refl;
@@ -698,7 +717,7 @@ begin_stands written is_rest empty panels model terminal wanted = record {
     holds = record {
       talk = term_start model wanted;
       attached = refl;
-      is_end = record { talk_is = refl; screen_is = refl; keyboard_is = refl; last_restored_is = refl; erased_is = refl };
+      is_end = record { talk_is = refl; screen_is = refl; keyboard_is = refl; last_restored_is = refl; before_restored_is = refl; erased_is = refl };
     };
     silent = refl;
     down = record { is_rest = is_rest record_limit; items = OptItem Do 40 ∷ []; delivers = written record_limit (OptItem Do 40) tt; each = (refl, tt) };

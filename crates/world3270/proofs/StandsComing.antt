@@ -138,7 +138,7 @@ all_may given app is sizes (message ∷ messages) link e k =
     ((is_open app link k, may_come given app is sizes link message messages e k, others.0), (first.open_end, others.1))
 
 pub what_comes_may_come : Given → AlwaysOf WhatComesMayCome
-what_comes_may_come given app pool models events is lists few are sizes number =
-    let world : World = run app events (new_world app pool models) in
-    let g = run_good given app is events (new_world app pool models) are (new_good given app is pool models lists) in
+what_comes_may_come given app serves pool models events is lists few are sizes number =
+    let world : World = run app events (new_world app serves pool models) in
+    let g = run_good given app is events (new_world app serves pool models) are (new_good given app is serves pool models lists) in
     all_may given app is sizes (world.link number).down (world.link number) refl (g.links number)

@@ -35,7 +35,7 @@ pub history_follows : HistoryFollows
 history_follows old [] new taken =
     (old.history, ap (λ (t : Terminal). record { terminal = t; history = old.history }) taken)
 history_follows old (byte ∷ bytes) new taken =
-    let mid : TrackedTerminal = record { terminal = taken.0; history = marked taken.0.station old.history } in
+    let mid : TrackedTerminal = record { terminal = taken.0; history = marked old.terminal.station taken.0.station old.history } in
     let more = history_follows mid bytes new taken.2 in
     (more.0, (mid, record { takes = taken.1; history = refl }, more.1))
 
@@ -293,7 +293,7 @@ module _ (takes : TermTakes) (keeps : TakesKeepSendable) (nop : NopHasNoEffect) 
 
   -- what the terminal takes with a byte, as the end takes it
   end_takes : (item : WireItem) (talk same after : Term) (old mid : TrackedTerminal) (says : List WireItem) (closes : Option Cause) (station : Station) → same ≡ talk → station ≡ mid.terminal.station
-      → TakesItem same (before_byte old.terminal.station) item says closes after station → mid.history ≡ marked mid.terminal.station old.history
+      → TakesItem same (before_byte old.terminal.station) item says closes after station → mid.history ≡ marked old.terminal.station mid.terminal.station old.history
       → EndTakes (end_at talk old) item (record { end = end_at after mid; says = says; closes = closes })
   end_takes item talk same after old mid says closes station is is_mid taken history = record {
     takes = subst (λ (s : Station). TakesItem talk (before_byte old.terminal.station) item says closes after s) is_mid
@@ -303,14 +303,14 @@ module _ (takes : TermTakes) (keeps : TakesKeepSendable) (nop : NopHasNoEffect) 
 
   byte_comes : (byte : ℕ) (front behind : List ℕ) (old mid new : TrackedTerminal) (rest : Rest) (link : Link)
       → Comes front behind new → Holds rest old link.term → BytesDown rest (byte ∷ (front ++ behind)) link.down → MayComeAll link.term link.down → NoneCloses link.term link.down
-      → CanBeSent link.term.display.shape link.term.display.screen → mid.history ≡ marked mid.terminal.station old.history → TakesByte old.terminal byte mid.terminal → TrackedTakes mid front new
+      → CanBeSent link.term.display.shape link.term.display.screen → mid.history ≡ marked old.terminal.station mid.terminal.station old.history → TakesByte old.terminal byte mid.terminal → TrackedTakes mid front new
       → CameSome link old new behind
   byte_comes byte front behind old mid new rest link comes holds down may none can history (TakesByte.goes_on rest' to talk' at' delivers is_mid) more =
       let is = holds.is_end in
       let parts = link_parts rest rest' holds.talk talk' (sym holds.attached ∙ at') in
       let some = goes_on rest to (byte ∷ []) (front ++ behind) [] link.down down (subst (λ (r : Rest). Delivers record_limit r (byte ∷ []) [] to) (sym parts.0) delivers) in
       let same : link.down ≡ some.others = some.whole ∙ ap (λ (m : List ToTerminal). m ++ some.others) (none_for_none StandsDown some.taken some.each) in
-      let stays : mid.history ≡ old.history = history ∙ ap (λ (t : Terminal). marked t.station old.history) is_mid in
+      let stays : mid.history ≡ old.history = history ∙ ap (λ (t : Terminal). marked old.terminal.station t.station old.history) is_mid in
       let came = comes mid to link
       (record {
         talk = holds.talk;
@@ -320,6 +320,7 @@ module _ (takes : TermTakes) (keeps : TakesKeepSendable) (nop : NopHasNoEffect) 
           screen_is = ap (λ (t : Terminal). t.station.screen) is_mid ∙ is.screen_is;
           keyboard_is = ap (λ (t : Terminal). t.station.keyboard) is_mid ∙ is.keyboard_is;
           last_restored_is = ap (λ (h : History). h.last_restored) stays ∙ is.last_restored_is;
+          before_restored_is = ap (λ (h : History). h.before_restored) stays ∙ is.before_restored_is;
           erased_is = ap (λ (h : History). h.erased) stays ∙ is.erased_is;
         };
       })
@@ -373,7 +374,7 @@ module _ (takes : TermTakes) (keeps : TakesKeepSendable) (nop : NopHasNoEffect) 
 
   byte_marks : WritesAreMarked → (byte : ℕ) (behind : List ℕ) (old new : TrackedTerminal) (rest : Rest) (link : Link)
       (holds : Holds rest old link.term) (down : BytesDown rest (byte ∷ behind) link.down) (may : MayComeAll link.term link.down) (none : NoneCloses link.term link.down)
-      (can : CanBeSent link.term.display.shape link.term.display.screen) (history : new.history ≡ marked new.terminal.station old.history) (taken : TakesByte old.terminal byte new.terminal)
+      (can : CanBeSent link.term.display.shape link.term.display.screen) (history : new.history ≡ marked old.terminal.station new.terminal.station old.history) (taken : TakesByte old.terminal byte new.terminal)
       → new.terminal.station.took_write ≡ any_painted link.term (byte_comes byte [] behind old new new rest link (bytes_come [] behind new) holds down may none can history taken refl).taken
   unfolding byte_comes bytes_come
   byte_marks marks byte behind old new rest link holds down may none can history (TakesByte.goes_on rest' to talk' at' delivers is_mid) =

@@ -3,11 +3,13 @@ use Rattle.std.proofs.Common.{◌≡◌, ◌<◌, ◌&&◌, ◌||◌, ◌+◌, �
 use Rattle.std.proofs.lemmas.Bool.{lt-ltb}
 use Rattle.std.proofs.lemmas.List.{set-get_or}
 use Rattle.host_core.specs.Acts.{Sent}
+use Rattle.host_core.specs.Application.{Application}
 use Rattle.host_core.specs.Does.{Does as HostDoes, DoesAnswer}
 use Rattle.host_core.specs.KeepAlive.{kept_alive, kept_alive_answer, may_keep_alive, with_nop}
 use Rattle.host_core.specs.State.{Host, Connection, Service, unused, connection_at, with_connection, most_connections, phase_of, service_at}
 use Rattle.host_core.specs.declared.phase.Phase.TheVariants as phase
 use Rattle.host_core.specs.declared.acted.Acted.{Acted}
+use Rattle.host_core.specs.declared.question.Answer.{Answer as Said}
 use Rattle.host_core.specs.declared.acted.Acted.TheVariants as acted
 use Rattle.world3270.specs.ByteWorld.{ByteWorld, host_there, is_there, terminal_there, with_host}
 use Rattle.world3270.specs.ByteSteps.{OnConnection, Steps, Happens, HappensIf, has_place, answer_acted, is_link, is_held, free_from, host_gone_below, host_gone_if_there}
@@ -49,15 +51,15 @@ host_acted event (Some sent) number old act answer host below acts others answer
     it_happens event old answer (with_host host old) (place ∙ both (is_link number) true (lt-ltb number most_connections below) refl)
     (happens (record { act = act; host = host; acts = acts; others = others; answers = answers; leaves = refl }))
 
-pub host_answered : (event : Event) (does : Option Sent) (number : ℕ) (old : ByteWorld) (act : Acted) (answer : Stepped) (host : Host)
-    → number < most_connections → DoesAnswer does (connection_at number old.host) act (connection_at number host) → host ≡ with_connection number (connection_at number host) old.host
+pub host_answered : (event : Event) (app : Application) (said : Said) (does : Option Sent) (number : ℕ) (old : ByteWorld) (act : Acted) (answer : Stepped) (host : Host)
+    → number < most_connections → DoesAnswer app said does (connection_at number old.host) act (connection_at number host) → host ≡ with_connection number (connection_at number host) old.host
     → answer ≡ answer_acted act → has_place event old ≡ (is_link number && is_some does)
-    → (OnConnection (DoesAnswer does) number old answer (with_host host old) → Happens event old answer (with_host host old))
+    → (OnConnection (DoesAnswer app said does) number old answer (with_host host old) → Happens event old answer (with_host host old))
     → Steps event old answer (with_host host old)
-host_answered event None number old act answer host below acts others answers place happens =
+host_answered event app said None number old act answer host below acts others answers place happens =
     it_is_skipped event old answer (with_host host old) (place ∙ neither (is_link number)) (answers ∙ ap answer_acted acts.0)
     (ap (λ (h : Host). with_host h old) (same_host number old.host host acts.1 others))
-host_answered event (Some sent) number old act answer host below acts others answers place happens =
+host_answered event app said (Some sent) number old act answer host below acts others answers place happens =
     it_happens event old answer (with_host host old) (place ∙ both (is_link number) true (lt-ltb number most_connections below) refl)
     (happens (record { act = act; host = host; acts = acts; others = others; answers = answers; leaves = refl }))
 

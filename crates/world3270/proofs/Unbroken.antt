@@ -3,12 +3,12 @@ use Rattle.std.proofs.Common.{◌≡◌, ◌||◌, ◌==◌, ℕ, zero, suc, Boo
 use Rattle.std.proofs.lemmas.List.Elements.{All-append, All-cons, All-nil}
 use Rattle.std.proofs.lemmas.Bool.{eqb-true}
 use Rattle.std.proofs.lemmas.List.{append-nil}
-use Rattle.std.specs.List.{list_any}
+use Rattle.std.specs.List.{AllByRecursion, list_any}
 use Rattle.std.specs.Prelude.{All}
 use Rattle.shadow.specs.Pairs.{Pairwise}
 use Rattle.telnet_wire.specs.Items.{WireItem}
 use Rattle.telnet_wire.specs.Reading.{nothing}
-use Rattle.tn3270e_msg.specs.Header.{record_limit, type_code}
+use Rattle.tn3270e_msg.specs.Header.{negative, record_limit, type_code}
 use Rattle.tn3270e_msg.specs.declared.header.DataType.TheVariants.{Data3270, Response}
 use Rattle.tn3270e_msg.specs.declared.cause.Cause.{Cause}
 use Rattle.tn3270e_msg.specs.Talk.{Saying}
@@ -30,7 +30,7 @@ use Rattle.world3270.specs.Sendable.{IsTyped}
 use Rattle.world3270.specs.Standing.{link_of}
 use Rattle.world3270.specs.Stands.{StandsUp, without_nops}
 use Rattle.world3270.specs.Terminal.{TermStep, took as term_took}
-use Rattle.world3270.specs.Unbroken.{SameEnds, DeliveriesCloseNothing, NobodyHasRefused, NothingIsRefused, UnderWayRefusesNothing}
+use Rattle.world3270.specs.Unbroken.{SameEnds, DeliveriesCloseNothing, IsNegativeResponse, IsNotNegative, NobodyHasRefused, NothingIsRefused, UnderWayRefusesNothing}
 use Rattle.world3270.specs.World.{World, Event, IsEvent, AreEvents, with_at}
 use Rattle.world3270.specs.declared.event.Event.TheVariants as event
 use Rattle.world3270.specs.declared.event.Stepped.{Stepped}
@@ -243,6 +243,31 @@ among sequence outcome [] behind (message ∷ messages) pairs none =
 among sequence outcome (item ∷ before) behind [] pairs none = absurd pairs
 among sequence outcome (item ∷ before) behind (message ∷ messages) pairs none =
     among sequence outcome before behind messages pairs.1 (not_either (is_refusal message) (list_any is_refusal messages) none).1
+
+-- a negative response begins as one
+first_is : (item : WireItem) (is : IsNegativeResponse item) → first_of (bytes_of item) ≡ type_code Response
+first_is item is = ap (λ (i : WireItem). first_of (bytes_of i)) is.is_record ∙ ap first_of is.begins.spelt ∙ ap type_code is.kind
+
+third_is : (item : WireItem) (is : IsNegativeResponse item) → third_of (bytes_of item) ≡ negative
+third_is item is = ap (λ (i : WireItem). third_of (bytes_of i)) is.is_record ∙ ap third_of is.begins.spelt ∙ is.flag
+
+-- no item that represents a message other than a refusal is one
+not_negative : (item : WireItem) (message : ToHost) → StandsUp item message → is_refusal message ≡ false → IsNotNegative item
+not_negative item (ToHost.TalksUp (Saying.Opt verb code)) stands none = λ is. absurd (let both = sym stands ∙ is.is_record in cc)
+not_negative item (ToHost.TalksUp (Saying.Sub sending)) stands none = λ is. absurd (let both = sym stands ∙ is.is_record in cc)
+not_negative item (ToHost.Data parts) stands none = λ is.
+    let kinds : type_code Response ≡ type_code Data3270 = sym (first_is item is) ∙ ap (λ (i : WireItem). first_of (bytes_of i)) stands.2 in absurd (cc)
+not_negative item (ToHost.Response number Verdict.Positive) stands none = λ is.
+    let flags : negative ≡ outcome_flag DeviceEnd =
+    sym (third_is item is) ∙ ap (λ (i : WireItem). third_of (bytes_of i)) stands.1 ∙ ap outcome_flag stands.3 in absurd (cc)
+not_negative item (ToHost.Response number Verdict.Negative) stands none = absurd (cc)
+
+pub none_negative : (items : List WireItem) (messages : List ToHost) → Pairwise StandsUp items messages → list_any is_refusal messages ≡ false → AllByRecursion IsNotNegative items
+none_negative [] messages pairs none = tt
+none_negative (item ∷ items) [] pairs none = absurd pairs
+none_negative (item ∷ items) (message ∷ messages) pairs none =
+    let both = not_either (is_refusal message) (list_any is_refusal messages) none in
+    (not_negative item message pairs.0 both.0, none_negative items messages pairs.1 both.1)
 
 pub nobody_has_refused : KnownWorlds → NobodyHasRefused
 nobody_has_refused known begin events bytes is reached = (facts known begin is events reached.are_events reached.typed).nobody_refuses

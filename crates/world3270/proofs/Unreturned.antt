@@ -1,7 +1,8 @@
 -- Fields that weren't returned, while keys and notes go over them.
 use Rattle.std.proofs.Common.{◌≡◌, ◌⊎◌, inl, inr, ◌<◌, ◌≤◌, ◌+◌, ◌==◌, ℕ, zero, suc, arith, Bool, true, false, Option, None, Some, List, [], ◌∷◌, ◌++◌, length, take, drop, refl, ap, sym, subst, ◌∙◌, if◌then◌else◌}
-use Rattle.std.specs.Prelude.{slice_index_or, is_none, map}
+use Rattle.std.specs.Prelude.{slice_index_or, is_none, map, option_map}
 use Rattle.std.specs.List.{All, Contains, list_all}
+use Rattle.std.specs.Option.{option_or}
 use Rattle.std.proofs.lemmas.Bool.{and_parts, cases_lt, eqb-true}
 use Rattle.std.proofs.lemmas.List.{get_or-map, get_or_past, length-map}
 use Rattle.std.proofs.lemmas.Bool.Decides.{Decides-eqb}
@@ -12,13 +13,15 @@ use Rattle.codes3270.specs.declared.attribute.Attr.{Attr as Attribute}
 use Rattle.codes3270.specs.declared.attribute.Cell.{Cell}
 use Rattle.codes3270.specs.declared.attribute.Cell.TheVariants.{Char, Attr}
 use Rattle.datastream.specs.Grammar.{CommandParts}
-use Rattle.datastream.specs.Held.{Hold, Held, CharHeld, CellHeld}
+use Rattle.datastream.specs.Held.{Hold, Held, CharHeld, CellHeld, without_mdt}
 use Rattle.datastream.specs.Meaning.{after_command}
 use Rattle.datastream.specs.Note.{IsNote, IsNoteOrder, IsProtectedChar, OverCharacters, WritesProtected, places_noted, quiet}
 use Rattle.datastream.specs.NoteLaws.{HeldStaysProtected, NoteKeepsForm, NotesCompose, SameForm}
-use Rattle.datastream.specs.Screen.{Screen, attribute_in, attribute_over, is_char, is_char_at, last_attribute, protects, ring}
+use Rattle.datastream.specs.Screen.{Screen, attribute_in, attribute_over, is_char, is_char_at, is_protected, last_attribute, protects, ring}
 use Rattle.datastream.specs.declared.command_code.CommandCode.TheVariants.{Write}
 use Rattle.datastream.specs.declared.order.Order.TheVariants.{Sba, Char as Data}
+use Rattle.datastream.proofs.Fields.{attribute_over_is}
+use Rattle.world3270.specs.AsLeft.{ProtectedIsAsLeft, attribute_at}
 use Rattle.world3270.specs.Unreturned.{IsInUnmodified, IsKept, NotedSince, SamePlaces, UnmodifiedIsKept}
 
 -- ---- one place
@@ -81,8 +84,8 @@ places_compose left shown now first second =
     record { size = second.size ∙ first.size; kinds = λ place. second.kinds place ∙ first.kinds place }
 
 -- what keys kept of the screen that was shown they kept of what was left
-pub kept_of : HeldStaysProtected → (erased : Bool) (left shown now : List Cell) → Held erased shown now → NotedSince left shown → UnmodifiedIsKept erased left now
-kept_of stays erased left shown now held noted =
+pub kept_of : HeldStaysProtected → (erased : Bool) (row : ℕ) (left shown now : List Cell) → Held erased shown now → NotedSince row left shown → UnmodifiedIsKept erased left now
+kept_of stays erased row left shown now held noted =
     record { places = places_compose left shown now noted.places (held_places erased shown now held); each = λ place within unmodified. by_note place within unmodified (noted.each place) }
   where
     by_note : (place : ℕ) → place < length now → IsInUnmodified (attribute_over now place) → IsProtectedChar shown place ⊎ (slice_index_or shown place (Char 0) ≡ slice_index_or left place (Char 0))
@@ -118,6 +121,14 @@ is_among P (first ∷ places) place each = by_test (first == place) refl (is_amo
         by_rest (inl is) = inl is
         by_rest (inr isnt) = inr (λ there. isnt (Contains-tail first places place other there))
 
+-- a note behind an address writes nothing up to it
+above_note : (row : ℕ) (places : List ℕ) (place : ℕ) → All (λ (at : ℕ). row < at) places → place ≤ row → Contains places place → ⊥
+above_note row places place each before = by_case (is_among (λ (at : ℕ). row < at) places place each)
+  where
+    by_case : (row < place) ⊎ (Contains places place → ⊥) → Contains places place → ⊥
+    by_case (inl behind) there = absurd (omega (arith, behind, before))
+    by_case (inr isnt) there = isnt there
+
 -- cells that have the same attributes have them at the same places
 kind_of : (cell : Cell) → is_char cell ≡ is_none (attribute_in cell)
 kind_of (Char byte) = refl
@@ -139,12 +150,15 @@ form_places command before after same = record { size = size; kinds = λ place. 
     by_place place (inr beyond) = rw (get_or_past after.cells place (Char 0) beyond, get_or_past before.cells place (Char 0) (subst (λ n. n ≤ place) size beyond)) refl
 
 -- where a note is written over protected characters, the others stay
-pub noted_on : NoteKeepsForm → (command : CommandParts) (left : List Cell) (shown : Screen) → OverCharacters command shown.cells → WritesProtected command shown.cells
+pub noted_on : NoteKeepsForm → (command : CommandParts) (row : ℕ) (left : List Cell) (shown : Screen) → OverCharacters command shown.cells → WritesProtected command shown.cells
+    → All (λ (at : ℕ). row < at) (places_noted (length shown.cells) command)
     → ((place : ℕ) → IsProtectedChar shown.cells place → IsProtectedChar (after_command command shown).cells place)
-    → NotedSince left shown.cells → NotedSince left (after_command command shown).cells
-noted_on form command left shown over writes stays noted = record {
+    → NotedSince row left shown.cells → NotedSince row left (after_command command shown).cells
+noted_on form command row left shown over writes behind stays noted = record {
   places = places_compose left shown.cells (after_command command shown).cells noted.places (form_places command shown (after_command command shown) (form command shown over));
   each = λ place. by_place place (is_among (IsProtectedChar shown.cells) (places_noted (length shown.cells) command) place writes.each) (noted.each place);
+  above = λ place before.
+      (form command shown over).elsewhere place (above_note row (places_noted (length shown.cells) command) place behind before) ∙ noted.above place before;
 }
   where
     new : Screen
@@ -179,6 +193,112 @@ kept_noted form erased command left now size over writes kept = record {
     by_place place within was (inl is) = absurd (not_protected now.cells place (attribute_over now.cells place) refl was is)
     by_place place within was (inr isnt) =
         subst (λ cell. IsKept erased (slice_index_or left place (Char 0)) cell) (sym (same.elsewhere place isnt)) (kept.each place (subst (λ n. place < n) size within) was)
+
+-- ---- what is protected
+
+-- a character has no attribute
+none_in : (cell : Cell) → is_char cell ≡ true → attribute_in cell ≡ None
+none_in (Char byte) e = refl
+none_in (Attr attribute) e = absurd (cc)
+
+-- notes leave the attributes
+noted_attribute : (row : ℕ) (left shown : List Cell) → NotedSince row left shown → (place : ℕ) → attribute_at shown place ≡ attribute_at left place
+noted_attribute row left shown noted place = by_note (noted.each place)
+  where
+    by_note : IsProtectedChar shown place ⊎ (slice_index_or shown place (Char 0) ≡ slice_index_or left place (Char 0)) → attribute_at shown place ≡ attribute_at left place
+    by_note (inl is) =
+        ap (λ (found : Option Attribute). option_map without_mdt found)
+        (none_in (slice_index_or shown place (Char 0)) is.character ∙ sym (none_in (slice_index_or left place (Char 0)) (sym (noted.places.kinds place) ∙ is.character)))
+    by_note (inr same) = ap (λ (cell : Cell). option_map without_mdt (attribute_in cell)) same
+
+-- keys leave them but for MDT
+cell_attribute : (erased : Bool) (over : Option Attribute) (shown now : Cell) → CellHeld erased over shown now
+    → option_map without_mdt (attribute_in now) ≡ option_map without_mdt (attribute_in shown)
+cell_attribute erased over (Char shown) (Char now) h = refl
+cell_attribute erased over (Char shown) (Attr now) h = absurd h
+cell_attribute erased over (Attr shown) (Char now) h = absurd h
+cell_attribute erased over (Attr shown) (Attr now) h = ap (λ (a : Attribute). Some a) h.0
+
+held_attribute : (erased : Bool) (shown now : List Cell) → Held erased shown now → (place : ℕ) → attribute_at now place ≡ attribute_at shown place
+held_attribute erased shown now held place = by_place (cases_lt place (length now))
+  where
+    by_place : (place < length now) ⊎ (length now ≤ place) → attribute_at now place ≡ attribute_at shown place
+    by_place (inl within) = cell_attribute erased (attribute_over now place) (slice_index_or shown place (Char 0)) (slice_index_or now place (Char 0)) (held.each place within)
+    by_place (inr beyond) = rw (get_or_past now place (Char 0) beyond, get_or_past shown place (Char 0) (subst (λ n. n ≤ place) held.same_length beyond)) refl
+
+-- and each protected cell
+same_by : (protected mdt erased : Bool) (shown now : ℕ) → protected ≡ true
+    → CharHeld (if protected then Hold.Same else if mdt then Hold.Free else if erased then Hold.Null else Hold.Same) shown now → now ≡ shown
+same_by true mdt erased shown now p h = h
+same_by false mdt erased shown now p h = absurd (cc)
+
+whole_attribute : (one other : Attribute) → without_mdt one ≡ without_mdt other → one.mdt ≡ other.mdt → one ≡ other
+whole_attribute one other e m = λ i. record { protected = (e i).protected; numeric = (e i).numeric; display = (e i).display; mdt = m i }
+
+cell_same : (erased : Bool) (over : Option Attribute) (shown now : Cell) → protects over ≡ true → ((attribute : Attribute) → now ≡ Attr attribute → over ≡ Some attribute)
+    → CellHeld erased over shown now → now ≡ shown
+cell_same erased None shown now guarded itself h = absurd (cc)
+cell_same erased (Some over) (Char shown) (Char now) guarded itself h = ap (λ (byte : ℕ). Char byte) (same_by over.protected over.mdt erased shown now guarded h)
+cell_same erased (Some over) (Char shown) (Attr now) guarded itself h = absurd h
+cell_same erased (Some over) (Attr shown) (Char now) guarded itself h = absurd h
+cell_same erased (Some over) (Attr shown) (Attr now) guarded itself h =
+    let here : over ≡ now = let both : Some over ≡ Some now = itself now refl in cc in
+    let still : now.protected ≡ true = sym (ap (λ (a : Attribute). a.protected) here) ∙ guarded in
+    ap (λ (a : Attribute). Attr a) (whole_attribute now shown h.0 (h.1 still))
+
+held_cell : (erased : Bool) (shown now : List Cell) → Held erased shown now → (place : ℕ) → is_protected now place ≡ true
+    → slice_index_or now place (Char 0) ≡ slice_index_or shown place (Char 0)
+held_cell erased shown now held place guarded = by_place (cases_lt place (length now))
+  where
+    governs : place < length now → (attribute : Attribute) → slice_index_or now place (Char 0) ≡ Attr attribute → attribute_over now place ≡ Some attribute
+    governs within attribute at =
+        attribute_over_is now place (Char 0) within ∙ ap (λ (cell : Cell). option_or (attribute_in cell) (last_attribute (ring place now))) at
+
+    by_place : (place < length now) ⊎ (length now ≤ place) → slice_index_or now place (Char 0) ≡ slice_index_or shown place (Char 0)
+    by_place (inl within) =
+        cell_same erased (attribute_over now place) (slice_index_or shown place (Char 0)) (slice_index_or now place (Char 0)) guarded (governs within) (held.each place within)
+    by_place (inr beyond) = rw (get_or_past now place (Char 0) beyond, get_or_past shown place (Char 0) (subst (λ n. n ≤ place) held.same_length beyond)) refl
+
+-- what keys kept of the screen that was shown they kept of what was left
+pub as_left_of : (erased : Bool) (row : ℕ) (left shown now : List Cell) → Held erased shown now → NotedSince row left shown → ProtectedIsAsLeft row left now
+as_left_of erased row left shown now held noted = record {
+  size = held.same_length ∙ noted.places.size;
+  attributes = λ place. held_attribute erased shown now held place ∙ noted_attribute row left shown noted place;
+  cells = λ place before guarded. held_cell erased shown now held place guarded ∙ noted.above place before;
+}
+
+-- at first it is as it was left
+pub all_as_left : (row : ℕ) (cells : List Cell) → ProtectedIsAsLeft row cells cells
+all_as_left row cells = record { size = refl; attributes = λ place. refl; cells = λ place before guarded. refl }
+
+-- a note in the row of messages leaves it so
+attribute_there : (cells : List Cell) (place : ℕ) → attribute_in (slice_index_or cells place (Char 0)) ≡ slice_index_or (map attribute_in cells) place None
+attribute_there cells place = by_place (cases_lt place (length cells))
+  where
+    by_place : (place < length cells) ⊎ (length cells ≤ place) → attribute_in (slice_index_or cells place (Char 0)) ≡ slice_index_or (map attribute_in cells) place None
+    by_place (inl within) = sym (get_or-map attribute_in cells place (Char 0) None within)
+    by_place (inr beyond) =
+        rw (get_or_past cells place (Char 0) beyond, get_or_past (map attribute_in cells) place None (subst (λ n. n ≤ place) (sym (length-map cells attribute_in)) beyond)) refl
+
+pub as_left_noted : NoteKeepsForm → (command : CommandParts) (row : ℕ) (left : List Cell) (now : Screen) → OverCharacters command now.cells
+    → All (λ (at : ℕ). row < at) (places_noted (length now.cells) command) → ProtectedIsAsLeft row left now.cells → ProtectedIsAsLeft row left (after_command command now).cells
+as_left_noted form command row left now over behind kept = record {
+  size = (form_places command now new same).size ∙ kept.size;
+  attributes = λ place. ap (λ (found : Option Attribute). option_map without_mdt found) (stays place) ∙ kept.attributes place;
+  cells = λ place before guarded.
+      same.elsewhere place (above_note row (places_noted (length now.cells) command) place behind before)
+      ∙ kept.cells place before (sym (ap protects (same.over place)) ∙ guarded);
+}
+  where
+    new : Screen
+    new = after_command command now
+
+    same : SameForm command now new
+    same = form command now over
+
+    stays : (place : ℕ) → attribute_in (slice_index_or new.cells place (Char 0)) ≡ attribute_in (slice_index_or now.cells place (Char 0))
+    stays place =
+        attribute_there new.cells place ∙ ap (λ (xs : List (Option Attribute)). slice_index_or xs place None) same.attributes ∙ sym (attribute_there now.cells place)
 
 -- ---- a screen without fields
 

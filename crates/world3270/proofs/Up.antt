@@ -80,12 +80,13 @@ record Leads (model : Model) (wanted : Option (List ℕ)) (from to : Moment) (se
   down : down_at model from ++ sends ≡ down_at model to
 
 leads : (link : Link) (step : HostStep) (rest : List ToHost) (wanted : Option (List ℕ)) (from to : Moment) → IsAt (view_of link) wanted from → Leads link.term.display.model wanted from to step.sends
-    → step.conn.talk ≡ host_talk_at link.term.display.model to → step.conn.turn ≡ turn_at to → step.conn.pending ≡ pending_at to → UnderWay link.lost rest (up_at link.term.display.model wanted to) → IsAt (view_of (host_view step rest link)) wanted to
-leads link step rest wanted from to at l talk turn pending left = record {
+    → step.conn.talk ≡ host_talk_at link.term.display.model to → step.conn.turn ≡ turn_at to → step.conn.pending ≡ pending_at to → step.conn.unheard ≡ link.host.unheard → UnderWay link.lost rest (up_at link.term.display.model wanted to) → IsAt (view_of (host_view step rest link)) wanted to
+leads link step rest wanted from to at l talk turn pending waits left = record {
   host_talk = talk;
   term_talk = at.term_talk ∙ ap (λ state. record { model = link.term.display.model; wanted = wanted; talk = start_at state }) (sym l.term);
   turn = turn;
   pending = pending;
+  not_cleared = λ clear. at.not_cleared (sym waits ∙ clear);
   goes_down = subst (UnderWay link.lost (sent link.lost link.down step.sends)) l.down (more link.lost link.down (down_at link.term.display.model from) step.sends at.goes_down);
   goes_up = left;
 }
@@ -93,7 +94,7 @@ leads link step rest wanted from to at l talk turn pending left = record {
 -- ---- the talk
 
 abbrev talk_step : Link → Talk HostState → List ToTerminal → Option (List ℕ) → Option Rejection → HostStep
-talk_step link next sends grants rejects = record { conn = with_talk link.host next; sends = sends; grants = grants; rejects = rejects; closes = None }
+talk_step link next sends grants rejects = record { conn = with_talk link.host next; sends = sends; grants = grants; rejects = rejects; drops = None; closes = None }
 
 -- the talk moves on, by a step that is known
 talks : (app : Application) (pool : List Entry) (link : Link) (rest : List ToHost) (k : Kept app (view_of link)) (from to : Talking) (saying : Saying) (sends : List ToTerminal) (grants : Option (List ℕ)) (rejects : Option Rejection) (message : ToHost)
@@ -111,11 +112,12 @@ talks app pool link rest k from to saying sends grants rejects message same at i
         whole = k.whole;
         cursor = k.cursor;
         unreturned = k.unreturned;
+        as_left = k.as_left;
         exact = k.exact;
         wanted = k.wanted;
         moment = Moment.Talks to;
         sizes = record { host = k.sizes.host; screen = k.sizes.screen; same = λ steady. same };
-        at = leads link (talk_step link (host_talk_at link.term.display.model (Moment.Talks to)) sends grants rejects) rest k.wanted (Moment.Talks from) (Moment.Talks to) at l refl at.turn at.pending left;
+        at = leads link (talk_step link (host_talk_at link.term.display.model (Moment.Talks to)) sends grants rejects) rest k.wanted (Moment.Talks from) (Moment.Talks to) at l refl at.turn at.pending refl left;
         fact = fact;
         shown = tt;
       };
@@ -177,15 +179,16 @@ module _ (app : Application) (pool : List Entry) (link : Link) (rest : List ToHo
   agreed_at : (lu : List ℕ) (serving : Serving) → IsAt (view_of link) k.wanted (Moment.Serves lu serving) → is_agreed link.host.talk.state ≡ true
   agreed_at lu serving at = ap (λ (t : Talk HostState). is_agreed t.state) at.host_talk
 
-  serves : (lu : List ℕ) (from to : Serving) (conn : Conn) → link.term.display.shape ≡ link.host.shape → IsAt (view_of link) k.wanted (Moment.Serves lu from) → conn.talk ≡ link.host.talk → conn.shape ≡ link.host.shape → FactsAreExact conn.shadow
+  serves : (lu : List ℕ) (from to : Serving) (conn : Conn) → link.term.display.shape ≡ link.host.shape → IsAt (view_of link) k.wanted (Moment.Serves lu from) → conn.talk ≡ link.host.talk → conn.unheard ≡ link.host.unheard → conn.shape ≡ link.host.shape → FactsAreExact conn.shadow
       → conn.turn ≡ turn_at (Moment.Serves lu to) → conn.pending ≡ pending_at (Moment.Serves lu to) → served_down from ++ [] ≡ served_down to → UnderWay link.lost rest (served_up to)
-      → Fact k.wanted (scene_of (view_of (host_view (quiet conn) rest link))) (Moment.Serves lu to) → ShownAt app conn link.term.display.last_restored (Moment.Serves lu to)
+      → Fact k.wanted (scene_of (view_of (host_view (quiet conn) rest link))) (Moment.Serves lu to) → ShownAt app conn link.term.display.before_restored link.term.display.last_restored link.term.display.screen (Moment.Serves lu to)
       → Answered app pool link rest (quiet conn)
-  serves lu from to conn same at talk shape exact turn pending down left fact shown = record {
+  serves lu from to conn same at talk waits shape exact turn pending down left fact shown = record {
     kept = record {
       whole = k.whole;
       cursor = k.cursor;
       unreturned = k.unreturned;
+      as_left = k.as_left;
       exact = exact;
       wanted = k.wanted;
       moment = Moment.Serves lu to;
@@ -194,7 +197,7 @@ module _ (app : Application) (pool : List Entry) (link : Link) (rest : List ToHo
         screen = k.sizes.screen;
         same = λ steady. same ∙ sym shape;
       };
-      at = leads link (quiet conn) rest k.wanted (Moment.Serves lu from) (Moment.Serves lu to) at (record { term = refl; down = down }) (talk ∙ at.host_talk) turn pending left;
+      at = leads link (quiet conn) rest k.wanted (Moment.Serves lu from) (Moment.Serves lu to) at (record { term = refl; down = down }) (talk ∙ at.host_talk) turn pending waits left;
       fact = fact;
       shown = shown;
     };
@@ -326,11 +329,11 @@ module _ (given : Given) (app : Application) (pool : List Entry) (link : Link) (
       → IsAt (view_of link) k.wanted (Moment.Serves lu from) → IfOk r KnownIsExact → IfOk r ProtectedIsExact → IsOkAnd r Then
       → whose.Host ≡ turn_at (Moment.Serves lu to) → pending ≡ pending_at (Moment.Serves lu to) → served_down from ++ [] ≡ served_down to → UnderWay link.lost rest (served_up to)
       → ((shadow : Shadow) → Then shadow
-      → Fact k.wanted (record { shape = link.host.shape; shadow = shadow; turn_reason = turn_reason; cursor = unwrap_or cursor link.host.cursor; lock = link.term.display.keyboard.lock; screen = screen; last_restored = link.term.display.last_restored; erased = link.term.display.erased }) (Moment.Serves lu to))
-      → ((shadow : Shadow) → Then shadow → ShownAt app (heard_conn turn_reason pending cursor shadow) link.term.display.last_restored (Moment.Serves lu to))
+      → Fact k.wanted (record { shape = link.host.shape; shadow = shadow; turn_reason = turn_reason; cursor = unwrap_or cursor link.host.cursor; unheard = link.host.unheard; lock = link.term.display.keyboard.lock; screen = screen; last_restored = link.term.display.last_restored; erased = link.term.display.erased }) (Moment.Serves lu to))
+      → ((shadow : Shadow) → Then shadow → ShownAt app (heard_conn turn_reason pending cursor shadow) link.term.display.before_restored link.term.display.last_restored link.term.display.screen (Moment.Serves lu to))
       → Answered app pool link rest (believed turn_reason pending cursor link.host r)
   believes lu from to parts turn_reason pending cursor Then (Ok shadow) at knows protects ok turn pends down left fact shown =
-      serves app pool link rest k lu from to (heard_conn turn_reason pending cursor shadow) same at refl refl (record { known = knows; protected = protects }) turn pends down left (fact shadow ok) (shown shadow ok)
+      serves app pool link rest k lu from to (heard_conn turn_reason pending cursor shadow) same at refl refl refl (record { known = knows; protected = protects }) turn pends down left (fact shadow ok) (shown shadow ok)
   believes lu from to parts turn_reason pending cursor Then (Err fault) at knows protects ok turn pends down left fact shown = absurd ok
 
   -- a key's data
@@ -339,8 +342,8 @@ module _ (given : Given) (app : Application) (pool : List Entry) (link : Link) (
       → whose.Host ≡ turn_at (Moment.Serves lu to) → pending_at (Moment.Serves lu from) ≡ pending_at (Moment.Serves lu to) → served_down from ++ [] ≡ served_down to
       → UnderWay link.lost rest (served_up to)
       → ((shadow : Shadow) → Then shadow
-      → Fact k.wanted (record { shape = link.host.shape; shadow = shadow; turn_reason = turn_reasons.Key screen.aid false; cursor = unwrap_or parts.cursor link.host.cursor; lock = link.term.display.keyboard.lock; screen = screen; last_restored = link.term.display.last_restored; erased = link.term.display.erased }) (Moment.Serves lu to))
-      → ((shadow : Shadow) → Then shadow → ShownAt app (heard_conn (turn_reasons.Key screen.aid false) link.host.pending parts.cursor shadow) link.term.display.last_restored (Moment.Serves lu to))
+      → Fact k.wanted (record { shape = link.host.shape; shadow = shadow; turn_reason = turn_reasons.Key screen.aid false; cursor = unwrap_or parts.cursor link.host.cursor; unheard = link.host.unheard; lock = link.term.display.keyboard.lock; screen = screen; last_restored = link.term.display.last_restored; erased = link.term.display.erased }) (Moment.Serves lu to))
+      → ((shadow : Shadow) → Then shadow → ShownAt app (heard_conn (turn_reasons.Key screen.aid false) link.host.pending parts.cursor shadow) link.term.display.before_restored link.term.display.last_restored link.term.display.screen (Moment.Serves lu to))
       → Answered app pool link rest (took (answer_to pool) link.host message)
   hears_key lu from to parts message Then at p will e turns time turn pends down left fact shown =
       as_step app pool link rest k (ToHost.Data parts) message (believed (turn_reasons.Key screen.aid false) link.host.pending parts.cursor link.host (hears parts link.host)) e
@@ -353,31 +356,31 @@ module _ (given : Given) (app : Application) (pool : List Entry) (link : Link) (
       → pending_at (Moment.Serves lu from) ≡ awaiting kind number command → FactsAreExact (once_taken link.host.shape command link.host.shadow)
       → turn_at (Moment.Serves lu from) ≡ turn_at (Moment.Serves lu to) → Pending.Nothing ≡ pending_at (Moment.Serves lu to) → served_down from ++ [] ≡ served_down to
       → UnderWay link.lost rest (served_up to) → Fact k.wanted (scene_of (view_of (host_view (quiet (answered command link.host)) rest link))) (Moment.Serves lu to)
-      → ShownAt app (answered command link.host) link.term.display.last_restored (Moment.Serves lu to) → Answered app pool link rest (took (answer_to pool) link.host message)
+      → ShownAt app (answered command link.host) link.term.display.before_restored link.term.display.last_restored link.term.display.screen (Moment.Serves lu to) → Answered app pool link rest (took (answer_to pool) link.host message)
   hears_response lu from to kind number command message at e waits exact turn pends down left fact shown =
       as_step app pool link rest k (ToHost.Response number Verdict.Positive) message (quiet (answered command link.host)) e
       (response_took (answer_to pool) link.host kind number command (agreed_at app pool link rest k lu from at) (at.pending ∙ waits))
-      (serves app pool link rest k lu from to (answered command link.host) same at refl refl exact (at.turn ∙ turn) pends down left fact shown)
+      (serves app pool link rest k lu from to (answered command link.host) same at refl refl refl exact (at.turn ∙ turn) pends down left fact shown)
 
   -- the whole screen, as it was asked for
   hears_buffer : (lu : List ℕ) (number : ℕ) (parts : InboundParts) (message : ToHost) → IsAt (view_of link) k.wanted (Moment.Serves lu (Serving.Reported number parts)) → IsRead (scene_of (view_of link))
-      → parts ≡ buffer_data link.host.shape screen → message ≡ ToHost.Data parts → UnderWay link.lost rest [] → ShownAt app link.host link.term.display.last_restored (Moment.Serves lu (Serving.Reported number parts))
+      → parts ≡ buffer_data link.host.shape screen → message ≡ ToHost.Data parts → UnderWay link.lost rest [] → ShownAt app link.host link.term.display.before_restored link.term.display.last_restored link.term.display.screen (Moment.Serves lu (Serving.Reported number parts))
       → Answered app pool link rest (took (answer_to pool) link.host message)
   hears_buffer lu number parts message at f is e left shown =
       let read : InboundParts = buffer_data link.host.shape screen in
       as_step app pool link rest k (ToHost.Data read) message (believed (once_read link.host.turn_reason) Pending.Nothing read.cursor link.host (hears read link.host)) (e ∙ ap (λ p. ToHost.Data p) is)
       (buffer_took (answer_to pool) link.host link.host.shape screen number (agreed_at app pool link rest k lu (Serving.Reported number parts) at) at.pending)
-      (believes lu (Serving.Reported number parts) Serving.Deciding read (once_read link.host.turn_reason) Pending.Nothing read.cursor (λ s. Sees link.host.shape screen s × NothingIsOpen s × All IsTextKnown (fields_of s)) (hears read link.host) at
+      (believes lu (Serving.Reported number parts) Serving.Deciding read (once_read link.host.turn_reason) Pending.Nothing read.cursor (λ s. Sees link.host.unheard link.host.shape screen s × NothingIsOpen s × All IsTextKnown (fields_of s)) (hears read link.host) at
       (given.belief.heard_exact size link.host.shadow read k.exact.known) (given.belief.heard_protected size link.host.shadow read k.exact.protected)
       (by_result (heard size link.host.shadow read) (subst (λ n. IsOkAnd (heard n link.host.shadow read) (Believed false screen)) (k.whole ∙ ap (λ (s : Shape). cells_in s) same) (given.belief.reads link.host.shape link.host.shadow screen f.decides.sees.meets))
       (given.belief.heard_exact size link.host.shadow read k.exact.known) (given.belief.heard_protected size link.host.shadow read k.exact.protected) (given.belief.read_leaves size link.host.shadow read refl) (read_is_settled size link.host.shadow read refl))
-      refl refl refl left (λ shadow sees. record { lock = f.decides.lock; turn_reason = read_occasion link.host.turn_reason screen.aid f.decides.turn_reason; cursor = read_cursor link.host.turn_reason screen.cursor; closed = open_read link.host.turn_reason shadow link.host.shadow sees.1 f.decides.closed; sees = sees.0 })
+      refl refl refl left (λ shadow sees. record { lock = f.decides.lock; turn_reason = read_occasion link.host.turn_reason screen.aid f.decides.turn_reason; cursor = read_cursor link.host.turn_reason screen.cursor; closed = λ relies. open_read link.host.turn_reason shadow link.host.shadow sees.1 (f.decides.closed relies); sees = sees.0 })
       (λ shadow sees. (λ later. shown (λ is_first. later (ap once_read is_first)), settled_read link.host.turn_reason shadow sees.2)))
     where
       by_result : (r : Result Shadow HeardFault) → IsOkAnd r (Believed false screen) → IfOk r KnownIsExact → IfOk r ProtectedIsExact → IfOk r NothingIsOpen → IfOk r (λ s. All IsTextKnown (fields_of s))
-          → IsOkAnd r (λ s. Sees link.host.shape screen s × NothingIsOpen s × All IsTextKnown (fields_of s))
+          → IsOkAnd r (λ s. Sees link.host.unheard link.host.shape screen s × NothingIsOpen s × All IsTextKnown (fields_of s))
       by_result (Ok s) believed known protected closed settled =
-          (record { exact = record { known = known; protected = protected }; closed = all_open screen.aid false s closed; cleared = λ clear. absurd (f.not_cleared clear); meets = believed.0; lists = believed.1; told = λ sent. believed.2 refl }, closed, settled)
+          (record { exact = record { known = known; protected = protected }; closed = λ relies. all_open screen.aid false s closed; cleared = λ clear. absurd (f.not_cleared clear); meets = believed.0; lists = believed.1; told = λ sent. believed.2 refl }, closed, settled)
       by_result (Err fault) believed known protected closed settled = absurd believed
 
 -- ---- any message, at any moment
@@ -413,7 +416,7 @@ answers given app pool sound link message rest e k = by_moment k.moment k.sizes 
     by_talk (Talking.Rejected reason) same at f = no_more at.goes_up
 
     by_serving : (lu : List ℕ) (serving : Serving) → Sizes app (view_of link) (Moment.Serves lu serving) → IsAt (view_of link) k.wanted (Moment.Serves lu serving) → Fact k.wanted (scene_of (view_of link)) (Moment.Serves lu serving)
-        → ShownAt app link.host link.term.display.last_restored (Moment.Serves lu serving) → Answered app pool link rest (took (answer_to pool) link.host message)
+        → ShownAt app link.host link.term.display.before_restored link.term.display.last_restored link.term.display.screen (Moment.Serves lu serving) → Answered app pool link rest (took (answer_to pool) link.host message)
     by_serving lu (Serving.Reported number parts) s at f shown =
         let first = front link.lost link.up message rest _ [] e at.goes_up in
         hears_buffer given app pool link rest k (s.same refl) lu number parts message at f.0 f.1 first.0 first.1 shown
@@ -435,17 +438,17 @@ answers given app pool sound link message rest e k = by_moment k.moment k.sizes 
         shown
     by_serving lu (Serving.KeyAlone parts) s at f shown =
         let first = front link.lost link.up message rest _ [] e at.goes_up in
-        hears_key given app pool link rest k (s.same refl) lu (Serving.KeyAlone parts) Serving.Deciding parts message (Sees link.host.shape screen) at f.0 f.1 first.0 refl (IsKeyTime.nothing_waits refl) refl refl refl first.1
+        hears_key given app pool link rest k (s.same refl) lu (Serving.KeyAlone parts) Serving.Deciding parts message (Sees link.host.unheard link.host.shape screen) at f.0 f.1 first.0 refl (IsKeyTime.nothing_waits refl) refl refl refl first.1
         (λ shadow sees. record { lock = f.0.lock; turn_reason = (refl, f.0.some); cursor = λ long. ap (λ (c : Option ℕ). unwrap_or c link.host.cursor) (f.0.cursor long); closed = sees.closed; sees = sees })
         (λ shadow sees. (λ _. shown, tt))
     by_serving lu (Serving.KeyNoted number command parts) s at f shown =
         let first = front link.lost link.up message rest _ [] e at.goes_up in
-        hears_key given app pool link rest k (s.same refl) lu (Serving.KeyNoted number command parts) (Serving.NotedLate number command) parts message (Sees link.host.shape screen) at f.0 f.1 first.0 refl (IsKeyTime.note_waits number command refl) refl refl refl first.1
+        hears_key given app pool link rest k (s.same refl) lu (Serving.KeyNoted number command parts) (Serving.NotedLate number command) parts message (Sees link.host.unheard link.host.shape screen) at f.0 f.1 first.0 refl (IsKeyTime.note_waits number command refl) refl refl refl first.1
         (λ shadow sees. (record { lock = f.0.lock; turn_reason = (refl, f.0.some); cursor = λ long. ap (λ (c : Option ℕ). unwrap_or c link.host.cursor) (f.0.cursor long); closed = sees.closed; sees = sees }, record { note = f.2.note; takes = f.2.takes }))
         (λ shadow sees. (shown, tt))
     by_serving lu (Serving.KeyBefore number command parts) s at f shown =
         let first = front link.lost link.up message rest _ _ e at.goes_up in
-        hears_key given app pool link rest k (s.same refl) lu (Serving.KeyBefore number command parts) (Serving.AnsweredLate number command) parts message (λ shadow. Sees link.host.shape screen (once_taken link.host.shape command shadow)) at f.0 f.1 first.0 refl
+        hears_key given app pool link rest k (s.same refl) lu (Serving.KeyBefore number command parts) (Serving.AnsweredLate number command) parts message (λ shadow. Sees link.host.unheard link.host.shape screen (once_taken link.host.shape command shadow)) at f.0 f.1 first.0 refl
         (IsKeyTime.note_waits number command refl) refl refl refl first.1
         (λ shadow sees. record { lock = f.0.lock; turn_reason = (refl, f.0.some); cursor = λ long. ap (λ (c : Option ℕ). unwrap_or c link.host.cursor) (f.0.cursor long); closed = sees.closed; sees = sees })
         (λ shadow sees. (shown, tt))
@@ -457,7 +460,7 @@ answers given app pool sound link message rest e k = by_moment k.moment k.sizes 
     by_serving lu (Serving.Noting number command) s at f shown = no_more at.goes_up
 
     by_moment : (moment : Moment) → Sizes app (view_of link) moment → IsAt (view_of link) k.wanted moment → Fact k.wanted (scene_of (view_of link)) moment
-        → ShownAt app link.host link.term.display.last_restored moment → Answered app pool link rest (took (answer_to pool) link.host message)
+        → ShownAt app link.host link.term.display.before_restored link.term.display.last_restored link.term.display.screen moment → Answered app pool link rest (took (answer_to pool) link.host message)
     by_moment (Moment.Talks talking) s at f shown = by_talk talking (s.same refl) at f
     by_moment (Moment.Begins lu number command wants over) s at f shown = no_more at.goes_up
     by_moment (Moment.Serves lu serving) s at f shown = by_serving lu serving s at f shown

@@ -92,6 +92,7 @@ sent_is_at count slot (Place.Alone display) is =
         screen = alone.screen;
         keyboard = alone.keyboard;
         last_restored = alone.last_restored;
+        before_restored = alone.before_restored;
         erased = alone.erased;
       },
     )
@@ -272,6 +273,7 @@ pub record Taken (number : ℕ) (counter : Counter) (old : ByteWorld) (was now :
   pub term_here : link.term_here ≡ (was.link number).term_here
   pub places : now.place ≡ was.place
   pub terminals : now.terminals ≡ was.terminals
+  pub world_serves : now.serves ≡ was.serves
   pub stands : LinkStands (heard number rest conn more old) link
 
 -- the world stands for the one behind, with the same terminal there and the bytes behind the first under way
@@ -382,9 +384,11 @@ module _ (number : ℕ) (counter : Counter) (old : ByteWorld) (was now : World) 
         links = t.others;
         places = λ other differs. ap (λ (p : ℕ → Place). p other) t.places;
         connection_count = ap (λ (h : Host). length h.connections) host ∙ length-set old.host.connections number counter.connection;
+        serves = ap (λ (h : Host). h.terminals) host;
         way_count = ap length (links_are number counter old linked lined) ∙ length-set old.links number (record way { up = came 1 way.up });
         slot_count = told_count (is_senders way.up) 1 at told;
         terminals = t.terminals;
+        world_serves = t.world_serves;
         pool = ap (λ (h : Host). h.pool) host ∙ t.pool;
         before = place_was;
         behind = subst (λ (p : ℕ → Place). IsHere number (p (which at old.slots))) (sym t.places) place_was;

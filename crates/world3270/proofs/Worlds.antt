@@ -18,13 +18,16 @@ use Rattle.shadow.proofs.HeardOthers.{no_field}
 use Rattle.tn3270e_msg.specs.Talk.{IsLuIfSome, Saying}
 use Rattle.tn3270e_msg.specs.declared.cause.Cause.{Cause}
 use Rattle.host_core.specs.Acts.{Act, Decision, decided, decision_on, done as done_act, may_act, acted}
-use Rattle.host_core.specs.Application.{Application, IsShape, IsApplication}
+use Rattle.host_core.specs.Application.{Application, IsShape, IsApplication, message_place}
 use Rattle.host_core.specs.Messages.{ToTerminal, ToHost, Verdict}
 use Rattle.host_core.specs.Notes.{IsNoteText, may_note, noted_as, noted}
-use Rattle.host_core.specs.Session.{Conn, is_agreed}
+use Rattle.host_core.specs.Session.{Conn, is_agreed, unheard_of}
 use Rattle.host_core.specs.Takes.{freed_if, HostStep, took as host_took}
 use Rattle.host_core.specs.Questions.{act_by, answered_on, has_its_panel, is_asking}
 use Rattle.host_core.specs.declared.question.Answer.{Answer as Said}
+use Rattle.host_core.specs.declared.terminals.Terminals.{Terminals}
+use Rattle.host_core.specs.declared.terminals.Terminals.TheVariants.{Waiting, Any}
+use Rattle.host_core.specs.declared.unheard.Unheard.TheVariants as unheards
 use Rattle.world3270.specs.Always.{is_negative}
 use Rattle.world3270.specs.Given.{Given}
 use Rattle.world3270.specs.Happens.{closed_if, verdict_in, said, came_up, host_acted, host_noted, left_alone, place_after, came_down, went_down, key_went, host_parted, parted, term_saw, joined, term_anew, host_left_from, host_anew, done, happens, run, RunsCompose, host_answered}
@@ -39,7 +42,7 @@ use Rattle.world3270.proofs.Acting.{acts, notes, loses, answers_are_shown}
 use Rattle.world3270.proofs.Down.{term_view, obeys}
 use Rattle.world3270.proofs.Keys.{keys}
 use Rattle.world3270.proofs.OneOfMany.{all_with, differs}
-use Rattle.world3270.proofs.Unreturned.{all_kept}
+use Rattle.world3270.proofs.Unreturned.{all_as_left, all_kept}
 use Rattle.world3270.proofs.Up.{claim, Grants, host_view, answers}
 
 -- ---- what is kept
@@ -225,11 +228,17 @@ term_saw_good app world terminal (Place.Alone display) g = g
 some_cells : (shape : Shape) → IsShape shape → 0 < cells_in shape
 some_cells shape is = let columns = is.columns in let row = is.row in omega (arith, columns, row)
 
-unused_kept : Given → (app : Application) → IsApplication app → Kept app (view_of (unused app))
-unused_kept given app is = record {
+-- nothing was cleared unheard at the begin
+never_cleared : (serves : Terminals) → unheard_of serves ≡ unheards.Clear → ⊥
+never_cleared Waiting e = absurd (cc)
+never_cleared Any e = absurd (cc)
+
+unused_kept : Given → (app : Application) → IsApplication app → (serves : Terminals) → Kept app (view_of (unused app serves))
+unused_kept given app is serves = record {
   whole = length-replicate (cells_in app.begins) (Char 0);
   cursor = some_cells app.begins is.begins;
   unreturned = λ _. all_kept (replicate (cells_in app.begins) (Char 0));
+  as_left = λ _. all_as_left (message_place app.begins) (replicate (cells_in app.begins) (Char 0));
   exact = record { known = given.belief.nothing_exact.0; protected = given.belief.nothing_exact.1 };
   wanted = None;
   moment = Moment.Talks Talking.Offering;
@@ -239,6 +248,7 @@ unused_kept given app is = record {
     term_talk = refl;
     turn = refl;
     pending = refl;
+    not_cleared = never_cleared serves;
     goes_down = record { vanished = ToTerminal.TalksDown (Saying.Opt Do 40) ∷ []; whole = refl; none = λ e. absurd (cc) };
     goes_up = record { vanished = []; whole = refl; none = λ _. refl };
   };
@@ -246,11 +256,12 @@ unused_kept given app is = record {
   shown = tt;
 }
 
-begun_kept : Given → (app : Application) → IsApplication app → (model : Model) (terminal : ℕ) (wanted : Option (List ℕ)) → IsLuIfSome wanted → Kept app (view_of (begun app model terminal wanted))
-begun_kept given app is model terminal wanted lu = record {
+begun_kept : Given → (app : Application) → IsApplication app → (serves : Terminals) (model : Model) (terminal : ℕ) (wanted : Option (List ℕ)) → IsLuIfSome wanted → Kept app (view_of (begun app serves model terminal wanted))
+begun_kept given app is serves model terminal wanted lu = record {
   whole = length-replicate (cells_in app.begins) (Char 0);
   cursor = some_cells app.begins is.begins;
   unreturned = λ _. all_kept (replicate (cells_in app.begins) (Char 0));
+  as_left = λ _. all_as_left (message_place app.begins) (replicate (cells_in app.begins) (Char 0));
   exact = record { known = given.belief.nothing_exact.0; protected = given.belief.nothing_exact.1 };
   wanted = wanted;
   moment = Moment.Talks Talking.Offering;
@@ -260,6 +271,7 @@ begun_kept given app is model terminal wanted lu = record {
     term_talk = refl;
     turn = refl;
     pending = refl;
+    not_cleared = never_cleared serves;
     goes_down = record { vanished = []; whole = refl; none = λ _. refl };
     goes_up = record { vanished = []; whole = refl; none = λ _. refl };
   };
@@ -270,9 +282,9 @@ begun_kept given app is model terminal wanted lu = record {
 joined_good : Given → (app : Application) → IsApplication app → (world : World) (terminal : ℕ) (model : Model) (wanted : Option (List ℕ)) → IsLuIfSome wanted → (number : Option ℕ) → GoodWorld app world → GoodWorld app (joined app terminal model wanted number world)
 joined_good given app is world terminal model wanted lu None g = g
 joined_good given app is world terminal model wanted lu (Some number) g = record {
-  links = all_with (λ n x. Kept app (view_of x)) number (begun app model terminal wanted) world.link (begun_kept given app is model terminal wanted lu) g.links;
+  links = all_with (λ n x. Kept app (view_of x)) number (begun app world.serves model terminal wanted) world.link (begun_kept given app is world.serves model terminal wanted lu) g.links;
   sound = g.sound;
-  holds = all_with (λ n x. Holds world.pool n x) number (begun app model terminal wanted) world.link (λ have here claims. absurd (cc)) g.holds;
+  holds = all_with (λ n x. Holds world.pool n x) number (begun app world.serves model terminal wanted) world.link (λ have here claims. absurd (cc)) g.holds;
   uncaused = g.uncaused;
   positive = g.positive;
 }
@@ -335,9 +347,9 @@ pub run-append : RunsCompose
 run-append app [] more world = refl
 run-append app (event ∷ events) more world = run-append app events more (happens app event world)
 
-pub new_good : Given → (app : Application) → IsApplication app → (pool : List Entry) (models : List Model) → IsPool pool → GoodWorld app (new_world app pool models)
-new_good given app is pool models lists = record {
-  links = λ number. unused_kept given app is;
+pub new_good : Given → (app : Application) → IsApplication app → (serves : Terminals) (pool : List Entry) (models : List Model) → IsPool pool → GoodWorld app (new_world app serves pool models)
+new_good given app is serves pool models lists = record {
+  links = λ number. unused_kept given app is serves;
   sound = given.pool.sound_free pool (given.pool.sound pool lists);
   holds = λ number lu here claims. absurd (cc);
   uncaused = refl;

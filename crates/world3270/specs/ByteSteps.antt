@@ -6,7 +6,6 @@ use Rattle.keyboard.specs.declared.key.Pressed.TheVariants as pressed
 use Rattle.tn3270e_msg.specs.declared.cause.Fed.{Fed}
 use Rattle.tn3270e_msg.specs.declared.cause.Stop.{Stop}
 use Rattle.tn3270e_msg.specs.declared.cause.Stop.TheVariants as stop
-use Rattle.host_core.specs.Acts.{Sent}
 use Rattle.host_core.specs.Application.{application_of}
 use Rattle.host_core.specs.Bytes.{Counter}
 use Rattle.host_core.specs.Does.{Does as HostDoes, DoesAnswer, acted_by, noted_by}
@@ -247,7 +246,7 @@ Happens (event.Up number count) old answer new = ComesUp number (take count (up_
 Happens (event.Down number count) old answer new = GoesDown (terminal_at number old.slots) number (take count (down_of number old)) old answer new
 Happens (event.Act number) old answer new = OnConnection (HostDoes (acted_by (application_of old.host.panels) (service_at number old.host))) number old answer new
 Happens (event.Answer number ticket said) old answer new =
-    OnConnection (DoesAnswer (answered_by (application_of old.host.panels) (session_at number old.host) ticket said (service_at number old.host))) number old answer new
+    OnConnection (DoesAnswer (application_of old.host.panels) said (answered_by (application_of old.host.panels) (session_at number old.host) ticket said (service_at number old.host))) number old answer new
 Happens (event.Note number text) old answer new = OnConnection (HostDoes (noted_by text (service_at number old.host))) number old answer new
 Happens (event.KeepAlive number) old answer new = Is (nop_sent number old) answer new
 Happens (event.Lose number) old answer new = Is (with_transits number (lost_transits number old) old) answer new

@@ -4,7 +4,8 @@
 use Rattle.std.specs.Prelude.{◌==◌, ◌≤◌, ◌-◌, ℕ, Bool, true, false, List, [], Option, Some, None, is_some, drop, position, replicate, slice_index_or, slice_set, take, map}
 use Rattle.lu_pool.specs.declared.entry.Entry.{Entry}
 use Rattle.panels.specs.Panel.{Panels}
-use Rattle.host_core.specs.State.{Host, Service, connection_at, service_at, new_host, most_connections}
+use Rattle.host_core.specs.State.{Host, Service, connection_at, host_for, service_at, most_connections}
+use Rattle.host_core.specs.declared.terminals.Terminals.{Terminals}
 use Rattle.codes3270.specs.Size.{cells_in, model_2}
 use Rattle.codes3270.specs.declared.size.Model.{Model}
 use Rattle.codes3270.specs.declared.size.Model.TheVariants.{M2}
@@ -82,7 +83,7 @@ abbrev pub begun_transits : Transits
 begun_transits = record { down = Transit.Live; up = Transit.Live }
 
 abbrev pub new_tracked : Model → TrackedTerminal
-new_tracked model = record { terminal = new_terminal model; history = record { last_restored = blank_screen (cells_in model_2); erased = false } }
+new_tracked model = record { terminal = new_terminal model; history = record { last_restored = blank_screen (cells_in model_2); before_restored = blank_screen (cells_in model_2); erased = false } }
 
 -- a terminal of this model that begins is alone
 abbrev pub new_slot : Model → TerminalSlot
@@ -162,10 +163,10 @@ up_of number world = under_way (transits_at number world).up (terminal_out numbe
 
 -- ---- a world at its begin
 
--- with a terminal of each of these models
-abbrev pub new_byte_world : Panels → List Entry → List Model → ByteWorld
-new_byte_world panels pool models = record {
-  host = new_host panels pool;
+-- of a host that serves these terminals, with a terminal of each of these models
+abbrev pub new_byte_world : Terminals → Panels → List Entry → List Model → ByteWorld
+new_byte_world serves panels pool models = record {
+  host = host_for serves panels pool;
   links = replicate most_connections unused_transits;
   slots = map new_slot models;
 }

@@ -19,6 +19,7 @@ use Rattle.shadow.specs.Belief.{Fact, Belief}
 use Rattle.tn3270e_msg.specs.declared.term_talk.TermState.{TermState}
 use Rattle.tn3270e_msg.specs.declared.term_talk.TermState.TheVariants.{Agreed, Refused}
 use Rattle.host_core.specs.Messages.{ToTerminal, ToHost}
+use Rattle.host_core.specs.declared.terminals.Terminals.TheVariants.{Waiting as WaitingTerminals}
 use Rattle.world3270.specs.ExampleApplication.{example, example_pool, l1, l2, small}
 use Rattle.world3270.specs.Happens.{run}
 use Rattle.world3270.specs.Headline.{IsLive, IsHostsTurn}
@@ -48,7 +49,7 @@ abbrev pub connected : List Event
 connected = connects ++ settle 0
 
 abbrev pub after : List Event → World
-after events = run example events (new_world example example_pool (M5 ∷ []))
+after events = run example events (new_world example WaitingTerminals example_pool (M5 ∷ []))
 
 -- ---- where it ends
 

@@ -1,15 +1,18 @@
 -- A run of the example in which the application is asked, and answers: readers and proofs need it, and nothing rests on it (our profile).
-use Rattle.std.specs.Prelude.{◌≡◌, codes, true, false, List, [], ◌∷◌, ◌++◌, ℕ, Option, Some, None, replicate}
+use Rattle.std.specs.Prelude.{◌≡◌, drop, codes, true, false, List, [], ◌∷◌, ◌++◌, ℕ, Option, Some, None, replicate}
 use Rattle.codes3270.specs.declared.attention.Aid.TheVariants.{Pf}
+use Rattle.codes3270.specs.declared.attribute.Cell.{Cell}
 use Rattle.datastream.specs.Screen.{Screen}
 use Rattle.keyboard.specs.declared.key.Key.TheVariants as key
 use Rattle.panels.specs.MessageText.{message_of}
+use Rattle.host_core.specs.Application.{message_place}
 use Rattle.host_core.specs.declared.question.Answer.{Answer}
 use Rattle.host_core.specs.declared.question.Question.{Question}
+use Rattle.world3270.specs.AsLeft.{ProtectedIsAsLeft}
 use Rattle.world3270.specs.Asked.{asked_by}
 use Rattle.world3270.specs.ExampleApplication.{example, l1, name_field, letter_field, small, tall}
 use Rattle.world3270.specs.ExampleEnds.{settle, presses, connected, after, end_on, bound_and_shows}
-use Rattle.world3270.specs.ExampleScreens.{sign_on_seen, typed_into, greeting_seen}
+use Rattle.world3270.specs.ExampleScreens.{fresh_sign_on, skipped, sign_on_seen, typed_into, greeting_seen}
 use Rattle.world3270.specs.World.{World, Event, AreEvents}
 
 -- `A` in the first field, then PF6, on which the application decides
@@ -54,9 +57,20 @@ ok_seen = 0xD6 ∷ 0xD2 ∷ replicate 13 0
 abbrev pub kept_sign_on : Screen
 kept_sign_on = sign_on_seen (typed_into true (0xC1 ∷ 0 ∷ 0 ∷ [])) (typed_into false (0xE8 ∷ [])) ok_seen
 
--- The application is asked what the screen shows; the same panel keeps that; and another panel shows what was answered.
+-- the screen that the host's last restoring write left on connection 0
+abbrev pub left_on : World → Screen
+left_on world = (world.link 0).term.display.last_restored
+
+-- the screen of another panel, with the same fields at the same addresses: `CODE` in place of `NAME`
+abbrev pub another_sign_on : List Cell
+another_sign_on = skipped (0xC3 ∷ 0xD6 ∷ 0xC4 ∷ 0xC5 ∷ []) ++ drop 5 fresh_sign_on.cells
+
+-- The application is asked what the screen shows, on the panel that was left, for which no other is taken; the same panel keeps what was
+-- typed; and another panel shows what was answered.
 pub record AskingRun : Type 0 where
   pub are_events : AreEvents answered_on
   pub asked : asked_in 7 (after asked_entry) ≡ Some question
+  pub left : left_on (after asked_entry) ≡ fresh_sign_on
+  pub no_other : ProtectedIsAsLeft (message_place small) fresh_sign_on.cells another_sign_on → ⊥
   pub kept : end_on 0 (after answered_again) ≡ bound_and_shows small kept_sign_on
   pub answered : end_on 0 (after answered_on) ≡ bound_and_shows tall (greeting_seen (0xC2 ∷ 0 ∷ 0 ∷ []))

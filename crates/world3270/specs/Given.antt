@@ -4,6 +4,7 @@ use Rattle.datastream.specs.HeldLaws.{HeldAtFirst}
 use Rattle.datastream.specs.NoteLaws.{NoteKeepsBounds, NoteKeepsForm, NoteKeepsHeld, HeldStaysProtected, NoteKeepsSendable, NotesCompose}
 use Rattle.keyboard.specs.Laws.{KeysKeep, KeysStayOnTheScreen}
 use Rattle.keyboard.specs.Sendable.{KeysKeepSendable}
+use Rattle.shadow.specs.Doubt.{DoubtAllowsTheScreen, DoubtStaysExact, DoubtStaysProtected}
 use Rattle.shadow.specs.Exactness.{NothingIsExact, HeardStaysExact, HeardStaysProtected, TakenStaysExact, PaintedIsExact, ProtectedIsSeen, ReturnedIsTold}
 use Rattle.shadow.specs.Laws.{HearsModified, HearsBuffer, PaintIsSpelt, PaintIsTaken, PaintedIsKnown, WrittenIsTaken}
 use Rattle.shadow.specs.Notes.{PlacedStaysKnown, NoteStaysListed, NoteStaysTold, NoteStaysExact, NoteOpensNothing}
@@ -32,6 +33,9 @@ pub record GivenBelief : Type 0 where
   pub long_opens : LongOpensNothing
   pub read_leaves : ReadLeavesNothingOpen
   pub paint_opens : PaintOpensNothing
+  pub doubt_allows : DoubtAllowsTheScreen
+  pub doubt_exact : DoubtStaysExact
+  pub doubt_protected : DoubtStaysProtected
   pub fit : ActsFit
   pub sizes : SizesAreTheModels
   pub names : NameIsReadAsItself

@@ -116,7 +116,7 @@ term_saw terminal (Place.Alone display) world = world
 abbrev pub joined : Application → ℕ → Model → Option (List ℕ) → Option ℕ → World → World
 joined app terminal model wanted None world = world
 joined app terminal model wanted (Some number) world = record world {
-  link = with_at number (begun app model terminal wanted) world.link;
+  link = with_at number (begun app world.serves model terminal wanted) world.link;
   place = with_at terminal (Place.At number) world.place;
 }
 

@@ -1,4 +1,6 @@
 pub mod Terminal
+pub mod Rules
+pub mod RuleLaws
 pub mod Link
 pub mod World
 pub mod Placed
@@ -6,6 +8,7 @@ pub mod Happens
 pub mod Seen
 pub mod Headline
 pub mod Unreturned
+pub mod AsLeft
 pub mod Always
 pub mod Asked
 pub mod History
@@ -35,6 +38,7 @@ pub mod Losses
 pub mod Forms
 pub mod Numbers
 pub mod Showing
+pub mod ShownFields
 pub mod Shown
 pub mod Sizes
 pub mod Sendable
@@ -50,3 +54,5 @@ pub mod ByteRuns
 pub mod OneOutcome
 pub mod Known
 pub mod Unbroken
+pub mod ShownSince
+pub mod ProtocolErrors

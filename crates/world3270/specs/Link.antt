@@ -5,6 +5,7 @@ use Rattle.codes3270.specs.declared.size.Model.TheVariants.{M2}
 use Rattle.codes3270.specs.declared.size.Model.{Model}
 use Rattle.telnet_wire.specs.declared.wire.Verb.TheVariants.{Do}
 use Rattle.tn3270e_msg.specs.declared.cause.Cause.{Cause}
+use Rattle.host_core.specs.declared.terminals.Terminals.{Terminals}
 use Rattle.host_core.specs.Messages.{ToTerminal, ToHost}
 use Rattle.tn3270e_msg.specs.Talk.{Saying}
 use Rattle.host_core.specs.Session.{Conn, new_conn}
@@ -31,26 +32,27 @@ is_free link = not (link.host_here || is_some link.term_here)
 abbrev pub is_up : Link → Bool
 is_up link = not (link.lost || is_free link)
 
--- at the begin: the host has offered TN3270E; the terminal with that number, which is of this model, wants an LU, if one
-abbrev pub begun : Application → Model → ℕ → Option (List ℕ) → Link
-begun app model terminal wanted = record {
+-- at the begin: the host, which serves these terminals, has offered TN3270E; the terminal with that number, which is of this model,
+-- wants an LU, if one
+abbrev pub begun : Application → Terminals → Model → ℕ → Option (List ℕ) → Link
+begun app serves model terminal wanted = record {
   lost = false;
   down = ToTerminal.TalksDown (Saying.Opt Do 40) ∷ [];
   up = [];
   host_here = true;
-  host = new_conn app;
+  host = new_conn serves app;
   term_here = Some terminal;
   term = new_end model app.begins wanted;
 }
 
 -- a number that was never used: as if its connection was lost before anything was said
-abbrev pub unused : Application → Link
-unused app = record {
+abbrev pub unused : Application → Terminals → Link
+unused app serves = record {
   lost = true;
   down = [];
   up = [];
   host_here = false;
-  host = new_conn app;
+  host = new_conn serves app;
   term_here = None;
   term = new_end M2 app.begins None;
 }

@@ -18,6 +18,7 @@ use Rattle.tn3270e_msg.specs.declared.term_talk.TermState.TheVariants.{Waiting, 
 use Rattle.host_core.specs.Messages.{ToTerminal, ToHost, Verdict}
 use Rattle.host_core.specs.declared.turn.Turn.{Turn}
 use Rattle.host_core.specs.declared.turn.Turn.TheVariants as whose
+use Rattle.host_core.specs.declared.unheard.Unheard.TheVariants as unheards
 use Rattle.host_core.specs.Session.{Pending}
 use Rattle.world3270.specs.View.{View}
 
@@ -208,5 +209,6 @@ pub record IsAt (v : View) (wanted : Option (List ℕ)) (moment : Moment) : Type
   pub term_talk : v.talk ≡ record { model = v.model; wanted = wanted; talk = start_at (term_state_at moment) }
   pub turn : v.host.turn ≡ turn_at moment
   pub pending : v.host.pending ≡ pending_at moment
+  pub not_cleared : v.host.unheard ≡ unheards.Clear → ⊥
   pub goes_down : UnderWay v.lost v.down (down_at v.model moment)
   pub goes_up : UnderWay v.lost v.up (up_at v.model wanted moment)

@@ -9,6 +9,7 @@ use Rattle.host_core.specs.Application.{application_of}
 use Rattle.host_core.specs.Questions.{is_ticket, ticket_of}
 use Rattle.host_core.specs.State.{Service, service_at, session_at}
 use Rattle.host_core.specs.declared.question.Ticket.{Ticket}
+use Rattle.host_core.specs.declared.terminals.Terminals.{Terminals}
 use Rattle.world3270.specs.ByteRuns.{Runs, refused_at}
 use Rattle.world3270.specs.ByteSteps.{Steps, has_place}
 use Rattle.world3270.specs.ByteWorld.{ByteWorld, down_of, new_byte_world, up_of}
@@ -29,8 +30,9 @@ use Rattle.world3270.specs.declared.event.Stepped.TheVariants as stepped
 
 -- ---- a world that a list of events leads to
 
--- with what a world begins: panels, a pool of LUs, and the models of its terminals
+-- with what a world begins: which terminals its host serves, panels, a pool of LUs, and the models of its terminals
 pub record Begin : Type 0 where
+  pub serves : Terminals
   pub panels : Panels
   pub pool : List Entry
   pub models : List Model
@@ -42,7 +44,7 @@ pub record IsBegin (begin : Begin) : Type 0 where
 
 -- the world over messages after these events
 abbrev pub after : Begin → List MessageEvent → World
-after begin events = run (application_of begin.panels) events (new_world (application_of begin.panels) begin.pool begin.models)
+after begin events = run (application_of begin.panels) events (new_world (application_of begin.panels) begin.serves begin.pool begin.models)
 
 -- the bytes represent the world after these events
 pub record Reached (begin : Begin) (events : List MessageEvent) (bytes : ByteWorld) : Type 0 where
@@ -117,7 +119,7 @@ IsCounted event world = ⊤
 
 -- A world that begins represents one that begins.
 abbrev pub BeginIsReached : Type 0
-BeginIsReached = (begin : Begin) → IsBegin begin → Reached begin [] (new_byte_world begin.panels begin.pool begin.models)
+BeginIsReached = (begin : Begin) → IsBegin begin → Reached begin [] (new_byte_world begin.serves begin.panels begin.pool begin.models)
 
 -- what the event is over messages, and that the new bytes represent the world after it
 pub record GoesOn (begin : Begin) (events : List MessageEvent) (event : Event) (old : ByteWorld) (answer : Stepped) (new : ByteWorld) : Type 0 where

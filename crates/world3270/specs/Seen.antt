@@ -23,6 +23,7 @@ pub record TerminalSeen : Type 0 where
   pub bound : Option (List ℕ)  -- the LU that it is bound to
   pub screen : Screen
   pub last_restored : Screen  -- the screen that the host's last restoring write left
+  pub before_restored : Screen  -- the screen that this write found
   pub erased : Bool  -- whether Erase Input was pressed since then
 
 -- a connection, with those of its ends that are attached
@@ -56,6 +57,7 @@ end_seen number end = record {
   bound = bound_to end.talk.talk.state;
   screen = end.display.screen;
   last_restored = end.display.last_restored;
+  before_restored = end.display.before_restored;
   erased = end.display.erased;
 }
 

@@ -30,6 +30,7 @@ tracked_seen number tracked = record {
   bound = bound_of (phase_of tracked.terminal.link);
   screen = tracked.terminal.station.screen.screen;
   last_restored = tracked.history.last_restored;
+  before_restored = tracked.history.before_restored;
   erased = tracked.history.erased;
 }
 

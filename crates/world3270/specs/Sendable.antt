@@ -14,6 +14,7 @@ use Rattle.lu_pool.specs.Pool.{IsPool}
 use Rattle.lu_pool.specs.declared.entry.Entry.{Entry}
 use Rattle.host_core.specs.Application.{Application, IsApplication, AsksForScreens, AreTexts, IsSizeOf}
 use Rattle.host_core.specs.Messages.{ToTerminal, ToHost}
+use Rattle.host_core.specs.declared.terminals.Terminals.{Terminals}
 use Rattle.shadow.specs.Paint.{paint, paint_bytes}
 use Rattle.world3270.specs.Terminal.{Display}
 use Rattle.world3270.specs.Happens.{run}
@@ -36,8 +37,8 @@ IsTyped _ = ⊤
 
 -- Over every list of events with such keys, for any application that asks for screens of the profile.
 abbrev pub AlwaysTyped : (World → Type 0) → Type 0
-AlwaysTyped Holds = (app : Application) (pool : List Entry) (models : List Model) (events : List Event)
-    → IsApplication app → AsksForScreens app → IsPool pool → length models ≤ 16 → AreEvents events → All IsTyped events → Holds (run app events (new_world app pool models))
+AlwaysTyped Holds = (app : Application) (serves : Terminals) (pool : List Entry) (models : List Model) (events : List Event)
+    → IsApplication app → AsksForScreens app → IsPool pool → length models ≤ 16 → AreEvents events → All IsTyped events → Holds (run app events (new_world app serves pool models))
 
 -- a screen that can be sent, with as many cells as its shape has
 pub record CanBeSent (shape : Shape) (screen : Screen) : Type 0 where

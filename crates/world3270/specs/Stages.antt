@@ -1,5 +1,5 @@
 -- What is known of a connection at each of its moments, for proofs (our profile): the headline's invariant.
-use Rattle.std.specs.Prelude.{◌≡◌, ◌<◌, ⊤, ℕ, Bool, false, List, [], length, Option, Some, None, IsTrue, IsOkAnd, true, All}
+use Rattle.std.specs.Prelude.{◌≡◌, ◌<◌, ⊤, ℕ, Bool, false, List, [], length, Option, Some, None, IsTrue, IsOkAnd, true}
 use Rattle.codes3270.specs.Aid.{is_short_aid}
 use Rattle.codes3270.specs.Size.{Shape, cells_in}
 use Rattle.codes3270.specs.declared.attention.Aid.TheVariants.{NoAid, Clear}
@@ -13,7 +13,7 @@ use Rattle.datastream.specs.Wanted.{WantedScreen}
 use Rattle.datastream.specs.declared.inbound_part.Form.TheVariants.{Modified}
 use Rattle.keyboard.specs.declared.key.Lock.{Lock}
 use Rattle.keyboard.specs.declared.key.Lock.TheVariants.{Wait}
-use Rattle.shadow.specs.Belief.{Belief, Shadow, fields_of}
+use Rattle.shadow.specs.Belief.{Shadow}
 use Rattle.shadow.specs.Exactness.{KnownIsExact, ProtectedIsExact}
 use Rattle.shadow.specs.Heard.{heard}
 use Rattle.shadow.specs.Meets.{Meets, Knows, ListsFields, IsTold}
@@ -22,27 +22,31 @@ use Rattle.shadow.specs.Paint.{paint}
 use Rattle.shadow.specs.Taken.{taken}
 use Rattle.tn3270e_msg.specs.Lu.{is_lu}
 use Rattle.tn3270e_msg.specs.Talk.{IsLuIfSome}
-use Rattle.host_core.specs.Acts.{is_settled_fact}
-use Rattle.host_core.specs.Application.{Application, IsSizeOf}
+use Rattle.host_core.specs.Application.{Application, IsSizeOf, message_place}
 use Rattle.host_core.specs.Session.{Conn}
 use Rattle.host_core.specs.Laws.{IsPaintable}
 use Rattle.host_core.specs.NoteLaws.{HasMessageRow, TakesNotes, IsNoteOf}
 use Rattle.host_core.specs.declared.turn_reason.TurnReason.{TurnReason}
 use Rattle.host_core.specs.declared.turn_reason.TurnReason.TheVariants as turn_reasons
+use Rattle.host_core.specs.declared.unheard.Unheard.{Unheard}
+use Rattle.host_core.specs.declared.unheard.Unheard.TheVariants as unheards
+use Rattle.world3270.specs.AsLeft.{ProtectedIsAsLeft}
 use Rattle.world3270.specs.Headline.{SentFields}
 use Rattle.world3270.specs.Moments.{Talking, Serving, Moment, IsAt}
-use Rattle.world3270.specs.Showing.{WantsItsPanel, ShowsItsPanel}
+use Rattle.world3270.specs.Showing.{WantsItsPanelOn, ShowsItsPanel}
+pub use Rattle.world3270.specs.Showing.{IsTextKnown, IsKnownIfRead}
 use Rattle.world3270.specs.TurnReasons.{IsOccasion, IsCursorFor, IsOpenBy, IsOpenFor, IsCleared}
 use Rattle.world3270.specs.Unreturned.{NotedSince, UnmodifiedIsKept}
 use Rattle.world3270.specs.View.{View}
 
--- what the facts are about: the size that the host set last, what it believes of the screen, why it acts and where it believes the
--- cursor is; the lock, the screen, and its history
+-- what the facts are about: the size that the host set last, what it believes of the screen, why it acts, where it believes the
+-- cursor is, and what may have happened unheard; the lock, the screen, and its history
 pub record Scene : Type 0 where
   pub shape : Shape
   pub shadow : Shadow
   pub turn_reason : TurnReason
   pub cursor : ℕ
+  pub unheard : Unheard
   pub lock : Lock
   pub screen : Screen
   pub last_restored : Screen
@@ -54,6 +58,7 @@ scene_of v = record {
   shadow = v.host.shadow;
   turn_reason = v.host.turn_reason;
   cursor = v.host.cursor;
+  unheard = v.host.unheard;
   lock = v.lock;
   screen = v.screen;
   last_restored = v.last_restored;
@@ -68,6 +73,10 @@ once_taken shape command shadow = taken (cells_in shape) command shadow
 pub record FactsAreExact (shadow : Shadow) : Type 0 where
   pub known : KnownIsExact shadow
   pub protected : ProtectedIsExact shadow
+
+-- where the host relies on the wait, this holds too: a host that doesn't has all input in doubt whenever it shows a panel
+abbrev pub IfRelies : Unheard → Type 0 → Type 0
+IfRelies unheard Holds = unheard ≡ unheards.Nothing → Holds
 
 -- ---- the talk
 
@@ -96,7 +105,7 @@ pub record IsPainted (s : Scene) (command : CommandParts) (wanted : WantedScreen
   pub over_is : over ≡ s.shadow
   pub command_is : command ≡ paint (cells_in wanted.size) over wanted
   pub meets : Meets over s.screen
-  pub closed : NothingIsOpen over
+  pub closed : IfRelies s.unheard (NothingIsOpen over)
   pub paintable : IsPaintable s.shape over wanted
 
 -- The operator types, on the screen that the host's last write left, with the notes since then written over it: `shown`. That screen
@@ -106,16 +115,16 @@ pub record Operates (shadow : Shadow) (s : Scene) : Type 0 where
   pub lock : s.lock ≡ Wait → ⊥
   pub exact : FactsAreExact shadow
   pub meets : Meets shadow shown
-  pub closed : NothingIsOpen shadow
+  pub closed : IfRelies s.unheard (NothingIsOpen shadow)
   pub knows : Knows shadow
   pub held : Held s.erased shown.cells s.screen.cells
   pub messages : HasMessageRow s.shape shown.cells
-  pub noted : NotedSince s.last_restored.cells shown.cells
+  pub noted : NotedSince (message_place s.shape) s.last_restored.cells shown.cells
 
 -- the host knows the screen
-pub record Sees (shape : Shape) (screen : Screen) (shadow : Shadow) : Type 0 where
+pub record Sees (unheard : Unheard) (shape : Shape) (screen : Screen) (shadow : Shadow) : Type 0 where
   pub exact : FactsAreExact shadow
-  pub closed : IsOpenBy screen.aid false shadow
+  pub closed : IfRelies unheard (IsOpenBy screen.aid false shadow)
   pub cleared : screen.aid ≡ Clear → IsCleared shape shadow
   pub meets : Meets shadow screen
   pub lists : ListsFields shadow screen
@@ -135,15 +144,15 @@ abbrev pub WillBeHeard : Shape → Shadow → InboundParts → (Shadow → Type 
 WillBeHeard shape shadow parts Then = IsOkAnd (heard (cells_in shape) shadow parts) Then
 
 abbrev pub WillSee : Scene → Shadow → InboundParts → Type 0
-WillSee s shadow parts = WillBeHeard s.shape shadow parts (Sees s.shape s.screen)
+WillSee s shadow parts = WillBeHeard s.shape shadow parts (Sees s.unheard s.shape s.screen)
 
 -- the host decides on the key that was pressed
 pub record Decides (s : Scene) (shadow : Shadow) : Type 0 where
   pub lock : s.lock ≡ Wait
   pub turn_reason : IsOccasion s.turn_reason s.screen.aid
   pub cursor : IsCursorFor s.turn_reason s.cursor s.screen.cursor
-  pub closed : IsOpenFor s.turn_reason shadow
-  pub sees : Sees s.shape s.screen shadow
+  pub closed : IfRelies s.unheard (IsOpenFor s.turn_reason shadow)
+  pub sees : Sees s.unheard s.shape s.screen shadow
 
 -- the screen is read first, as it never is after Clear
 pub record IsRead (s : Scene) : Type 0 where
@@ -181,7 +190,7 @@ ServingFact s (Serving.KeyBehind kind number command parts) =
     × FactsAreExact (once_taken s.shape command s.shadow)
 ServingFact s (Serving.KeyNoted number command parts) = IsPressed s parts × WillSee s s.shadow parts × MayBeNoted s command
 ServingFact s (Serving.KeyBefore number command parts) =
-    IsPressed s parts × WillBeHeard s.shape s.shadow parts (λ shadow. Sees s.shape s.screen (once_taken s.shape command shadow))
+    IsPressed s parts × WillBeHeard s.shape s.shadow parts (λ shadow. Sees s.unheard s.shape s.screen (once_taken s.shape command shadow))
 
 abbrev pub Fact : Option (List ℕ) → Scene → Moment → Type 0
 Fact wanted s (Moment.Talks talking) = IsNew s × TalkFact wanted talking
@@ -191,8 +200,8 @@ Fact wanted s (Moment.Serves lu serving) = ServingFact s serving
 -- ---- what is shown at each moment
 
 -- in the host's turn the connection's panel is shown, unless nothing was shown yet
-abbrev pub HasShownItsPanel : Application → Conn → Screen → Type 0
-HasShownItsPanel app host screen = (host.turn_reason ≡ turn_reasons.Agreement → ⊥) → ShowsItsPanel app host screen
+abbrev pub HasShownItsPanel : Application → Conn → (before screen : Screen) → Type 0
+HasShownItsPanel app host before screen = (host.turn_reason ≡ turn_reasons.Agreement → ⊥) → ShowsItsPanel app host before screen
 
 -- the screen wasn't read since the key was pressed
 abbrev pub IsUnread : TurnReason → Type 0
@@ -201,31 +210,20 @@ IsUnread (turn_reasons.Key aid true) = ⊥
 IsUnread (turn_reasons.Key aid false) = ⊤
 IsUnread turn_reasons.Refusal = ⊤
 
--- the text of a field is known, or is known but for nulls
-abbrev pub IsTextKnown : Belief → Type 0
-IsTextKnown belief = is_settled_fact belief.fact ≡ true
+-- `left`: the screen that the host's last restoring write left; `before`: the one that it found; `now`: the present one
+abbrev pub ShownIn : Application → Conn → (before left now : Screen) → Serving → Type 0
+ShownIn app host before left now Serving.Deciding = HasShownItsPanel app host before left × IsKnownIfRead host.turn_reason host.shadow
+ShownIn app host before left now (Serving.Reading number) = HasShownItsPanel app host before left
+ShownIn app host before left now (Serving.Reported number parts) = HasShownItsPanel app host before left
+ShownIn app host before left now (Serving.NotedLate number command) = ShowsItsPanel app host before left × IsUnread host.turn_reason
+ShownIn app host before left now (Serving.AnsweredLate number command) = ShowsItsPanel app host before left × IsUnread host.turn_reason
+ShownIn app host before left now (Serving.Painting number command wanted over) = WantsItsPanelOn app host over wanted now
+ShownIn app host before left now _ = ShowsItsPanel app host before left
 
--- once the screen was read, that of each field is
-abbrev pub IsKnownIfRead : TurnReason → Shadow → Type 0
-IsKnownIfRead turn_reasons.Agreement shadow = ⊤
-IsKnownIfRead (turn_reasons.Key aid true) shadow = All IsTextKnown (fields_of shadow)
-IsKnownIfRead (turn_reasons.Key aid false) shadow = ⊤
-IsKnownIfRead turn_reasons.Refusal shadow = ⊤
-
--- `left`: the screen that the host's last restoring write left
-abbrev pub ShownIn : Application → Conn → Screen → Serving → Type 0
-ShownIn app host left Serving.Deciding = HasShownItsPanel app host left × IsKnownIfRead host.turn_reason host.shadow
-ShownIn app host left (Serving.Reading number) = HasShownItsPanel app host left
-ShownIn app host left (Serving.Reported number parts) = HasShownItsPanel app host left
-ShownIn app host left (Serving.NotedLate number command) = ShowsItsPanel app host left × IsUnread host.turn_reason
-ShownIn app host left (Serving.AnsweredLate number command) = ShowsItsPanel app host left × IsUnread host.turn_reason
-ShownIn app host left (Serving.Painting number command wanted over) = WantsItsPanel app host over wanted
-ShownIn app host left _ = ShowsItsPanel app host left
-
-abbrev pub ShownAt : Application → Conn → Screen → Moment → Type 0
-ShownAt app host left (Moment.Talks talking) = ⊤
-ShownAt app host left (Moment.Begins lu number command wanted over) = WantsItsPanel app host over wanted
-ShownAt app host left (Moment.Serves lu serving) = ShownIn app host left serving
+abbrev pub ShownAt : Application → Conn → (before left now : Screen) → Moment → Type 0
+ShownAt app host before left now (Moment.Talks talking) = ⊤
+ShownAt app host before left now (Moment.Begins lu number command wanted over) = WantsItsPanelOn app host over wanted now
+ShownAt app host before left now (Moment.Serves lu serving) = ShownIn app host before left now serving
 
 -- ---- sizes
 
@@ -251,10 +249,11 @@ pub record Kept (app : Application) (v : View) : Type 0 where
   pub whole : length v.screen.cells ≡ cells_in v.shape
   pub cursor : v.screen.cursor < cells_in v.shape
   pub unreturned : (v.screen.aid ≡ Clear → ⊥) → UnmodifiedIsKept v.erased v.last_restored.cells v.screen.cells
+  pub as_left : (v.screen.aid ≡ Clear → ⊥) → ProtectedIsAsLeft (message_place v.shape) v.last_restored.cells v.screen.cells
   pub exact : FactsAreExact v.host.shadow
   pub wanted : Option (List ℕ)
   pub moment : Moment
   pub sizes : Sizes app v moment
   pub at : IsAt v wanted moment
   pub fact : Fact wanted (scene_of v) moment
-  pub shown : ShownAt app v.host v.last_restored moment
+  pub shown : ShownAt app v.host v.before_restored v.last_restored v.screen moment

@@ -4,6 +4,7 @@ use Rattle.std.specs.Prelude.{◌≡◌, ◌≤◌, ⊤, ℕ, Bool, false, List,
 use Rattle.host_core.specs.Application.{application_of}
 use Rattle.codes3270.specs.declared.size.Model.TheVariants.{M2}
 use Rattle.telnet_wire.specs.Reading.{Rest, nothing}
+use Rattle.host_core.specs.declared.terminals.Terminals.TheVariants.{Waiting as WaitingTerminals}
 use Rattle.host_core.specs.Session.{Conn, new_conn}
 use Rattle.host_core.specs.State.{Service, Connection, connection_at, service_at, most_connections}
 use Rattle.term_core.specs.State.{Detached}
@@ -18,7 +19,7 @@ use Rattle.world3270.specs.World.{Place, World}
 
 -- a state that no step reads, for a number that isn't open
 abbrev pub unread_conn : Conn
-unread_conn = new_conn (application_of (record { start = 0; lus = []; panels = [] }))
+unread_conn = new_conn WaitingTerminals (application_of (record { start = 0; lus = []; panels = [] }))
 
 -- the host's state of a connection, and what its decoder holds
 abbrev pub conn_of : Service → Conn
@@ -79,6 +80,7 @@ pub record IsAlone (tracked : TrackedTerminal) (display : Display) : Type 0 wher
   pub screen : tracked.terminal.station.screen ≡ sized display
   pub keyboard : tracked.terminal.station.keyboard ≡ display.keyboard
   pub last_restored : tracked.history.last_restored ≡ display.last_restored
+  pub before_restored : tracked.history.before_restored ≡ display.before_restored
   pub erased : tracked.history.erased ≡ display.erased
 
 abbrev pub IsAt : TerminalSlot → Place → Type 0
@@ -102,6 +104,7 @@ pub record WorldStands (bytes : ByteWorld) (world : World) : Type 0 where
   pub transits : length bytes.links ≡ most_connections
   pub terminals : length bytes.slots ≡ world.terminals
   pub pool : bytes.host.pool ≡ world.pool
+  pub serves : bytes.host.terminals ≡ world.serves
   pub none_closed : (number : ℕ) → IsNotClosed (service_at number bytes.host)
   pub settled : (number : ℕ) → IsSettled (connection_at number bytes.host)
   pub flows : (number : ℕ) → AreTransits (terminal_at number bytes.slots) number bytes

@@ -146,6 +146,7 @@ pub record IsEnd (bytes : ByteEnd) (end : TermEnd) : Type 0 where
   pub screen_is : bytes.station.screen ≡ sized end.display
   pub keyboard_is : bytes.station.keyboard ≡ end.display.keyboard
   pub last_restored_is : bytes.history.last_restored ≡ end.display.last_restored
+  pub before_restored_is : bytes.history.before_restored ≡ end.display.before_restored
   pub erased_is : bytes.history.erased ≡ end.display.erased
 
 -- a terminal whose decoder holds this rest is attached, and holds the end

@@ -15,6 +15,7 @@ use Rattle.term_core.specs.Presses.{key_outcome}
 use Rattle.tn3270e_msg.specs.Header.{record_limit}
 use Rattle.host_core.specs.KeepAlive.{no_operation}
 use Rattle.host_core.specs.Messages.{ToTerminal, ToHost}
+use Rattle.host_core.specs.declared.terminals.Terminals.{Terminals}
 use Rattle.host_core.specs.Session.{Conn, new_conn}
 use Rattle.world3270.specs.Always.{is_refusal}
 use Rattle.world3270.specs.Link.{Link, begun, sent, host_left, term_left, term_stepped}
@@ -54,21 +55,21 @@ StandsGoOn {X} spoken Stands = (rest mid : Rest) (bytes behind : List ℕ) (item
 -- ---- a connection at its begin
 
 -- the host has offered TN3270E: DO TN3270E
-abbrev pub begun_bytes : Panels → Model → ℕ → Option (List ℕ) → ByteLink
-begun_bytes panels model terminal wanted = record {
+abbrev pub begun_bytes : Terminals → Panels → Model → ℕ → Option (List ℕ) → ByteLink
+begun_bytes serves panels model terminal wanted = record {
   lost = false;
   down = 255 ∷ 253 ∷ 40 ∷ [];
   up = [];
   host_here = true;
-  host = new_conn (application_of panels);
+  host = new_conn serves (application_of panels);
   host_rest = nothing;
   term_here = Some terminal;
   tracked = newly_tracked model wanted;
 }
 
 abbrev pub BeginStands : Type 0
-BeginStands = (panels : Panels) (model : Model) (terminal : ℕ) (wanted : Option (List ℕ))
-    → LinkStands (begun_bytes panels model terminal wanted) (begun (application_of panels) model terminal wanted)
+BeginStands = (serves : Terminals) (panels : Panels) (model : Model) (terminal : ℕ) (wanted : Option (List ℕ))
+    → LinkStands (begun_bytes serves panels model terminal wanted) (begun (application_of panels) serves model terminal wanted)
 
 -- ---- a connection, as its terminal goes on
 

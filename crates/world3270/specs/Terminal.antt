@@ -23,15 +23,16 @@ use Rattle.tn3270e_msg.specs.declared.term_talk.TermState.{TermState}
 use Rattle.tn3270e_msg.specs.declared.term_talk.TermState.TheVariants.{Waiting, Willing, TypeAsked, FunctionsAsked, Agreed, Refused as RefusedState, Closed}
 use Rattle.host_core.specs.Messages.{ToTerminal, ToHost, Verdict}
 
--- What the operator has before him: a terminal of a model, with a screen of a size that the model may have. `last_restored` and `erased`
--- are history, which no step reads: the screen just after the terminal last took a write with restore on its latest connection, and
--- whether Erase Input was done since.
+-- What the operator has before him: a terminal of a model, with a screen of a size that the model may have. `last_restored`,
+-- `before_restored` and `erased` are history, which no step reads: the screens just after and just before the terminal last took a write
+-- with restore on its latest connection, and whether Erase Input was done since.
 pub record Display : Type 0 where
   pub model : Model
   pub shape : Shape
   pub screen : Screen
   pub keyboard : Keyboard
   pub last_restored : Screen
+  pub before_restored : Screen
   pub erased : Bool
 
 -- the screen is blank, and the keyboard waits
@@ -42,6 +43,7 @@ new_display model shape = record {
   screen = blank_screen (cells_in shape);
   keyboard = fresh;
   last_restored = blank_screen (cells_in shape);
+  before_restored = blank_screen (cells_in shape);
   erased = false;
 }
 
@@ -94,6 +96,7 @@ painted wanted display = record display {
   screen = plainly_painted wanted display.screen;
   keyboard = freed display.keyboard;
   last_restored = plainly_painted wanted display.screen;
+  before_restored = display.screen;
   erased = false;
 }
 

@@ -14,9 +14,11 @@ use Rattle.term_core.specs.Presses.{after_key, answer_to_key}
 use Rattle.term_core.specs.State.{Station, Terminal, connected}
 use Rattle.world3270.specs.Terminal.{erases_if}
 
--- the screen just after the terminal last took a write with restore on its latest connection, and whether Erase Input was done since
+-- the screens just after and just before the terminal last took a write with restore on its latest connection, and whether Erase Input
+-- was done since
 pub record History : Type 0 where
   pub last_restored : Screen
+  pub before_restored : Screen
   pub erased : Bool
 
 pub record TrackedTerminal : Type 0 where
@@ -25,23 +27,23 @@ pub record TrackedTerminal : Type 0 where
 
 -- a terminal of this model at the begin of a connection, on which it wants this LU, if one
 abbrev pub newly_tracked : Model → Option (List ℕ) → TrackedTerminal
-newly_tracked model wanted = record { terminal = connected model wanted; history = record { last_restored = blank_screen (cells_in model_2); erased = false } }
+newly_tracked model wanted = record { terminal = connected model wanted; history = record { last_restored = blank_screen (cells_in model_2); before_restored = blank_screen (cells_in model_2); erased = false } }
 
 -- ---- bytes
 
--- the history once a write with restore was applied, if one was; this is the screen after it
-abbrev pub restored_by : Bool → Screen → History → History
-restored_by true screen old = record { last_restored = screen; erased = false }
-restored_by false screen old = old
+-- the history once a write with restore was applied, if one was; these are the screens before it and after it
+abbrev pub restored_by : Bool → (before after : Screen) → History → History
+restored_by true before after old = record { last_restored = after; before_restored = before; erased = false }
+restored_by false before after old = old
 
 -- the history after a byte: if the byte completed a write with restore that was applied, the screen
 -- after that write is the last restored one
-abbrev pub marked : Station → History → History
-marked station old = restored_by station.took_write station.screen.screen old
+abbrev pub marked : (before after : Station) → History → History
+marked before after old = restored_by after.took_write before.screen.screen after.screen.screen old
 
 pub record TrackedTakesByte (old : TrackedTerminal) (byte : ℕ) (new : TrackedTerminal) : Type 0 where
   pub takes : TakesByte old.terminal byte new.terminal
-  pub history : new.history ≡ marked new.terminal.station old.history
+  pub history : new.history ≡ marked old.terminal.station new.terminal.station old.history
 
 -- bytes come, one after another
 abbrev pub TrackedTakes : TrackedTerminal → List ℕ → TrackedTerminal → Type 0
@@ -59,7 +61,7 @@ HistoryFollows = (old : TrackedTerminal) (bytes : List ℕ) (new : Terminal)
 abbrev pub tracked_after_key : Key → TrackedTerminal → TrackedTerminal
 tracked_after_key key old = record {
   terminal = after_key key old.terminal;
-  history = record { last_restored = old.history.last_restored; erased = old.history.erased || erases_if (answer_to_key key old.terminal) key };
+  history = record { last_restored = old.history.last_restored; before_restored = old.history.before_restored; erased = old.history.erased || erases_if (answer_to_key key old.terminal) key };
 }
 
 -- ---- items
@@ -82,4 +84,4 @@ pub record ByteStep : Type 0 where
 -- an item comes, with the byte that completes it
 pub record EndTakes (old : ByteEnd) (item : WireItem) (step : ByteStep) : Type 0 where
   pub takes : TakesItem old.talk (before_byte old.station) item step.says step.closes step.end.talk step.end.station
-  pub history : step.end.history ≡ marked step.end.station old.history
+  pub history : step.end.history ≡ marked old.station step.end.station old.history

@@ -11,6 +11,7 @@ use Rattle.shadow.specs.Taken.{taken}
 use Rattle.host_core.specs.NoteLaws.{IsNoteOf}
 use Rattle.host_core.specs.declared.turn_reason.TurnReason.{TurnReason}
 use Rattle.host_core.specs.declared.turn_reason.TurnReason.TheVariants as turn_reasons
+use Rattle.host_core.specs.declared.unheard.Unheard.TheVariants as unheards
 use Rattle.world3270.specs.Headline.{IsHostsTurn, SentFields}
 use Rattle.world3270.specs.Seen.{seen_link}
 use Rattle.world3270.specs.World.{World}
@@ -47,10 +48,11 @@ IsCursorFor (turn_reasons.Key aid true) known place = known ≡ place
 IsCursorFor (turn_reasons.Key aid false) known place = is_short_aid aid ≡ false → known ≡ place
 IsCursorFor turn_reasons.Refusal known place = ⊤
 
--- After Enter or a PF key the host believes a text, or a text or nulls, of each unprotected field.
+-- After Enter or a PF key a host that relies on the terminal's wait believes a text, or a text or nulls, of each unprotected field. (One that
+-- doesn't may have fields in doubt; then it reads the screen.)
 abbrev pub LeavesNothingOpen : World → Type 0
 LeavesNothingOpen world = (number : ℕ) → let link = world.link number in
-    IsHostsTurn (seen_link link) → SentFields link.term.display.screen.aid → NothingIsOpen link.host.shadow
+    IsHostsTurn (seen_link link) → link.host.unheard ≡ unheards.Nothing → SentFields link.term.display.screen.aid → NothingIsOpen link.host.shadow
 
 -- what notes make of a belief; the last one stands first
 abbrev pub after_notes : Shape → List CommandParts → Shadow → Shadow

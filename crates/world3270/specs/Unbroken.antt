@@ -2,12 +2,14 @@
 -- profile; responses are those of RFC 1647, section 10.4).
 use Rattle.std.specs.Prelude.{◌≡◌, ◌==◌, ⊤, ℕ, Bool, true, false, List, ◌∷◌, ◌++◌, Some}
 use Rattle.std.specs.List.{AllByRecursion}
-use Rattle.telnet_wire.specs.Items.{WireItem, CanCome, sent_bytes}
+use Rattle.telnet_wire.specs.Items.{WireItem, Record, CanCome, sent_bytes}
 use Rattle.telnet_wire.specs.Reading.{Rest, Delivers, nothing}
 use Rattle.term_core.specs.Says.{response}
 use Rattle.term_core.specs.declared.outcome.Outcome.{Outcome}
 use Rattle.term_core.specs.declared.outcome.Outcome.TheVariants.{DeviceEnd}
-use Rattle.tn3270e_msg.specs.Header.{record_limit}
+use Rattle.tn3270e_msg.specs.Header.{Begins, negative, record_limit}
+use Rattle.tn3270e_msg.specs.declared.header.Header.{Header}
+use Rattle.tn3270e_msg.specs.declared.header.DataType.TheVariants.{Response}
 use Rattle.host_core.specs.Messages.{ToHost}
 use Rattle.host_core.specs.State.{service_at}
 use Rattle.world3270.specs.Always.{NobodyRefuses}
@@ -71,6 +73,19 @@ NobodyHasRefused = (begin : Begin) (events : List MessageEvent) (bytes : ByteWor
 
 -- ---- responses
 
+-- a negative response, whatever its reason
+pub record IsNegativeResponse (item : WireItem) : Type 0 where
+  pub bytes : List ℕ
+  pub header : Header
+  pub body : List ℕ
+  pub is_record : item ≡ Record bytes
+  pub begins : Begins bytes header body
+  pub kind : header.kind ≡ Response
+  pub flag : header.flag ≡ negative
+
+abbrev pub IsNotNegative : WireItem → Type 0
+IsNotNegative item = IsNegativeResponse item → ⊥
+
 -- Each response under way to a host that is there says that the command was carried out.
 abbrev pub NothingIsRefused : Type 0
 NothingIsRefused = (bytes : ByteWorld) (number sequence : ℕ) (outcome : Outcome) (before behind : List WireItem)
@@ -95,12 +110,13 @@ UnderWayRefusesNothing = (begin : Begin) (events : List MessageEvent) (bytes : B
     → IsBegin begin → Reached begin events bytes → SpellsNoRefusal number bytes ((after begin events).link number).up
 
 -- What a terminal said in a step: items after what it had to send, and each response among them
--- says that the command was carried out.
+-- says that the command was carried out; no item is a negative response of any other form.
 pub record SaysNoRefusal (terminal : ℕ) (old new : ByteWorld) : Type 0 where
   pub says : List WireItem
   pub sent : (slot_at terminal new).tracked.terminal.out ≡ (slot_at terminal old).tracked.terminal.out ++ sent_bytes says
   pub fit : AllByRecursion (CanCome record_limit) says
   pub carried_out : (sequence : ℕ) (outcome : Outcome) (before behind : List WireItem) → says ≡ before ++ response sequence outcome ∷ behind → outcome ≡ DeviceEnd
+  pub none : AllByRecursion IsNotNegative says
 
 -- A terminal refuses nothing that is delivered to it, whether or not its host is still there to
 -- read the response.

@@ -1,5 +1,5 @@
 -- Fields that Enter and PF keys don't return, cell by cell (our profile): the headline says it field by field, its invariant so.
-use Rattle.std.specs.Prelude.{◌≡◌, ◌⊎◌, ◌<◌, ⊤, ℕ, Bool, if◌then◌else◌, List, length, slice_index_or, Option, Some, None}
+use Rattle.std.specs.Prelude.{◌≡◌, ◌⊎◌, ◌<◌, ◌≤◌, ⊤, ℕ, Bool, if◌then◌else◌, List, length, slice_index_or, Option, Some, None}
 use Rattle.codes3270.specs.declared.attribute.Attr.{Attr as Attribute}
 use Rattle.codes3270.specs.declared.attribute.Cell.{Cell}
 use Rattle.codes3270.specs.declared.attribute.Cell.TheVariants.{Char, Attr}
@@ -29,7 +29,9 @@ pub record UnmodifiedIsKept (erased : Bool) (left now : List Cell) : Type 0 wher
   pub each : (place : ℕ) → place < length now → IsInUnmodified (attribute_over now place)
       → IsKept erased (slice_index_or left place (Char 0)) (slice_index_or now place (Char 0))
 
--- Notes were written over protected characters alone; each other cell is as it was left.
-pub record NotedSince (left shown : List Cell) : Type 0 where
+-- Notes were written over protected characters alone, all of them behind the address where the row of messages begins; each other cell
+-- is as it was left.
+pub record NotedSince (row : ℕ) (left shown : List Cell) : Type 0 where
   pub places : SamePlaces left shown
   pub each : (place : ℕ) → IsProtectedChar shown place ⊎ (slice_index_or shown place (Char 0) ≡ slice_index_or left place (Char 0))
+  pub above : (place : ℕ) → place ≤ row → slice_index_or shown place (Char 0) ≡ slice_index_or left place (Char 0)

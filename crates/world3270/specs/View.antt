@@ -21,6 +21,7 @@ pub record View : Type 0 where
   pub screen : Screen
   pub lock : Lock
   pub last_restored : Screen
+  pub before_restored : Screen
   pub erased : Bool
 
 abbrev pub view_of : Link → View
@@ -35,5 +36,6 @@ view_of link = record {
   screen = link.term.display.screen;
   lock = link.term.display.keyboard.lock;
   last_restored = link.term.display.last_restored;
+  before_restored = link.term.display.before_restored;
   erased = link.term.display.erased;
 }

@@ -11,6 +11,7 @@ use Rattle.host_core.specs.Messages.{Verdict}
 use Rattle.host_core.specs.Notes.{IsNoteText}
 use Rattle.lu_pool.specs.Holders.{all_free}
 use Rattle.host_core.specs.declared.question.Answer.{Answer as Said}
+use Rattle.host_core.specs.declared.terminals.Terminals.{Terminals}
 use Rattle.world3270.specs.Terminal.{Display, new_display}
 use Rattle.world3270.specs.Link.{Link, unused}
 
@@ -19,9 +20,10 @@ pub data Place : Type 0 where
   At : ℕ → Place
   Alone : Display → Place
 
--- `causes` and `verdicts` are history, which no step reads: by which causes ends have closed, and what terminals have said of
+-- `serves`: which terminals the host serves. `causes` and `verdicts` are history, which no step reads: by which causes ends have closed, and what terminals have said of
 -- commands
 pub record World : Type 0 where
+  pub serves : Terminals
   pub pool : List Entry
   pub link : ℕ → Link
   pub place : ℕ → Place
@@ -39,10 +41,11 @@ display_at world (Place.At number) = (world.link number).term.display
 display_at world (Place.Alone display) = display
 
 -- a world at its begin, with a terminal of each of these models: nobody holds an LU, no number is used
-abbrev pub new_world : Application → List Entry → List Model → World
-new_world app pool models = record {
+abbrev pub new_world : Application → Terminals → List Entry → List Model → World
+new_world app serves pool models = record {
+  serves = serves;
   pool = all_free pool;
-  link = λ number. unused app;
+  link = λ number. unused app serves;
   place = λ terminal. Place.Alone (new_display (slice_index_or models terminal M2) app.begins);
   terminals = length models;
   causes = [];

@@ -1,6 +1,6 @@
 //! What may happen to the world, and the answers to it.
 ghost use Rattle.tn3270e_msg.specs.Talk.{IsLuIfSome};
-ghost use Rattle.world3270.specs.Refines.{IsReal};
+ghost use Rattle.world3270.specs.Refines.{AreReal, IsReal};
 
 use crate::note_text::NoteText;
 use host_core::{Answer, Ticket};
@@ -85,6 +85,15 @@ pub(crate) fn events_are_real(event: &Event)
         Event::Connect(_, wanted) => names_are_lus(wanted),
         Event::RestartTerm(_) => {}
         Event::RestartHost => {}
+    }
+}
+
+/// Law: so it is of each of these events.
+pub(crate) fn all_events_are_real(events: &[Event])
+    ensures { AreReal events.now }
+{
+    for event in events {
+        events_are_real(event);
     }
 }
 

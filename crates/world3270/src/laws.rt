@@ -1,7 +1,7 @@
 //! Laws of the worlds over messages and over bytes: each is the contract of a function that does nothing. Proofs of
 //! other crates use them; no program calls them, and the root doesn't export them.
 ghost use Rattle.world3270.specs.Always.{Always, AlwaysOf, HeadlineHolds, NobodyRefuses};
-ghost use Rattle.world3270.specs.Asked.{AskedIsSeen, AskedIsSeenOverBytes, FieldsAreSeen};
+ghost use Rattle.world3270.specs.Asked.{AskedIsSeen, AskedIsSeenOverBytes, FieldsAreSeen, ScreensAreAsLeft};
 ghost use Rattle.world3270.specs.Example.{TheRunsEndSo};
 ghost use Rattle.world3270.specs.Forms.{FormsAreAwaited};
 ghost use Rattle.world3270.specs.Given.{Given};
@@ -12,27 +12,32 @@ ghost use Rattle.world3270.specs.Losses.{LostTakesNothing};
 ghost use Rattle.world3270.specs.Numbers.{NumbersFit};
 ghost use Rattle.world3270.specs.TurnReasons.{ActsOnTheKey, KnowsTheCleared, LeavesNothingOpen};
 ghost use Rattle.world3270.specs.OneOutcome.{EventsAreOne, RunsAreOne, StepsAreOne};
+ghost use Rattle.world3270.specs.RuleLaws.{ImpatientKeysOperate, KeysOperate};
 ghost use Rattle.world3270.specs.Places.{EndsAgree, UpIsHeld, HoldersAreHere, LinksStay, HoldersStay, PoolIsSound};
 ghost use Rattle.world3270.specs.Refines.{BeginIsReached, HeadlineIsSeen, RunsGoOn, SkipsAreThose, StepsGoOn};
 ghost use Rattle.world3270.specs.TrackedTerminals.{HistoryFollows};
 ghost use Rattle.world3270.specs.Sendable.{AlwaysTyped, DataCanBeSpelt, PaintsAreScreens, PaintsAreSpelt, ScreensAreSendable, ScreensHaveASize, ValuesAreTexts};
-ghost use Rattle.world3270.specs.Shown.{PanelIsShown, PanelIsShownOverBytes};
+ghost use Rattle.world3270.specs.Shown.{FieldsAreShown, PanelIsShown, PanelIsShownOverBytes};
+ghost use Rattle.world3270.specs.ShownFields.{OtherTextsAreNot};
+ghost use Rattle.world3270.specs.ShownSince.{AnswersAreShownOverBytes, StepsKeepPanels, WaitingKeepsTheScreen};
 ghost use Rattle.world3270.specs.Sizes.{AllSizesAgree};
 ghost use Rattle.world3270.specs.Skipped.{SkippedChangesNothing};
 ghost use Rattle.world3270.specs.Stands.{StandsDown, StandsUp, all_items, without_nops};
 ghost use Rattle.world3270.specs.StandsEnds.{NopHasNoEffect, PaintStands, TakesKeepSendable, TermPresses, TermTakes, WritesAreMarked};
+ghost use Rattle.world3270.specs.ProtocolErrors.{EventsMakeNoProtocolErrors, RefusalsAreNegative, WorldsHaveNoProtocolError};
 ghost use Rattle.world3270.specs.Unbroken.{DeliveriesCloseNothing, NobodyCloses, NobodyHasRefused, NothingIsRefused, TerminalsRefuseNothing, UnderWayRefusesNothing};
 ghost use Rattle.world3270.specs.StandsLinks.{BeginStands, BytesAreMarked, DownIsNotRefused, DownStands, HostLeaves, HostSends, LossStands, NopStands, NothingStands, PressStands, StandsCompose, StandsGoOn, TermLeaves, UpStands, WhatComesMayCome};
 
 use datastream::laws::{fields_both_ways, kept_since_the_write, sent_is_read, what_a_note_keeps};
 use host_core::laws::{notes_are_written, panels_are_shown, what_is_shown_fits};
-use keyboard::laws::{keys_keep_what_was_left, what_keys_leave_can_be_sent};
+use keyboard::laws::{keys_keep_what_was_left, sent_keys_wait, what_keys_leave_can_be_sent};
 use lu_pool::laws::the_pool_is_a_map;
-use panels::laws::fields_are_on_the_screen;
+use panels::laws::{fields_are_on_the_screen, fields_are_written, kept_fields_are_whole};
 use shadow::laws::{
-    what_a_note_leaves, what_is_believed_has_a_size, what_is_exact_is_so, what_is_known_is_exact,
-    what_is_protected_is_exact, what_is_read_is_heard, what_is_sent_is_heard,
-    what_is_wanted_is_painted, what_is_written_is_taken, what_leaves_nothing_open,
+    painted_fields_are_there, what_a_note_leaves, what_is_believed_has_a_size, what_is_exact_is_so,
+    what_is_in_doubt_is_allowed, what_is_known_is_exact, what_is_protected_is_exact, what_is_read_is_heard,
+    what_is_sent_is_heard, what_is_wanted_is_painted, what_is_written_is_taken,
+    what_leaves_nothing_open,
 };
 use tn3270e_msg::laws::one_reading;
 
@@ -54,13 +59,14 @@ fn what_is_given()
     the_pool_is_a_map();
     what_is_written_is_taken();
     what_leaves_nothing_open();
+    what_is_in_doubt_is_allowed();
     what_a_note_keeps();
     what_a_note_leaves();
     notes_are_written();
 }
 
-/// Law: the headline. After any list of events on a new world, with any application, any pool of
-/// LUs and up to 16 terminals of any models: no two live sessions have one LU, and where a terminal
+/// Law: the headline. After any list of events on a new world, with any application, whether or not
+/// the host relies on the terminals' wait, any pool of LUs and up to 16 terminals of any models: no two live sessions have one LU, and where a terminal
 /// is bound to one the host's end agreed on that, and its connection holds it in the pool; and
 /// whenever the host holds the turn with its last command answered, the screen is as it believes,
 /// and after Enter or a PF key it has the text of each field that was returned, and each
@@ -73,8 +79,8 @@ pub fn the_headline_holds()
     what_is_given();
 }
 
-/// Law: over the same lists no terminal has ever refused a command, and that neither end has ever
-/// closed a connection by a cause.
+/// Law: over the same lists no terminal has ever refused a command, no refusal is the reason of the
+/// host's turn, and neither end has ever closed a connection by a cause.
 pub fn nobody_refuses()
     ensures { Always NobodyRefuses }
 {
@@ -83,8 +89,8 @@ pub fn nobody_refuses()
 
 /// Law: over the same lists the host, when it decides, acts on the key that was pressed last; that
 /// after Clear it believes in a screen without fields, of nulls but for the notes that came since;
-/// and that after Enter or a PF key it believes a text, or a text or nulls, of each unprotected
-/// field.
+/// and that after Enter or a PF key, if it relies on the terminals' wait, it believes a text, or a
+/// text or nulls, of each unprotected field.
 pub fn what_was_pressed_is_acted_on()
     ensures key { Always ActsOnTheKey }
     ensures cleared { Always KnowsTheCleared }
@@ -99,10 +105,13 @@ pub fn what_was_pressed_is_acted_on()
 /// the one that the screen shows in that field, nulls removed. It has a text for each field of the
 /// panel, and each of these is on the screen, at its place and with its length, if each screen that
 /// the application asks for has its panel's fields. And so it is of each world over bytes that
-/// represents one over messages: the screens of panels have their fields.
+/// represents one over messages: the screens of panels have their fields. Unless Clear was pressed
+/// last, what is protected on the screen of an attached terminal is as the host's last restoring
+/// write left it, but for the row of messages.
 pub fn what_is_asked_is_seen()
     ensures messages { AlwaysOf AskedIsSeen }
     ensures fields { AlwaysOf FieldsAreSeen }
+    ensures screens { Always ScreensAreAsLeft }
     ensures bytes { AskedIsSeenOverBytes }
 {
     what_is_given();
@@ -113,14 +122,24 @@ pub fn what_is_asked_is_seen()
 /// Law: what is answered is shown. Over the same lists of messages, on each connection with both ends
 /// attached, if a panel was shown there and its paint is answered: the screen that the host's last
 /// restoring write left is a wanted screen of the connection's panel, with the connection's values and
-/// message, painted on a screen that a belief allows; `Showing` says what is wanted. And so it is of
-/// each world over bytes that represents one over messages.
+/// message, painted on a screen that a belief allows; `Showing` says what is wanted. It shows each
+/// field of the panel, at its place and with its length: with the panel's attribute and with the value
+/// or the fill that the host has for it, or as it was before, if the panel is shown again
+/// (`ShownFields`), if each screen that the application asks for has its panel's fields. And so it is
+/// of each world over bytes that represents one over messages: the screens of panels have their
+/// fields. A screen with another text in a field doesn't show them.
 pub fn what_is_answered_is_shown()
     ensures messages { AlwaysOf PanelIsShown }
+    ensures fields { AlwaysOf FieldsAreShown }
     ensures bytes { PanelIsShownOverBytes }
+    ensures others { OtherTextsAreNot }
 {
     what_is_given();
     panels_are_shown();
+    painted_fields_are_there();
+    fields_are_written();
+    kept_fields_are_whole();
+    fields_are_on_the_screen();
 }
 
 /// Law: over the same lists the data that comes up to the host next has the form that it awaits:
@@ -306,6 +325,33 @@ pub fn bytes_follow_messages()
     what_is_known();
 }
 
+/// Law: what is shown on a connection changes by the host's decisions there alone. An event by which
+/// it decides nothing there leaves the connection's panel, values and message. And so what an
+/// application answered is shown until the host decides again: once the paint is answered, panel,
+/// values, message and the field for the cursor are those of the answer. And a key that is pressed
+/// while the keyboard waits for the host changes no screen: what a paint finds is what the key before
+/// it sent, but for notes.
+pub fn what_is_shown_stays()
+    ensures steps { StepsKeepPanels }
+    ensures answers { AnswersAreShownOverBytes }
+    ensures waiting { WaitingKeepsTheScreen }
+{
+    bytes_follow_messages();
+    what_is_answered_is_shown();
+}
+
+/// Law: there is no protocol error in a world over bytes, nor in what happens to it. Neither end
+/// closes a connection by a cause; no terminal sends a negative response, none is under way, and none
+/// has come to a host. (Each response by which a terminal would refuse a command is a negative one.)
+pub fn no_protocol_errors()
+    ensures worlds { WorldsHaveNoProtocolError }
+    ensures events { EventsMakeNoProtocolErrors }
+    ensures refusals { RefusalsAreNegative }
+{
+    what_is_known();
+    bytes_follow_messages();
+}
+
 /// Law: a world over bytes is one machine. From one world an event to which memory isn't refused
 /// has one answer, and leads to one world; so do events one after another, and runs of them.
 pub fn one_machine()
@@ -315,4 +361,16 @@ pub fn one_machine()
 {
     host_core::laws::one_machine();
     term_core::laws::one_machine();
+}
+
+/// Law: the terminal keeps the rules that are asked of any terminal. Each key edits input, or sends
+/// what it displays; and so does each key at a terminal that is the same but for its Reset, which
+/// ends the wait for the host.
+pub fn our_keys_keep_the_rules()
+    ensures ours { KeysOperate }
+    ensures impatient { ImpatientKeysOperate }
+{
+    keys_keep_what_was_left();
+    kept_since_the_write();
+    sent_keys_wait();
 }

@@ -14,10 +14,11 @@ use crate::link::{Link, first};
 use crate::note_text::NoteText;
 use crate::terminal_slot::TerminalSlot;
 use codes3270::Model;
-use host_core::{Acted, Answer, Host, MOST_CONNECTIONS, Phase, Ticket};
+use host_core::{Acted, Answer, Host, MOST_CONNECTIONS, Phase, Terminals, Ticket};
 use keyboard::{Key, Pressed};
 use lu_pool::Pool;
 use panels::PanelSet;
+use presentation::Screen;
 use std::alloc::Global;
 use std::marker;
 use telnet_wire::Memory;
@@ -132,19 +133,20 @@ fn are_queued(bytes: &[u8], count: usize) -> bool
 }
 
 impl Network {
-    /// A new world with a terminal of each of these models: nobody holds an LU, and no connection was
-    /// ever used.
+    /// A new world, of a host that serves these terminals, with a terminal of each of these models: nobody
+    /// holds an LU, and no connection was ever used.
     pub(crate) fn new(
         alloc: Global,
+        serves: Terminals,
         panels: PanelSet,
         pool: Pool,
         models: &[Model],
     ) -> Result<Network, Memory>
-        ensures { IfOk result (λ network. network ≡ new_byte_world panels pool models.now) }
+        ensures { IfOk result (λ network. network ≡ new_byte_world serves panels pool models.now) }
     {
         let links = unused_links(alloc)?;
         let slots = new_slots(alloc, models)?;
-        let host = Host::new(alloc, panels, pool)?;
+        let host = Host::serving(alloc, serves, panels, pool)?;
         Ok(Network { host, links, slots })
     }
 
@@ -161,6 +163,22 @@ impl Network {
         ensures { result.now.terminal ≡ (slot_at terminal self.now).tracked.terminal }
     {
         self.slots[terminal].terminal()
+    }
+
+    /// The screen that a terminal held after its last write with restore on its latest connection.
+    pub(crate) fn last_restored(&self, terminal: usize) -> &Screen
+        requires { terminal < length self.now.slots }
+        ensures { result.now.screen ≡ (slot_at terminal self.now).tracked.history.last_restored }
+    {
+        self.slots[terminal].last_restored()
+    }
+
+    /// Whether Erase Input was done at a terminal since then.
+    pub(crate) fn erased(&self, terminal: usize) -> bool
+        requires { terminal < length self.now.slots }
+        ensures { result ≡ (slot_at terminal self.now).tracked.history.erased }
+    {
+        self.slots[terminal].erased()
     }
 
     /// What the terminal at a connection has to send: nothing if no terminal is there.

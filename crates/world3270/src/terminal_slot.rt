@@ -9,7 +9,7 @@ ghost use Rattle.term_core.specs.State.{model_of};
 ghost use Rattle.world3270.specs.ByteSteps.{TrackedFeeds};
 ghost use Rattle.world3270.specs.ByteWorld.{alone, new_slot, attached_slot, is_attached_to};
 ghost use Rattle.world3270.specs.InFlight.{StopsAtOnce, TookByte};
-ghost use Rattle.world3270.specs.TrackedTerminals.{tracked_after_key, marked};
+ghost use Rattle.world3270.specs.TrackedTerminals.{restored_by, tracked_after_key};
 
 use codes3270::Model;
 use host_core::{Host, Phase};
@@ -21,14 +21,15 @@ use telnet_wire::Memory;
 use term_core::{TermPhase, Terminal};
 use tn3270e_msg::{Fed, Lu, Stop};
 
-/// A terminal, the number of the connection whose end it holds, and its history: the screen just
-/// after it last took a write with restore on its latest connection, and whether Erase Input was
-/// done since.
+/// A terminal, the number of the connection whose end it holds, and its history: the screens just
+/// after and just before it last took a write with restore on its latest connection, and whether
+/// Erase Input was done since.
 #[derive(Drop)]
 pub(crate) struct TerminalSlot {
     terminal: Terminal,
     at: Option<usize>,
     last_restored: Screen,
+    before_restored: Screen,
     erased: bool,
 }
 
@@ -38,7 +39,7 @@ impl marker::Model for TerminalSlot {
 
     ghost Value = { Slot };
 
-    ghost view = { λ s. record { tracked = record { terminal = s.terminal.terminal; history = record { last_restored = s.last_restored.screen; erased = s.erased } }; at = s.at } };
+    ghost view = { λ s. record { tracked = record { terminal = s.terminal.terminal; history = record { last_restored = s.last_restored.screen; before_restored = s.before_restored.screen; erased = s.erased } }; at = s.at } };
 
     ghost invariant = { λ s. IsSoundSlot s.at s.terminal };
 }
@@ -53,6 +54,7 @@ impl TerminalSlot {
             terminal,
             at: None,
             last_restored: Screen::blank(model),
+            before_restored: Screen::blank(model),
             erased: false,
         })
     }
@@ -62,6 +64,20 @@ impl TerminalSlot {
         ensures { result.now.terminal ≡ self.now.tracked.terminal }
     {
         &self.terminal
+    }
+
+    /// The screen that the terminal held after its last write with restore on its latest connection.
+    pub(crate) fn last_restored(&self) -> &Screen
+        ensures { result.now.screen ≡ self.now.tracked.history.last_restored }
+    {
+        &self.last_restored
+    }
+
+    /// Whether Erase Input was done since then.
+    pub(crate) fn erased(&self) -> bool
+        ensures { result ≡ self.now.tracked.history.erased }
+    {
+        self.erased
     }
 
     /// The number of the connection whose end it holds.
@@ -134,6 +150,7 @@ impl TerminalSlot {
         self.terminal.connected(wanted);
         self.at = Some(number);
         self.last_restored = Screen::blank(model);
+        self.before_restored = Screen::blank(model);
         self.erased = false;
         Ok(())
     }
@@ -162,6 +179,7 @@ impl TerminalSlot {
         self.terminal.restart();
         self.at = None;
         self.last_restored = Screen::blank(model);
+        self.before_restored = Screen::blank(model);
         self.erased = false;
     }
 
@@ -188,12 +206,13 @@ impl TerminalSlot {
         }
     }
 
-    /// The history after a byte.
-    fn mark(&mut self)
-        ensures { self.new ≡ record self.old { tracked = record self.old.tracked { history = marked self.old.tracked.terminal.station self.old.tracked.history } } }
+    /// The history after a byte, which found this screen.
+    fn mark(&mut self, before: Screen)
+        ensures { self.new ≡ record self.old { tracked = record self.old.tracked { history = restored_by self.old.tracked.terminal.station.took_write before.screen self.old.tracked.terminal.station.screen.screen self.old.tracked.history } } }
     {
         if self.terminal.took_write() {
             self.last_restored = copy_of(self.terminal.screen());
+            self.before_restored = before;
             self.erased = false;
         }
     }
@@ -204,14 +223,15 @@ impl TerminalSlot {
         ensures took { TookByte result self.old.tracked byte self.new.tracked }
         ensures at { self.new.at ≡ self.old.at }
     {
+        let before = copy_of(self.terminal.screen());
         match self.terminal.feed(&[byte]).stop {
             Stop::Going => {
-                self.mark();
+                self.mark(before);
                 Stop::Going
             }
             Stop::Memory => Stop::Memory,
             Stop::Closed(cause) => {
-                self.mark();
+                self.mark(before);
                 Stop::Closed(cause)
             }
         }

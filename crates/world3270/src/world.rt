@@ -1,22 +1,29 @@
 //! The world, of which the headline holds after every event.
 ghost use Rattle.std.specs.Prelude.{◌≡◌, ◌<◌, length, IfOk};
 ghost use Rattle.host_core.specs.State.{most_connections};
+ghost use Rattle.host_core.specs.declared.terminals.Terminals.TheVariants.{Waiting};
 ghost use Rattle.world3270.specs.Asked.{WhatIsAskedIsSeen};
 ghost use Rattle.world3270.specs.ByteRuns.{Runs, refused_at};
 ghost use Rattle.world3270.specs.ByteSteps.{Steps};
 ghost use Rattle.world3270.specs.ByteWorld.{IsTerminalCount, down_of, new_byte_world, slot_at, up_of};
 ghost use Rattle.world3270.specs.Headline.{Headline};
+ghost use Rattle.world3270.specs.ProtocolErrors.{HasNoProtocolError, MakeNoProtocolErrors, MakesNoProtocolError};
 ghost use Rattle.world3270.specs.Refines.{IsReached, RunOverMessages, StepOverMessages};
 ghost use Rattle.world3270.specs.SeenBytes.{seen_bytes};
 ghost use Rattle.world3270.specs.Shown.{WhatIsAnsweredIsShown};
+ghost use Rattle.world3270.specs.ShownSince.{AnswersAreShown, PanelsStay};
 
-use crate::event::{Event, Ran, Stepped, events_are_real};
-use crate::laws::{bytes_follow_messages, what_is_answered_is_shown, what_is_asked_is_seen};
+use crate::event::{Event, Ran, Stepped, all_events_are_real, events_are_real};
+use crate::laws::{
+    bytes_follow_messages, no_protocol_errors, what_is_answered_is_shown, what_is_asked_is_seen,
+    what_is_shown_stays,
+};
 use crate::network::Network;
 use codes3270::Model as TerminalModel;
-use host_core::Host;
+use host_core::{Host, Terminals};
 use lu_pool::Pool;
 use panels::PanelSet;
+use presentation::Screen;
 use std::alloc::Global;
 use std::marker::Model;
 use telnet_wire::Memory;
@@ -57,7 +64,7 @@ fn refused_at(answer: Stepped) -> Option<usize>
 
 impl World {
     /// A new world, with a terminal of each of these models, 1 to 16: nobody holds an LU, and no
-    /// connection was ever used.
+    /// connection was ever used. The host relies on the terminals' wait, as they keep it.
     pub fn new(
         alloc: Global,
         panels: PanelSet,
@@ -65,15 +72,33 @@ impl World {
         models: &[TerminalModel],
     ) -> Result<World, Memory>
         requires { IsTerminalCount (length models.now) }
-        ensures begins { IfOk result (λ world. world ≡ new_byte_world panels pool models.now) }
+        ensures begins { IfOk result (λ world. world ≡ new_byte_world Waiting panels pool models.now) }
         ensures headline { IfOk result (λ world. Headline (seen_bytes world)) }
+        ensures no_error { IfOk result (λ world. HasNoProtocolError world) }
+    {
+        World::serving(alloc, Terminals::Waiting, panels, pool, models)
+    }
+
+    /// The same, with a host that serves these terminals. The world's wait, but the host need not rely on that.
+    pub fn serving(
+        alloc: Global,
+        serves: Terminals,
+        panels: PanelSet,
+        pool: Pool,
+        models: &[TerminalModel],
+    ) -> Result<World, Memory>
+        requires { IsTerminalCount (length models.now) }
+        ensures begins { IfOk result (λ world. world ≡ new_byte_world serves panels pool models.now) }
+        ensures headline { IfOk result (λ world. Headline (seen_bytes world)) }
+        ensures no_error { IfOk result (λ world. HasNoProtocolError world) }
     {
         bytes_follow_messages();
         panels.panels_are_sound();
         pool.lus_are_listed_once();
-        let network = Network::new(alloc, panels, pool, models)?;
+        let network = Network::new(alloc, serves, panels, pool, models)?;
         let world = World { network };
         world.headline_holds();
+        world.has_no_protocol_error();
         Ok(world)
     }
 
@@ -90,6 +115,23 @@ impl World {
         ensures { result.now.terminal ≡ (slot_at terminal self.now).tracked.terminal }
     {
         self.network.terminal(terminal)
+    }
+
+    /// The screen that a terminal held after its last write with restore on its latest connection;
+    /// a blank one before the first such write there. Part (d) of the headline speaks of it.
+    pub fn last_restored(&self, terminal: usize) -> &Screen
+        requires { terminal < length self.now.slots }
+        ensures { result.now.screen ≡ (slot_at terminal self.now).tracked.history.last_restored }
+    {
+        self.network.last_restored(terminal)
+    }
+
+    /// Whether Erase Input was done at a terminal since then.
+    pub fn erased(&self, terminal: usize) -> bool
+        requires { terminal < length self.now.slots }
+        ensures { result ≡ (slot_at terminal self.now).tracked.history.erased }
+    {
+        self.network.erased(terminal)
     }
 
     /// The bytes under way to the host on a connection.
@@ -121,7 +163,8 @@ impl World {
     /// A question that [`Host::question`] answers has the key that the operator pressed, the LU that
     /// the terminal is bound to, the cursor of its screen, and for each field of the panel the text
     /// that this screen shows in that field, nulls removed: the field is there, at its place and with
-    /// its length.
+    /// its length. What is protected on the screen is as the host's last restoring write left it, but
+    /// for the row of messages; so it is of each attached terminal, unless Clear was pressed last.
     pub fn what_is_asked_is_seen(&self)
         ensures { WhatIsAskedIsSeen self.now }
     {
@@ -133,13 +176,38 @@ impl World {
     /// Law: what is answered is shown, whatever happened to this world. If a panel was shown on a
     /// connection and its paint is answered, the screen that the host left on the terminal is a wanted
     /// screen of the connection's panel, with the connection's values and message; `Showing` says what
-    /// is wanted.
+    /// is wanted. Each field of the panel is on it, at its place and with its length: with the panel's
+    /// attribute and with the value or the fill that the host has for it, cut to its length or with
+    /// nulls behind; or, if the panel is shown again and fields are kept, with the attribute and the
+    /// text that were on the screen when the paint came, and that text without nulls is the host's
+    /// value (`ShownFields`).
     pub fn what_is_answered_is_shown(&self)
         ensures { WhatIsAnsweredIsShown self.now }
     {
         // For the contract: the world is reached.
         let _network = &self.network;
         what_is_answered_is_shown();
+    }
+
+    /// Law: an answer is shown until the host decides again, whatever happened to this world. If an
+    /// answer was taken and the host has decided nothing on that connection since, then its panel,
+    /// values, message and field for the cursor are those of the answer; and once the paint is
+    /// answered, the screen that the host left on the terminal shows them.
+    pub fn answers_are_shown(&self)
+        ensures { AnswersAreShown self.now }
+    {
+        what_is_shown_stays();
+    }
+
+    /// Law: there is no protocol error in this world, whatever happened to it. Neither end of a
+    /// connection has closed it by a cause; no negative response is under way; and none has come to
+    /// the host, which would then know nothing of the screen.
+    pub fn has_no_protocol_error(&self)
+        ensures { HasNoProtocolError self.now }
+    {
+        // For the contract: the world is reached.
+        let _network = &self.network;
+        no_protocol_errors();
     }
 
     /// Law: the bytes of this world represent a world over messages, to which some list of events
@@ -156,8 +224,10 @@ impl World {
     fn happen(&mut self, event: &Event) -> Stepped
         ensures steps { Steps event.now self.old result self.new }
         ensures messages { StepOverMessages event.now self.old result self.new }
+        ensures panels { PanelsStay event.now self.old self.new }
     {
         bytes_follow_messages();
+        what_is_shown_stays();
         events_are_real(event);
         self.network.happen(event)
     }
@@ -169,11 +239,19 @@ impl World {
         ensures headline { Headline (seen_bytes self.new) }
         ensures asked { WhatIsAskedIsSeen self.new }
         ensures shown { WhatIsAnsweredIsShown self.new }
+        ensures panels { PanelsStay event self.old self.new }
+        ensures answers { AnswersAreShown self.new }
+        ensures no_error { HasNoProtocolError self.new }
+        ensures no_error_made { MakesNoProtocolError event self.old self.new }
     {
+        no_protocol_errors();
+        events_are_real(&event);
         let stepped = self.happen(&event);
         self.headline_holds();
         self.what_is_asked_is_seen();
         self.what_is_answered_is_shown();
+        self.answers_are_shown();
+        self.has_no_protocol_error();
         stepped
     }
 
@@ -184,7 +262,12 @@ impl World {
         ensures headline { Headline (seen_bytes self.new) }
         ensures asked { WhatIsAskedIsSeen self.new }
         ensures shown { WhatIsAnsweredIsShown self.new }
+        ensures answers { AnswersAreShown self.new }
+        ensures no_error { HasNoProtocolError self.new }
+        ensures no_errors_made { MakeNoProtocolErrors events.now self.old }
     {
+        no_protocol_errors();
+        all_events_are_real(events);
         self.represents_messages();
         for (whole, event) in events.iter().enumerate() {
             match refused_at(self.happen(event)) {
@@ -193,6 +276,8 @@ impl World {
                     self.headline_holds();
                     self.what_is_asked_is_seen();
                     self.what_is_answered_is_shown();
+                    self.answers_are_shown();
+                    self.has_no_protocol_error();
                     return Ran { whole, part };
                 }
             }
@@ -200,6 +285,8 @@ impl World {
         self.headline_holds();
         self.what_is_asked_is_seen();
         self.what_is_answered_is_shown();
+        self.answers_are_shown();
+        self.has_no_protocol_error();
         Ran {
             whole: events.len(),
             part: 0,

@@ -1,4 +1,4 @@
-use Rattle.world3270.proofs.Asked.{asked_is_seen, each_is_seen}
+use Rattle.world3270.proofs.Asked.{asked_is_seen, each_is_seen, screens_are_as_left}
 use Rattle.world3270.proofs.AskedOverBytes.{asked_over_bytes}
 use Rattle.world3270.proofs.laws.what_is_asked_is_seen.Goals as goal
 
@@ -8,6 +8,10 @@ returns-clause-messages c = asked_is_seen c.what_is_given.ensures
 pub returns-clause-fields : goal.returns-clause-fields
 returns-clause-fields c = each_is_seen c.what_is_given.ensures
 
+pub returns-clause-screens : goal.returns-clause-screens
+returns-clause-screens c = screens_are_as_left c.what_is_given.ensures
+
 pub returns-clause-bytes : goal.returns-clause-bytes
 returns-clause-bytes c =
     asked_over_bytes c.panels_are_shown.ensures.application c.fields_are_on_the_screen.ensures (asked_is_seen c.what_is_given.ensures) (each_is_seen c.what_is_given.ensures)
+    (screens_are_as_left c.what_is_given.ensures)

@@ -6,5 +6,5 @@ use Rattle.world3270.proofs.terminal_slot.TerminalSlot.restart.Goals as goal
 
 pub returns : goal.returns
 returns c =
-    begun c.restart.new.self.terminal (new_terminal (model_of c.args.self.now.tracked.terminal)) c.blank-self-inside.result _ None
-    (c.restart.ensures.terminal ∙ ap (λ (s : TerminalSlot). new_terminal (model_of s.tracked.terminal)) c.self.view_is) c.blank-self-inside.ensures
+    begun c.restart.new.self.terminal (new_terminal (model_of c.args.self.now.tracked.terminal)) c.blank-self-inside.result c.blank-self-inside-2.result _ None
+    (c.restart.ensures.terminal ∙ ap (λ (s : TerminalSlot). new_terminal (model_of s.tracked.terminal)) c.self.view_is) c.blank-self-inside.ensures c.blank-self-inside-2.ensures

@@ -1,6 +1,7 @@
 use Rattle.std.proofs.Common.{subst}
 use Rattle.world3270.specs.ByteWorld.{ByteWorld}
 use Rattle.world3270.specs.Refines.{StepOverMessages}
+use Rattle.world3270.specs.ShownSince.{PanelsStay}
 use Rattle.world3270.proofs.Follows.{step_reaches}
 use Rattle.world3270.proofs.world.World.happen.Goals as goal
 
@@ -18,3 +19,9 @@ returns-clause-messages c =
           c.bytes_follow_messages.ensures.steps begin events c.args.event.now c.self.inside.network c.happen.result c.happen.new.self is reached
           c.events_are_real.ensures c.happen.ensures;
     })
+
+pub returns-clause-panels : goal.returns-clause-panels
+returns-clause-panels c =
+    subst (λ (w : ByteWorld). PanelsStay c.args.event.now w c.happen.new.self) c.self.view_is
+    (c.what_is_shown_stays.ensures.steps c.args.event.now c.self.inside.network c.happen.result c.happen.new.self c.self.invariant
+    c.events_are_real.ensures c.happen.ensures)

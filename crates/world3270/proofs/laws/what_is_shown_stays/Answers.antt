@@ -1,0 +1,12 @@
+use Rattle.world3270.proofs.ShownSince.{answers_are_shown, steps_keep, waiting_keeps}
+use Rattle.world3270.proofs.laws.what_is_shown_stays.Goals as goal
+
+pub returns-clause-steps : goal.returns-clause-steps
+returns-clause-steps c = steps_keep c.bytes_follow_messages.ensures.steps c.bytes_follow_messages.ensures.skipped
+
+pub returns-clause-answers : goal.returns-clause-answers
+returns-clause-answers c =
+    answers_are_shown c.bytes_follow_messages.ensures.steps c.bytes_follow_messages.ensures.skipped c.what_is_answered_is_shown.ensures.bytes
+
+pub returns-clause-waiting : goal.returns-clause-waiting
+returns-clause-waiting c = waiting_keeps
