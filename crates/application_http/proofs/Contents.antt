@@ -26,21 +26,21 @@ found_in closed bytes after framing (Ok None) a h = inr (framing, after, a, h)
 found_in closed bytes after framing (Ok (Some content)) a h = (framing, after, a, h)
 found_in closed bytes after framing (Err e) a h = tt
 
-pub bad_in : (bytes after : List ℕ) (framing : Framing) (why : ReplyFault) → IsAccepted bytes framing after → IsBadBody framing after why → IsBadMessage bytes why
-bad_in bytes after framing fault.Memory a h = tt
-bad_in bytes after framing fault.BadChunks a h = (after, subst (λ f. IsAccepted bytes f after) h.0 a, h.1)
-bad_in bytes after framing fault.TooLong a h = absurd h
-bad_in bytes after framing fault.CutShort a h = absurd h
-bad_in bytes after framing fault.NotHttp a h = absurd h
-bad_in bytes after framing fault.TooManyFields a h = absurd h
-bad_in bytes after framing (fault.Status code) a h = absurd h
-bad_in bytes after framing fault.BadLength a h = absurd h
-bad_in bytes after framing fault.NotJson a h = absurd h
-bad_in bytes after framing (fault.Key what key) a h = absurd h
+pub bad_in : (closed : Bool) (bytes after : List ℕ) (framing : Framing) (why : ReplyFault) → IsAccepted bytes framing after → IsBadBody closed framing after why → IsBadMessage closed bytes why
+bad_in closed bytes after framing fault.Memory a h = (framing, after, a, h)
+bad_in closed bytes after framing fault.BadChunks a h = (after, subst (λ f. IsAccepted bytes f after) h.0 a, h.1)
+bad_in closed bytes after framing fault.TooLong a h = absurd h
+bad_in closed bytes after framing fault.CutShort a h = absurd h
+bad_in closed bytes after framing fault.NotHttp a h = absurd h
+bad_in closed bytes after framing fault.TooManyFields a h = absurd h
+bad_in closed bytes after framing (fault.Status code) a h = absurd h
+bad_in closed bytes after framing fault.BadLength a h = absurd h
+bad_in closed bytes after framing fault.NotJson a h = absurd h
+bad_in closed bytes after framing (fault.Key what key) a h = absurd h
 
-pub wrong_in : (bytes after : List ℕ) (framing : Framing) (result : Contents) → IsAccepted bytes framing after → IfErr result (IsBadBody framing after) → IfErr result (IsBadMessage bytes)
-wrong_in bytes after framing (Ok found) a h = tt
-wrong_in bytes after framing (Err why) a h = bad_in bytes after framing why a h
+pub wrong_in : (closed : Bool) (bytes after : List ℕ) (framing : Framing) (result : Contents) → IsAccepted bytes framing after → IfErr result (IsBadBody closed framing after) → IfErr result (IsBadMessage closed bytes)
+wrong_in closed bytes after framing (Ok found) a h = tt
+wrong_in closed bytes after framing (Err why) a h = bad_in closed bytes after framing why a h
 
 -- ---- what is told of a body, whatever its framing is called
 

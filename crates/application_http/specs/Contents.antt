@@ -1,5 +1,5 @@
 -- Where the content of a reply is (RFC 9112, sections 4, 6 and 7), by the grammars of httparse and http1. The limits are our profile.
-use Rattle.std.specs.Prelude.{◌≡◌, ℕ, ◌<◌, ◌≤◌, ◌⊎◌, Bool, true, List, ◌++◌, length, drop, Ok, Err, Result, ⊤}
+use Rattle.std.specs.Prelude.{◌≡◌, ℕ, ◌<◌, ◌≤◌, ◌⊎◌, Bool, true, List, ◌++◌, length, drop, Ok, Err, Result}
 use Rattle.httparse.specs.Grammar.{Field, ResponseHead, ReadsResponse, HasNoResponse, NeverHasResponse, status_code}
 use Rattle.httparse.specs.Spans.{ResponseExceeds}
 use Rattle.http1.specs.Body.{Body, body_of, ReadsBody}
@@ -74,18 +74,34 @@ HasContent closed bytes content = (framing : Framing) × (after : List ℕ) × I
 abbrev pub IsUnfinished : (closed : Bool) → (bytes : List ℕ) → Type 0
 IsUnfinished closed bytes = HasNoResponse bytes ⊎ ((framing : Framing) × (after : List ℕ) × IsAccepted bytes framing after × LacksEnd closed framing after)
 
--- why the bytes are no reply, nor the front of one
-abbrev pub IsBadMessage : List ℕ → ReplyFault → Type 0
-IsBadMessage bytes fault.Memory = ⊤
-IsBadMessage bytes fault.NotHttp = NeverHasResponse bytes
-IsBadMessage bytes fault.TooManyFields = ResponseExceeds most_fields bytes
-IsBadMessage bytes (fault.Status code) = (head : ResponseHead) × (after : List ℕ) × ReadsResponse bytes head after × (code ≡ status_code head) × ¬ (code ≡ accepted_status)
-IsBadMessage bytes fault.BadLength = (head : ResponseHead) × (after : List ℕ) × (why : FramingError) × ReadsResponse bytes head after × (status_code head ≡ accepted_status) × (framing_of head ≡ Err why)
-IsBadMessage bytes fault.BadChunks = (after : List ℕ) × IsAccepted bytes Chunked after × NeverChunked after
-IsBadMessage bytes _ = ⊥
+-- ---- what must be stored
+
+-- these bytes begin some chunked body, and the content of each that they begin begins with this front
+pub record BeginsContent (taken front : List ℕ) : Type 0 where
+  pub begins : (more : List ℕ) × (body : Body) × (rest : List ℕ) × ReadsBody limits Chunked (taken ++ more) body rest
+  pub front_is : (more : List ℕ) (body : Body) (rest : List ℕ) → ReadsBody limits Chunked (taken ++ more) body rest → (later : List ℕ) × (body.bytes ≡ front ++ later)
+
+-- a byte of a content stands behind the head: it is stored once the content is whole, or its chunk comes
+abbrev pub HoldsContent : (closed : Bool) → Framing → (after : List ℕ) → Type 0
+HoldsContent closed NoBody after = ⊥
+HoldsContent closed (Length len) after = (0 < len) × (len ≤ length after)
+HoldsContent closed Chunked after = (taken left front : List ℕ) × (after ≡ taken ++ left) × (0 < length front) × BeginsContent taken front
+HoldsContent closed UntilClose after = (closed ≡ true) × (0 < length after)
+
+-- ---- what is wrong
+
+-- why the bytes are no reply, nor the front of one; memory is refused only to a content
+abbrev pub IsBadMessage : (closed : Bool) → (bytes : List ℕ) → ReplyFault → Type 0
+IsBadMessage closed bytes fault.Memory = (framing : Framing) × (after : List ℕ) × IsAccepted bytes framing after × HoldsContent closed framing after
+IsBadMessage closed bytes fault.NotHttp = NeverHasResponse bytes
+IsBadMessage closed bytes fault.TooManyFields = ResponseExceeds most_fields bytes
+IsBadMessage closed bytes (fault.Status code) = (head : ResponseHead) × (after : List ℕ) × ReadsResponse bytes head after × (code ≡ status_code head) × ¬ (code ≡ accepted_status)
+IsBadMessage closed bytes fault.BadLength = (head : ResponseHead) × (after : List ℕ) × (why : FramingError) × ReadsResponse bytes head after × (status_code head ≡ accepted_status) × (framing_of head ≡ Err why)
+IsBadMessage closed bytes fault.BadChunks = (after : List ℕ) × IsAccepted bytes Chunked after × NeverChunked after
+IsBadMessage closed bytes _ = ⊥
 
 -- the same for the bytes behind a head
-abbrev pub IsBadBody : Framing → (after : List ℕ) → ReplyFault → Type 0
-IsBadBody framing after fault.Memory = ⊤
-IsBadBody framing after fault.BadChunks = (framing ≡ Chunked) × NeverChunked after
-IsBadBody framing after _ = ⊥
+abbrev pub IsBadBody : (closed : Bool) → Framing → (after : List ℕ) → ReplyFault → Type 0
+IsBadBody closed framing after fault.Memory = HoldsContent closed framing after
+IsBadBody closed framing after fault.BadChunks = (framing ≡ Chunked) × NeverChunked after
+IsBadBody closed framing after _ = ⊥

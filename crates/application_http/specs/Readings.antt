@@ -1,5 +1,5 @@
 -- What a reader answers for the bytes that came (our profile): a function of these bytes, and of whether the connection is closed.
-use Rattle.std.specs.Prelude.{◌≡◌, ℕ, ◌<◌, ◌≤◌, ◌⊎◌, Bool, true, false, List, length, take, Option, Some, None, Result, Ok, Err, ⊤}
+use Rattle.std.specs.Prelude.{◌≡◌, ℕ, ◌<◌, ◌≤◌, ◌⊎◌, Bool, true, false, List, ◌++◌, length, take, Option, Some, None, Result, Ok, Err, ⊤}
 use Rattle.application_http.specs.Contents.{most_bytes, HasContent, IsUnfinished, IsBadMessage}
 use Rattle.application_http.specs.Replies.{Answer, Says, IsBadContent, answer_in}
 use Rattle.application_http.specs.declared.fault.ReplyFault.{ReplyFault}
@@ -12,7 +12,7 @@ HasReply closed bytes answer = (content : List ℕ) × HasContent closed bytes c
 
 -- the bytes begin with no reply, or with a bad one
 abbrev pub IsBadReply : (closed : Bool) → (bytes : List ℕ) → ReplyFault → Type 0
-IsBadReply closed bytes why = IsBadMessage bytes why ⊎ ((content : List ℕ) × HasContent closed bytes content × IsBadContent content why)
+IsBadReply closed bytes why = IsBadMessage closed bytes why ⊎ ((content : List ℕ) × HasContent closed bytes content × IsBadContent content why)
 
 -- the first bytes of all that came, which the reply has to fit in
 abbrev pub front : List ℕ → List ℕ
@@ -28,6 +28,10 @@ abbrev pub IsRefused : (closed : Bool) → (bytes : List ℕ) → ReplyFault →
 IsRefused closed bytes fault.TooLong = IsUnfinished closed (front bytes) × (most_bytes < length bytes)
 IsRefused closed bytes fault.CutShort = IsUnfinished closed bytes × (closed ≡ true)
 IsRefused closed bytes why = IsBadReply closed (front bytes) why
+
+-- why the bytes that a call brings are refused, behind those that came before: for all of them, or since one of them must be stored
+abbrev pub IsRefusedBehind : (so_far bytes : List ℕ) → ReplyFault → Type 0
+IsRefusedBehind so_far bytes why = ((why ≡ fault.Memory) × (length so_far < most_bytes) × (0 < length bytes)) ⊎ IsRefused false (so_far ++ bytes) why
 
 -- ---- a reader
 

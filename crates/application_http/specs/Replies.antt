@@ -1,5 +1,5 @@
 -- What an application's reply says: a JSON object whose keys are all optional (RFC 8259; the keys are our profile).
-use Rattle.std.specs.Prelude.{ℕ, Bool, ◌||◌, List, [], ◌∷◌, codes, map, bytes_eq, string_bytes, Option, Some, None, option_map, option_and_then, is_some, unwrap_or, if◌then◌else◌, ◌≡◌, ◌⊎◌, ⊤, IsUtf8}
+use Rattle.std.specs.Prelude.{ℕ, ◌<◌, Bool, ◌||◌, List, [], ◌∷◌, codes, map, length, bytes_eq, string_bytes, Option, Some, None, option_map, option_and_then, is_some, unwrap_or, if◌then◌else◌, ◌≡◌, ◌⊎◌, IsUtf8}
 use Rattle.serde_json.specs.Data.{Data, string, object, Members, no_members, member}
 use Rattle.serde_json.specs.Find.{get, as_str, as_object}
 use Rattle.serde_json.specs.Read.{read}
@@ -80,9 +80,19 @@ first_flaw (member key value more) = earlier (key_flaw key value) (first_flaw mo
 abbrev pub SaysIn : Data → Answer → Type 0
 SaysIn d answer = (members : Members) × (d ≡ object members) × (first_flaw members ≡ None) × (answer ≡ answer_of d)
 
--- the value is no object, or one with this flaw first
+-- a text that isn't empty
+abbrev pub IsText : Option (List ℕ) → Type 0
+IsText None = ⊥
+IsText (Some text) = 0 < length text
+
+-- a name or a text must be stored: that of the first flaw, or one of the answer
+abbrev pub IsStored : Option KeyFlaw → Answer → Type 0
+IsStored (Some flaw) answer = 0 < length flaw.1
+IsStored None answer = IsText answer.panel ⊎ ((0 < length answer.fields) ⊎ (IsText answer.message ⊎ IsText answer.cursor))
+
+-- the value is no object, or one with this flaw first; or memory is refused for what must be stored
 abbrev pub IsBadValue : Data → ReplyFault → Type 0
-IsBadValue d fault.Memory = ⊤
+IsBadValue d fault.Memory = (members : Members) × (d ≡ object members) × IsStored (first_flaw members) (answer_of d)
 IsBadValue d fault.NotJson = (members : Members) → ¬ (d ≡ object members)
 IsBadValue d (fault.Key what key) = (members : Members) × (d ≡ object members) × (first_flaw members ≡ Some (what, string_bytes key))
 IsBadValue d _ = ⊥
@@ -91,9 +101,9 @@ IsBadValue d _ = ⊥
 abbrev pub Says : (content : List ℕ) → Answer → Type 0
 Says content answer = (d : Data) × IsUtf8 content × (read content ≡ Some d) × SaysIn d answer
 
--- the content is no JSON in UTF-8, or its value is bad
+-- the content is no JSON in UTF-8, or its value is bad; or memory is refused to read it, which takes none if it is empty
 abbrev pub IsBadContent : List ℕ → ReplyFault → Type 0
-IsBadContent content why = (why ≡ fault.Memory) ⊎ (((why ≡ fault.NotJson) × (IsUtf8 content → read content ≡ None)) ⊎ ((d : Data) × (read content ≡ Some d) × IsBadValue d why))
+IsBadContent content why = ((why ≡ fault.Memory) × (0 < length content)) ⊎ (((why ≡ fault.NotJson) × (IsUtf8 content → read content ≡ None)) ⊎ ((d : Data) × (read content ≡ Some d) × IsBadValue d why))
 
 -- ---- the value that holds it
 

@@ -18,7 +18,7 @@ with_texts members (field ∷ fields) = with_texts (put (string_bytes field.name
 abbrev pub cursor_data : (row col : ℕ) → Data
 cursor_data row col = object (member (codes "col") (number (unsigned col)) (member (codes "row") (number (unsigned row)) no_members))
 
--- The object, its keys in the order of their bytes. The session is a text, so that no reader rounds it.
+-- the object, its keys in the order of their bytes
 abbrev pub question_data : Request → Data
 question_data request =
     object (member (codes "cursor") (cursor_data request.row request.col)
@@ -26,7 +26,7 @@ question_data request =
     (member (codes "key") (string request.key.now)
     (member (codes "lu") (string request.lu.now)
     (member (codes "panel") (string request.panel.now)
-    (member (codes "session") (string (decimal request.session))
+    (member (codes "session") (string request.session.now)
     (member (codes "turn") (number (unsigned request.turn)) no_members)))))))
 
 -- its text, without blanks

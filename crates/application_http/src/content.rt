@@ -1,10 +1,10 @@
 //! Where the content of a reply is (RFC 9112, sections 4, 6 and 7).
-ghost use Rattle.std.specs.Prelude.{◌≡◌, ◌≤◌, ⊤, [], drop, length, true, List, MatchOption, IfErr, IfOk, IsTrue, OnErr, IsFalse};
+ghost use Rattle.std.specs.Prelude.{◌≡◌, ◌<◌, ◌≤◌, ⊤, [], Bool, drop, length, true, List, MatchOption, IfErr, IfOk, IsTrue, OnErr, IsFalse};
 ghost use Rattle.httparse.specs.Grammar.{HasNoResponse};
 ghost use Rattle.httparse.specs.declared.spans.HeaderSpan.{HeaderSpan};
 ghost use Rattle.http1.specs.Decoder.{Decodes, HasNoBody};
 ghost use Rattle.http1.specs.declared.framing.Framing.TheVariants as framed;
-ghost use Rattle.application_http.specs.Contents.{HasContent, IsBadBody, IsBadMessage, IsHead, IsUnfinished, IsWhole, LacksEnd, limits, most_fields};
+ghost use Rattle.application_http.specs.Contents.{HasContent, HoldsContent, IsBadBody, IsBadMessage, IsHead, IsUnfinished, IsWhole, LacksEnd, limits, most_fields};
 
 use crate::fault::ReplyFault;
 use http1::decode::{Decoded, Decoder};
@@ -48,7 +48,7 @@ fn limits() -> Limits
 /// The head with which the bytes begin; None if it isn't whole yet.
 fn head_of(bytes: &[u8]) -> Result<Option<Head>, ReplyFault>
     ensures found { IfOk result (λ found. MatchOption found (HasNoResponse bytes.now) (IsHead bytes.now)) }
-    ensures wrong { IfErr result (IsBadMessage bytes.now) }
+    ensures wrong { IfErr result (λ why. (closed : Bool) → IsBadMessage closed bytes.now why) }
 {
     let mut headers = [EMPTY_HEADER_SPAN; MOST_FIELDS];
     match parse_response(bytes, &mut headers) {
@@ -68,7 +68,8 @@ fn head_of(bytes: &[u8]) -> Result<Option<Head>, ReplyFault>
 }
 
 fn copy_of(alloc: Global, bytes: &[u8]) -> Result<Vec<u8>, AllocError>
-    ensures { IfOk result (λ copy. copy.items ≡ bytes.now) }
+    ensures copy { IfOk result (λ copy. copy.items ≡ bytes.now) }
+    ensures refused { OnErr result (0 < length bytes.now) }
 {
     let mut copy = Vec::new(alloc);
     copy.extend_from_slice(bytes)?;
@@ -78,7 +79,8 @@ fn copy_of(alloc: Global, bytes: &[u8]) -> Result<Vec<u8>, AllocError>
 /// The content of a body of this length, in bytes; None if fewer of them are there.
 #[tactic(auto, using(crate::proofs::Chunks::sized_whole))]
 fn sized_content(alloc: Global, len: u64, after: &[u8]) -> Result<Option<Vec<u8>>, AllocError>
-    ensures { IfOk result (λ found. MatchOption found (LacksEnd true (framed.Length len) after.now) (λ content. IsWhole true (framed.Length len) after.now content.items)) }
+    ensures found { IfOk result (λ found. MatchOption found (LacksEnd true (framed.Length len) after.now) (λ content. IsWhole true (framed.Length len) after.now content.items)) }
+    ensures refused { OnErr result (HoldsContent true (framed.Length len) after.now) }
 {
     if (after.len() as u64) < len {
         return Ok(None);
@@ -108,7 +110,7 @@ fn put_chunks(content: &mut Vec<u8>, after: &[u8]) -> Result<bool, ReplyFault>
     requires { content.old.items ≡ [] }
     ensures whole { IfOk result (λ is_whole. IsTrue is_whole → IsWhole true framed.Chunked after.now content.new.items) }
     ensures lacking { IfOk result (λ is_whole. IsFalse is_whole → LacksEnd true framed.Chunked after.now) }
-    ensures wrong { IfErr result (IsBadBody framed.Chunked after.now) }
+    ensures wrong { IfErr result (IsBadBody true framed.Chunked after.now) }
 {
     let mut decoder = Decoder::new(Framing::Chunked, &limits());
     let mut left = after;
@@ -131,7 +133,7 @@ fn put_chunks(content: &mut Vec<u8>, after: &[u8]) -> Result<bool, ReplyFault>
 fn chunked_content(alloc: Global, after: &[u8]) -> Result<Option<Vec<u8>>, ReplyFault>
     ensures whole { IfOk result (λ found. MatchOption found ⊤ (λ content. IsWhole true framed.Chunked after.now content.items)) }
     ensures lacking { IfOk result (λ found. MatchOption found (LacksEnd true framed.Chunked after.now) (λ _. ⊤)) }
-    ensures wrong { IfErr result (IsBadBody framed.Chunked after.now) }
+    ensures wrong { IfErr result (IsBadBody true framed.Chunked after.now) }
 {
     let mut content = Vec::new(alloc);
     let is_whole = put_chunks(&mut content, after)?;
@@ -145,7 +147,8 @@ fn chunked_content(alloc: Global, after: &[u8]) -> Result<Option<Vec<u8>>, Reply
 /// The content of a body that ends with the connection; None if that isn't closed yet.
 #[tactic(auto, using(crate::proofs::Chunks::closed_whole))]
 fn last_content(alloc: Global, after: &[u8], is_closed: bool) -> Result<Option<Vec<u8>>, AllocError>
-    ensures { IfOk result (λ found. MatchOption found (LacksEnd is_closed framed.UntilClose after.now) (λ content. IsWhole is_closed framed.UntilClose after.now content.items)) }
+    ensures found { IfOk result (λ found. MatchOption found (LacksEnd is_closed framed.UntilClose after.now) (λ content. IsWhole is_closed framed.UntilClose after.now content.items)) }
+    ensures refused { OnErr result (HoldsContent is_closed framed.UntilClose after.now) }
 {
     if is_closed {
         Ok(Some(copy_of(alloc, after)?))
@@ -162,7 +165,7 @@ fn body_content(
     is_closed: bool,
 ) -> Result<Option<Vec<u8>>, ReplyFault>
     ensures found { IfOk result (λ found. MatchOption found (LacksEnd is_closed framing after.now) (λ content. IsWhole is_closed framing after.now content.items)) }
-    ensures wrong { IfErr result (IsBadBody framing after.now) }
+    ensures wrong { IfErr result (IsBadBody is_closed framing after.now) }
 {
     match framing {
         Framing::NoBody => Ok(sized_content(alloc, 0, after)?),
@@ -179,7 +182,7 @@ pub(crate) fn content_of(
     is_closed: bool,
 ) -> Result<Option<Vec<u8>>, ReplyFault>
     ensures found { IfOk result (λ found. MatchOption found (IsUnfinished is_closed bytes.now) (λ content. HasContent is_closed bytes.now content.items)) }
-    ensures wrong { IfErr result (IsBadMessage bytes.now) }
+    ensures wrong { IfErr result (IsBadMessage is_closed bytes.now) }
 {
     let Some(head) = head_of(bytes)? else {
         return Ok(None);

@@ -1,7 +1,7 @@
 //! Reading an application's reply from bytes that come in any pieces.
 ghost use Rattle.std.specs.Prelude.{◌≡◌, ◌≤◌, ◌++◌, ◌↔◌, ℕ, ⊤, false, true, [], List, length, take, Some, None, IfErr, IfOk, IsSome, IsTrue, MatchOption};
 ghost use Rattle.application_http.specs.Contents.{IsUnfinished, most_bytes};
-ghost use Rattle.application_http.specs.Readings.{GivesNothing, HasReply, IsBadReply, IsFound, IsRefused, is_last, left_by};
+ghost use Rattle.application_http.specs.Readings.{GivesNothing, HasReply, IsBadReply, IsFound, IsRefused, IsRefusedBehind, is_last, left_by};
 ghost use Rattle.application_http.specs.Replies.{answer_in};
 
 use crate::content::{MOST_BYTES, content_of};
@@ -38,7 +38,7 @@ fn advance(alloc: Global, so_far: &mut Vec<u8>, bytes: &[u8]) -> Result<Option<R
     ensures held { length so_far.new.items ≤ most_bytes }
     ensures going { IfOk result (λ found. MatchOption found (so_far.new.items ≡ so_far.old.items ++ bytes.now) (λ _. ⊤)) }
     ensures found { IfOk result (IsFound false (so_far.old.items ++ bytes.now)) }
-    ensures refused { IfErr result (IsRefused false (so_far.old.items ++ bytes.now)) }
+    ensures refused { IfErr result (IsRefusedBehind so_far.old.items bytes.now) }
 {
     let room = MOST_BYTES - so_far.as_slice().len();
     so_far.extend_from_slice(front_of(bytes, room))?;
@@ -113,7 +113,7 @@ impl ReplyReader {
         ensures ignored { self.old ≡ None → (self.new ≡ None) × GivesNothing result }
         ensures taken { (so_far : List ℕ) → self.old ≡ Some so_far → self.new ≡ left_by result (so_far ++ bytes.now) }
         ensures found { (so_far : List ℕ) → self.old ≡ Some so_far → IfOk result (IsFound false (so_far ++ bytes.now)) }
-        ensures refused { (so_far : List ℕ) → self.old ≡ Some so_far → IfErr result (IsRefused false (so_far ++ bytes.now)) }
+        ensures refused { (so_far : List ℕ) → self.old ≡ Some so_far → IfErr result (IsRefusedBehind so_far bytes.now) }
     {
         if self.is_over {
             return Ok(None);

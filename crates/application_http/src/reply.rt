@@ -1,8 +1,8 @@
 //! What an application's reply says.
-ghost use Rattle.std.specs.Prelude.{◌≡◌, codes, is_some, map, option_map, option_copied, string_bytes, IfErr, IfOk};
+ghost use Rattle.std.specs.Prelude.{◌≡◌, ◌<◌, None, codes, is_some, length, map, option_map, option_copied, string_bytes, IfErr, IfOk, OnErr};
 ghost use Rattle.serde_json.specs.Find.{get};
 ghost use Rattle.serde_json.specs.View.{members_view, view};
-ghost use Rattle.application_http.specs.Replies.{IsBadContent, IsBadValue, Says, SaysIn, answer_in, answer_of, field_text, fields_flaw, first_flaw, first_non_text, key_flaw, names_text, object_at, text_at, texts_in};
+ghost use Rattle.application_http.specs.Replies.{IsBadContent, IsBadValue, IsStored, IsText, Says, SaysIn, answer_in, answer_of, field_text, fields_flaw, first_flaw, first_non_text, key_flaw, names_text, object_at, text_at, texts_in};
 
 use crate::fault::{KeyFault, ReplyFault};
 use crate::request::FieldText;
@@ -80,12 +80,23 @@ fn first_flaw(members: &Map<String, Value>) -> Option<(KeyFault, &str)>
     None
 }
 
+/// A copy of a text; an empty one takes no memory.
+fn copy_of(alloc: Global, text: &str) -> Result<String, AllocError>
+    ensures copy { IfOk result (λ copy. string_bytes copy ≡ text.now) }
+    ensures refused { OnErr result (0 < length text.now) }
+{
+    let mut copy = String::new(alloc);
+    copy.push_str(text)?;
+    Ok(copy)
+}
+
 /// A copy of the text at a key.
 fn text_at(alloc: Global, value: &Value, key: &str) -> Result<Option<String>, AllocError>
-    ensures { IfOk result (λ text. option_map string_bytes text ≡ text_at key.now (view value.now)) }
+    ensures copy { IfOk result (λ text. option_map string_bytes text ≡ text_at key.now (view value.now)) }
+    ensures refused { OnErr result (IsText (text_at key.now (view value.now))) }
 {
     match value.get(key).and_then(Value::as_str) {
-        Some(text) => Ok(Some(String::from_str(alloc, text)?)),
+        Some(text) => Ok(Some(copy_of(alloc, text)?)),
         None => Ok(None),
     }
 }
@@ -95,14 +106,15 @@ fn field_of(alloc: Global, name: &str, text: &str) -> Result<FieldText, AllocErr
     ensures { IfOk result (λ field. field_text field ≡ (name.now, text.now)) }
 {
     Ok(FieldText {
-        name: String::from_str(alloc, name)?,
-        text: String::from_str(alloc, text)?,
+        name: copy_of(alloc, name)?,
+        text: copy_of(alloc, text)?,
     })
 }
 
 /// Copies of the names and texts of an object.
 fn texts_in(alloc: Global, members: &Map<String, Value>) -> Result<Vec<FieldText>, AllocError>
-    ensures { IfOk result (λ texts. map field_text texts.items ≡ texts_in (members_view members.now.entries)) }
+    ensures copy { IfOk result (λ texts. map field_text texts.items ≡ texts_in (members_view members.now.entries)) }
+    ensures refused { OnErr result (0 < length (texts_in (members_view members.now.entries))) }
 {
     let mut texts = Vec::new(alloc);
     for (name, value) in members {
@@ -115,7 +127,8 @@ fn texts_in(alloc: Global, members: &Map<String, Value>) -> Result<Vec<FieldText
 
 /// Copies of the names and texts of the object at a key.
 fn texts_at(alloc: Global, value: &Value, key: &str) -> Result<Vec<FieldText>, AllocError>
-    ensures { IfOk result (λ texts. map field_text texts.items ≡ texts_in (object_at key.now (view value.now))) }
+    ensures copy { IfOk result (λ texts. map field_text texts.items ≡ texts_in (object_at key.now (view value.now))) }
+    ensures refused { OnErr result (0 < length (texts_in (object_at key.now (view value.now)))) }
 {
     match value.get(key).and_then(Value::as_object) {
         Some(members) => texts_in(alloc, members),
@@ -125,7 +138,8 @@ fn texts_at(alloc: Global, value: &Value, key: &str) -> Result<Vec<FieldText>, A
 
 /// The reply that an object says.
 fn reply_of(alloc: Global, value: &Value) -> Result<Reply, AllocError>
-    ensures { IfOk result (λ reply. answer_in reply ≡ answer_of (view value.now)) }
+    ensures said { IfOk result (λ reply. answer_in reply ≡ answer_of (view value.now)) }
+    ensures refused { OnErr result (IsStored None (answer_of (view value.now))) }
 {
     Ok(Reply {
         panel: text_at(alloc, value, "panel")?,
@@ -146,7 +160,7 @@ fn reply_in(alloc: Global, value: &Value) -> Result<Reply, ReplyFault>
     match first_flaw(members) {
         Some((what, key)) => Err(ReplyFault::Key {
             what,
-            key: String::from_str(alloc, key)?,
+            key: copy_of(alloc, key)?,
         }),
         None => Ok(reply_of(alloc, value)?),
     }

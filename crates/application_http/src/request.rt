@@ -1,5 +1,5 @@
 //! What an application is sent for a question.
-ghost use Rattle.std.specs.Prelude.{◌≡◌, IfOk, OnOk, codes, string_bytes, decimal};
+ghost use Rattle.std.specs.Prelude.{◌≡◌, IfOk, OnOk, codes, string_bytes};
 ghost use Rattle.serde_json.specs.Data.{no_members, number, object, put, string, unsigned};
 ghost use Rattle.serde_json.specs.View.{members_view, view};
 ghost use Rattle.application_http.specs.Requests.{body_text, cursor_data, question_data, request_bytes, with_texts};
@@ -20,8 +20,8 @@ pub struct FieldText {
 /// A question: what the operator sees, and the key that was pressed.
 #[derive(Clone, Copy)]
 pub struct Request<'a> {
-    /// The connection's number, another for each connection as long as the process lives.
-    pub session: u64,
+    /// The session's name, which no other session has.
+    pub session: &'a str,
     /// The turn's number on this connection.
     pub turn: u16,
     /// The LU that the terminal is bound to.
@@ -48,13 +48,6 @@ fn fields_value(alloc: Global, fields: &[FieldText]) -> Result<Value, AllocError
         serde_json::put(&mut texts, alloc, field.name.as_str(), text)?;
     }
     Ok(Value::Object(texts))
-}
-
-/// The text of a session's number.
-fn session_text(alloc: Global, session: u64) -> Result<String, AllocError>
-    ensures { IfOk result (λ text. string_bytes text ≡ decimal session) }
-{
-    format!(in alloc; "{session}")
 }
 
 /// Puts a text into an object.
@@ -85,18 +78,17 @@ fn put_question(
     Ok(())
 }
 
-/// Puts the number of the connection and of the turn.
+/// Puts the name of the session, and the number of the turn.
 fn put_ticket(
     members: &mut Map<String, Value>,
     alloc: Global,
-    session: u64,
+    session: &str,
     turn: u16,
 ) -> Result<(), AllocError>
     ensures { OnOk result (members_view members.new.entries ≡ put (codes "turn") (number (unsigned turn))
-        (put (codes "session") (string (decimal session)) (members_view members.old.entries))) }
+        (put (codes "session") (string session.now) (members_view members.old.entries))) }
 {
-    let text = session_text(alloc, session)?;
-    put_text(members, alloc, "session", text.as_str())?;
+    put_text(members, alloc, "session", session)?;
     serde_json::put(members, alloc, "turn", Value::from(u64::from(turn)))?;
     Ok(())
 }

@@ -1,10 +1,10 @@
--- The panel text in an input, which a script may follow (our profile). Lines end with LF, or with CR and LF.
+-- The panel text in an input, which a script may follow (our profile). LF alone ends a line, as in a script.
 use Rattle.std.specs.Prelude.{ℕ, ◌+◌, ◌==◌, ◌&&◌, ◌||◌, Bool, true, List, [], ◌∷◌, codes, bytes_eq, nat_eq, take, if◌then◌else◌}
 use Rattle.std.specs.List.{starts_with}
 
 -- the text begins with a line `%%`
 abbrev pub is_at_mark : List ℕ → Bool
-is_at_mark text = bytes_eq text (codes "%%") || (starts_with nat_eq text (codes "%%\n") || starts_with nat_eq text (codes "%%\r\n"))
+is_at_mark text = bytes_eq text (codes "%%") || starts_with nat_eq text (codes "%%\n")
 
 -- The index of the first line `%%`; the text's length if there is no such line. `begins`: a line begins here.
 abbrev pub mark_place : Bool → List ℕ → ℕ

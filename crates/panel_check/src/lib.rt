@@ -37,3 +37,4 @@ mod wording;
 pub use finding::{Cause, Finding};
 pub use judge::Sizes;
 pub use report::{Report, check};
+pub use wording::Nearest;

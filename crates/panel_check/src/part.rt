@@ -7,9 +7,7 @@ ghost use Rattle.panel_check.specs.PanelText.{is_at_mark, mark_place, panel_text
 fn is_at_mark(text: &[u8]) -> bool
     ensures { result ≡ is_at_mark text.now }
 {
-    text == b"%%".as_slice()
-        || text.starts_with(b"%%\n".as_slice())
-        || text.starts_with(b"%%\r\n".as_slice())
+    text == b"%%".as_slice() || text.starts_with(b"%%\n".as_slice())
 }
 
 /// The index of the first line `%%`; the text's length if there is no such line.

@@ -34,7 +34,7 @@ pub(crate) fn quote(alloc: Global, text: &str) -> Result<String, AllocError> {
 
 /// The known word that is most like a word, if one is near.
 #[derive(Drop)]
-pub(crate) struct Nearest<'a> {
+pub struct Nearest<'a> {
     alloc: Global,
     word: &'a str,
     found: Option<&'a str>,
@@ -45,7 +45,8 @@ pub(crate) struct Nearest<'a> {
 }
 
 impl<'a> Nearest<'a> {
-    pub(crate) fn to(alloc: Global, word: &'a str) -> Nearest<'a> {
+    /// A search for the known word that is most like this one. None is compared yet.
+    pub fn to(alloc: Global, word: &'a str) -> Nearest<'a> {
         // One edit in three letters; a long word is none of ours.
         let most = if word.len() <= MOST_PRINTED {
             word.len() / 3 + 1
@@ -62,7 +63,7 @@ impl<'a> Nearest<'a> {
     }
 
     /// Compares a known word.
-    pub(crate) fn offer(&mut self, known: &'a str) -> Result<(), AllocError> {
+    pub fn offer(&mut self, known: &'a str) -> Result<(), AllocError> {
         if self.most == 0 || self.left == 0 || MOST_PRINTED < known.len() {
             return Ok(());
         }
@@ -73,6 +74,11 @@ impl<'a> Nearest<'a> {
             self.most = distance.saturating_sub(1);
         }
         Ok(())
+    }
+
+    /// The known word that is most like the word, of those that were compared, if one is near.
+    pub fn found(&self) -> Option<&'a str> {
+        self.found
     }
 
     /// Adds ` (did you mean 'KNOWN'?)` if a word is near.

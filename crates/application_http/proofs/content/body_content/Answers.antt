@@ -6,11 +6,11 @@ use Rattle.application_http.proofs.content.body_content.Goals as goal
 
 pub returns-in_ok-sized_content-in-NoBody-clause-found : goal.returns-in_ok-sized_content-in-NoBody-clause-found
 returns-in_ok-sized_content-in-NoBody-clause-found c =
-    tells_empty c.args.is_closed c.args.framing c.args.after.now c.in_ok-sized_content-in-NoBody.field-0 c.in-NoBody.is c.in_ok-sized_content-in-NoBody.ensures
+    tells_empty c.args.is_closed c.args.framing c.args.after.now c.in_ok-sized_content-in-NoBody.field-0 c.in-NoBody.is c.in_ok-sized_content-in-NoBody.ensures.found
 
 pub returns-in_ok-sized_content-in-Length-clause-found : goal.returns-in_ok-sized_content-in-Length-clause-found
 returns-in_ok-sized_content-in-Length-clause-found c =
-    tells_sized c.args.is_closed c.args.framing c.in-Length.len c.args.after.now c.in_ok-sized_content-in-Length.field-0 c.in-Length.is c.in_ok-sized_content-in-Length.ensures
+    tells_sized c.args.is_closed c.args.framing c.in-Length.len c.args.after.now c.in_ok-sized_content-in-Length.field-0 c.in-Length.is c.in_ok-sized_content-in-Length.ensures.found
 
 pub returns-in-Chunked-clause-found : goal.returns-in-Chunked-clause-found
 returns-in-Chunked-clause-found c =
@@ -18,4 +18,4 @@ returns-in-Chunked-clause-found c =
 
 pub returns-in_ok-last_content-in-UntilClose-clause-found : goal.returns-in_ok-last_content-in-UntilClose-clause-found
 returns-in_ok-last_content-in-UntilClose-clause-found c =
-    tells_last c.args.is_closed c.args.framing c.args.after.now c.in_ok-last_content-in-UntilClose.field-0 c.in-UntilClose.is c.in_ok-last_content-in-UntilClose.ensures
+    tells_last c.args.is_closed c.args.framing c.args.after.now c.in_ok-last_content-in-UntilClose.field-0 c.in-UntilClose.is c.in_ok-last_content-in-UntilClose.ensures.found

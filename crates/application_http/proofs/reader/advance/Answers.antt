@@ -1,4 +1,4 @@
-use Rattle.std.proofs.Common.{◌≡◌, ◌++◌, ◌-◌, ◌<◌, false, length, take, sym, ◌∙◌, rules}
+use Rattle.std.proofs.Common.{◌≡◌, ◌++◌, ◌-◌, ◌<◌, false, length, take, sym, ◌∙◌, inr, rules}
 use Rattle.application_http.specs.Contents.{most_bytes}
 use Rattle.application_http.proofs.Readings.{take_more_of, some_found, none_found, refused_at, longer}
 use Rattle.application_http.proofs.reader.advance.Goals as goal
@@ -16,11 +16,11 @@ returns-in-Ok-None-clause-refused c =
     let added : c.extend_from_slice.new.self.items ≡ old ++ take (most_bytes - length old) c.args.bytes.now = search rules in
     let kept = c.as_slice-2.ensures.value ∙ added ∙ sym (take_more_of most_bytes old c.args.bytes.now c.requires) in
     let more : most_bytes - length old < length c.args.bytes.now = search rules in
-    (none_found false (old ++ c.args.bytes.now) c.as_slice-2.result.now c.in-Ok-None.field-0 c.in-Ok-None.field-0-is kept c.in-Ok-None.ensures.found, longer old c.args.bytes.now c.requires more)
+    inr (none_found false (old ++ c.args.bytes.now) c.as_slice-2.result.now c.in-Ok-None.field-0 c.in-Ok-None.field-0-is kept c.in-Ok-None.ensures.found, longer old c.args.bytes.now c.requires more)
 
 pub returns-in-Err-clause-refused : goal.returns-in-Err-clause-refused
 returns-in-Err-clause-refused c =
     let old = c.args.so_far.now.items in
     let added : c.extend_from_slice.new.self.items ≡ old ++ take (most_bytes - length old) c.args.bytes.now = search rules in
     let kept = c.as_slice-2.ensures.value ∙ added ∙ sym (take_more_of most_bytes old c.args.bytes.now c.requires) in
-    refused_at false (old ++ c.args.bytes.now) c.as_slice-2.result.now c.in-Err.why kept c.in-Err.ensures.bad
+    inr (refused_at false (old ++ c.args.bytes.now) c.as_slice-2.result.now c.in-Err.why kept c.in-Err.ensures.bad)
