@@ -4,7 +4,7 @@
 Tellers sign on, look up balances, transfer money, and list their bookings. All data is in an SQLite file. It is created with the tellers
 and accounts below if it doesn't exist. Amounts are integers of cents.
 """
-import argparse, contextlib, dataclasses, hashlib, hmac, http.server, itertools, json, os, re, sqlite3, sys, uuid
+import argparse, collections, contextlib, dataclasses, hashlib, hmac, http.server, itertools, json, os, re, sqlite3, sys, uuid
 
 TELLERS = [("4711", "ANN MILLER", "SECRET"), ("4712", "JOHN SMITH", "HIDDEN")]
 ACCOUNTS = [("1000200030", "J. BAKER", 125000), ("1000200044", "M. CARTER", 9900), ("1000200058", "TOWN LIBRARY", 0)]
@@ -86,22 +86,29 @@ def amount_text(cents):
 # ---- what the keys do
 
 
+# How many sessions are remembered. A host has at most 64 at once, so this is enough for 15 hosts. Who is forgotten signs on again.
+MOST_SESSIONS = 1000
+
+
 @dataclasses.dataclass
 class Session:
-    """A session at which a teller is signed on, and the name of the transfer form that was shown there last."""
-    number: str
+    """The teller who is signed on at a session, and the name of the transfer form that was shown there last."""
     teller: str
     form: str = ""
 
 
 class Bank:
-    """Replies to the host's questions. An LU has one session at a time, so the last one of each LU is enough.
+    """Replies to the host's questions.
+
+    Who is signed on is remembered by `session`, a name that the host uses once and never again, not even after it was started again. An LU
+    would be wrong as the key: when the host starts again, the next operator has the LU of the one before. No request says that an operator
+    left, so of many sessions those are forgotten that were used least recently.
 
     What panels show and nobody types stays until a reply changes it, so a reply that leads to a panel has a text for all that it shows.
     """
 
     def __init__(self, path):
-        self.path, self.sessions = path, {}
+        self.path, self.sessions = path, collections.OrderedDict()
         self.keys = {
             ("SIGNON", "enter"): self.sign_on,
             ("MENU", "enter"): self.choose,
@@ -113,13 +120,12 @@ class Bank:
 
     def reply(self, question):
         """The reply to a question. Every fault is a message."""
-        panel, key, lu = question["panel"], question["key"], question["lu"]
-        if panel == "SIGNON":
-            # Nobody is signed on at this panel, not even if the host was started again.
-            self.sessions.pop(lu, None)
-        session = self.sessions.get(lu)
-        if panel != "SIGNON" and (session is None or session.number != question["session"]):
-            return {"panel": "SIGNON", "message": "SIGN ON FIRST"}
+        panel, key = question["panel"], question["key"]
+        session = self.sessions.pop(question["session"], None)
+        if panel != "SIGNON":
+            if session is None:
+                return {"panel": "SIGNON", "message": "SIGN ON FIRST"}
+            self.remember(question, session)
         try:
             if (panel, key) not in self.keys:
                 raise Refused(f"KEY NOT KNOWN: {key.upper()}")
@@ -130,6 +136,12 @@ class Bank:
             print(f"bank.py: {fault}", file=sys.stderr, flush=True)
             return {"message": "DATABASE NOT AVAILABLE"}
 
+    def remember(self, question, session):
+        """Keeps a session, as the one that was used last."""
+        self.sessions[question["session"]] = session
+        if len(self.sessions) > MOST_SESSIONS:
+            self.sessions.popitem(last=False)
+
     def sign_on(self, question, _):
         number, password = question["fields"]["teller"], question["fields"]["password"]
         with transaction(self.path) as database:
@@ -138,11 +150,11 @@ class Bank:
         name, salt, wanted = teller or ("", bytes(16), b"")
         if not hmac.compare_digest(hash_of(password, salt), wanted):
             raise Refused("TELLER NUMBER OR PASSWORD IS WRONG", "password", password="")
-        self.sessions[question["lu"]] = Session(question["session"], number)
+        self.remember(question, Session(number))
         return {"panel": "MENU", "fields": {"name": name}, "message": f"WELCOME, {name}"}
 
     def sign_off(self, question, _):
-        self.sessions.pop(question["lu"], None)
+        self.sessions.pop(question["session"], None)
         return {"panel": "SIGNON", "message": "SIGNED OFF"}
 
     def choose(self, question, session):

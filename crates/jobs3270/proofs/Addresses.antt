@@ -7,7 +7,7 @@ use Rattle.std.specs.declared.net.ip_addr.IpAddr.{IpAddr}
 use Rattle.std.specs.declared.net.ip_addr.IpAddr.TheVariants as ip
 use Rattle.std.proofs.NetLemmas.Ipv4.{read_ipv4_complete, read_ipv4_sound}
 use Rattle.std.proofs.NetLemmas.Ipv6.{EndsGroups-nil, IsDotted-not_colon_hex, read_ipv6_complete, read_ipv6_sound}
-use Rattle.jobs3270.specs.OptionValues.{address_of}
+use Rattle.jobs3270.specs.OptionValues.{written_address}
 
 module _ (Spells : List ℕ → List ℕ → Type 0) (text : List ℕ) (read : Read (List ℕ))
     (sound : (value rest : List ℕ) → read ≡ Some (value, rest) → (front : List ℕ) × (text ≡ front ++ rest) × Spells front value)
@@ -37,8 +37,8 @@ no_ipv4 text none = no_whole IsDotted text (read_ipv4 text) (λ octets rest is. 
 no_ipv6 : (text : List ℕ) → ((segments : List ℕ) → IsColonHex text segments → ⊥) → whole_value (read_ipv6 text) ≡ None
 no_ipv6 text none = no_whole IsColonHex text (read_ipv6 text) (λ segments rest is. read_ipv6_sound text segments rest is) none
 
-pub address_parsed : {E : Type 0} (word : List ℕ) (parsed : Result IpAddr E) → Parses IsIpText word parsed → result_ok parsed ≡ address_of word
-unfolding address_of
+pub address_parsed : {E : Type 0} (word : List ℕ) (parsed : Result IpAddr E) → Parses IsIpText word parsed → result_ok parsed ≡ written_address word
+unfolding written_address
 address_parsed {E} word (Ok (ip.V4 address)) spells = rw (whole_ipv4 word address.octets spells) refl
 address_parsed {E} word (Ok (ip.V6 address)) spells =
     rw (no_ipv4 word (λ octets dotted. IsDotted-not_colon_hex word octets address.segments dotted spells), whole_ipv6 word address.segments spells) refl

@@ -10,7 +10,7 @@ use Rattle.jobs3270.specs.Checks.{EndsReporting, HasCheckCause, WritesReport, Wr
 use Rattle.jobs3270.specs.Counting.{Input, Output, Written, CutShort}
 use Rattle.jobs3270.specs.Runs.{IsInput, RefusesInput}
 use Rattle.jobs3270.specs.declared.fault.Fault.{Fault}
-use Rattle.jobs3270.specs.declared.fault.Fault.TheVariants.{InputNotRead, Panels, Pool, NotHex, NotUnderstood, NoMemory, SocketFailed, CannotListen, NotAnApplication, TurnsOver, OutputFailed, Live}
+use Rattle.jobs3270.specs.declared.fault.Fault.TheVariants.{InputNotRead, Panels, Pool, NotHex, NotUnderstood, NoMemory, SocketFailed, NotRandom, CannotListen, NotAnApplication, TurnsOver, OutputFailed, Live}
 
 -- where there is no input nothing is written
 pub unread : (Came : List ℕ → Type 0) (fault : Fault) (name : List ℕ) (in_old in_new : Input) (out : Output) → RefusesInput fault in_old in_new
@@ -22,6 +22,7 @@ unread Came (NotHex line) name in_old in_new out why came = absurd why
 unread Came (NotUnderstood line) name in_old in_new out why came = absurd why
 unread Came NoMemory name in_old in_new out why came = (came, record { kept = Keeps-refl out.got; sound = refl })
 unread Came SocketFailed name in_old in_new out why came = absurd why
+unread Came NotRandom name in_old in_new out why came = absurd why
 unread Came (CannotListen address kind) name in_old in_new out why came = absurd why
 unread Came (NotAnApplication reason) name in_old in_new out why came = absurd why
 unread Came TurnsOver name in_old in_new out why came = absurd why
@@ -39,6 +40,7 @@ reported Came (Err (NotHex line)) name in_old in_new out_old out_new input is ca
 reported Came (Err (NotUnderstood line)) name in_old in_new out_old out_new input is came ends = absurd ends
 reported Came (Err NoMemory) name in_old in_new out_old out_new input is came ends = ((input, came), ends)
 reported Came (Err SocketFailed) name in_old in_new out_old out_new input is came ends = absurd ends
+reported Came (Err NotRandom) name in_old in_new out_old out_new input is came ends = absurd ends
 reported Came (Err (CannotListen address kind)) name in_old in_new out_old out_new input is came ends = absurd ends
 reported Came (Err (NotAnApplication reason)) name in_old in_new out_old out_new input is came ends = absurd ends
 reported Came (Err TurnsOver) name in_old in_new out_old out_new input is came ends = absurd ends

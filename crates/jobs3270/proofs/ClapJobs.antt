@@ -16,7 +16,7 @@ use Rattle.clap.specs.declared.error.kind.ErrorKind.TheVariants as kind
 use Rattle.clap.specs.declared.parser.matches.ArgMatches.{ArgMatches}
 use Rattle.clap.proofs.OnLiterals.{clap_on_literals}
 use Rattle.jobs3270.specs.Topics.{name_of, operand_of, options_of, row_of}
-use Rattle.jobs3270.specs.Words.{HasNoJob, IsJobOf, program, job_by, job_shape, operand_rules, option_rule}
+use Rattle.jobs3270.specs.Words.{HasNoJob, IsJobOf, program, job_shape, job_taken, operand_rules, option_rule}
 use Rattle.jobs3270.specs.ClapCommands.{AddsJobs, AddsArguments, IsCommand, IsJob, IsArgument, IsMatch, MayFail, job_or_fault}
 use Rattle.jobs3270.specs.declared.job.Job.{Job}
 use Rattle.jobs3270.specs.declared.job.Topic.{Topic}
@@ -119,8 +119,8 @@ module _ (command : Command) (words : List (List ℕ)) (is : app_of command ≡ 
 -- ---- jobs
 
 pub job_is : (words : List (List ℕ)) (matches : ArgMatches) → IsMatch words matches → (job : Option Job)
-    → job ≡ job_by (subcommand_rows_of matches) → IsJobOf words job
-job_is words matches match job is = inl (record { taken = match.taken; job = sym (is ∙ ap job_by match.rows) })
+    → job ≡ job_taken words (subcommand_rows_of matches) → IsJobOf words job
+job_is words matches match job is = inl (record { taken = match.taken; job = sym (is ∙ ap (job_taken words) match.rows) })
 
 -- what a kind of error asks for is the words' job, or they have none
 among_asked : (words : List (List ℕ)) (kind : ErrorKind) → IsAmong kind (fault_of program words)

@@ -6,7 +6,7 @@ use Rattle.std.proofs.lemmas.List.{length-take-le}
 use Rattle.jobs3270.specs.Counting.{Input, Output, more}
 use Rattle.jobs3270.specs.Runs.{ReadWhole, NotRead, too_many_bytes, no_text, most_bytes, RefusesInput, IsInput, EndsPrinting, HasCause}
 use Rattle.jobs3270.specs.declared.fault.Fault.{Fault}
-use Rattle.jobs3270.specs.declared.fault.Fault.TheVariants.{InputNotRead, Panels, Pool, NotHex, NotUnderstood, NoMemory, SocketFailed, CannotListen, NotAnApplication, TurnsOver, OutputFailed, Live}
+use Rattle.jobs3270.specs.declared.fault.Fault.TheVariants.{InputNotRead, Panels, Pool, NotHex, NotUnderstood, NoMemory, SocketFailed, NotRandom, CannotListen, NotAnApplication, TurnsOver, OutputFailed, Live}
 use Rattle.jobs3270.specs.declared.task.Task.{Task}
 
 -- one read more, where as many were counted before as there were rounds
@@ -47,6 +47,7 @@ without_input task Came (NotHex line) in_old in_new out why came = absurd why
 without_input task Came (NotUnderstood line) in_old in_new out why came = absurd why
 without_input task Came NoMemory in_old in_new out why came = (came, record { kept = Keeps-refl out.got; sound = refl })
 without_input task Came SocketFailed in_old in_new out why came = absurd why
+without_input task Came NotRandom in_old in_new out why came = absurd why
 without_input task Came (CannotListen address kind) in_old in_new out why came = absurd why
 without_input task Came (NotAnApplication reason) in_old in_new out why came = absurd why
 without_input task Came TurnsOver in_old in_new out why came = absurd why
@@ -64,6 +65,7 @@ with_input task Came (Some (NotHex line)) in_old in_new out_old out_new text is 
 with_input task Came (Some (NotUnderstood line)) in_old in_new out_old out_new text is came ends = (text, is, came, ends)
 with_input task Came (Some NoMemory) in_old in_new out_old out_new text is came ends = ((text, came), ends)
 with_input task Came (Some SocketFailed) in_old in_new out_old out_new text is came ends = absurd ends
+with_input task Came (Some NotRandom) in_old in_new out_old out_new text is came ends = absurd ends
 with_input task Came (Some (CannotListen address kind)) in_old in_new out_old out_new text is came ends = absurd ends
 with_input task Came (Some (NotAnApplication reason)) in_old in_new out_old out_new text is came ends = absurd ends
 with_input task Came (Some TurnsOver) in_old in_new out_old out_new text is came ends = absurd ends

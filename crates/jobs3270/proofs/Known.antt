@@ -12,7 +12,7 @@ take_on (x ∷ xs) (suc n) m within =
     ap (λ k. take k (x ∷ xs)) one_more ∙ ap (λ (front : List ℕ). x ∷ front) (take_on xs n m (omega arith))
 
 -- the bytes that are left
-left_whole : (bytes : List ℕ) (taken : ℕ) → take (length bytes - taken) (drop taken bytes) ≡ drop taken bytes
+pub left_whole : (bytes : List ℕ) (taken : ℕ) → take (length bytes - taken) (drop taken bytes) ≡ drop taken bytes
 left_whole bytes taken = take_all (length bytes - taken) (drop taken bytes) (let n = length-drop taken bytes in omega arith)
 
 -- of the bytes that are left some more are written

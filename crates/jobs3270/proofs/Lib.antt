@@ -9,6 +9,8 @@ pub mod ReadsOn
 pub mod Waits
 pub mod RawCalls
 pub mod SocketCalls
+pub mod WriteCalls
+pub mod ServiceTurns
 pub mod ScriptLines
 pub mod Happenings
 pub mod Rounds
@@ -27,3 +29,5 @@ pub mod LiveLemmas
 pub mod LiveReads
 mod Replies
 pub mod AnswerWords
+pub mod AskedKeys
+pub mod SessionTexts

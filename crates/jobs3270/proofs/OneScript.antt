@@ -7,6 +7,7 @@ use Rattle.panels.specs.Defines.{DefinesOnce}
 use Rattle.panels.specs.Panel.{Panels}
 use Rattle.world3270.specs.ByteRuns.{refused_at}
 use Rattle.world3270.specs.ByteSteps.{Steps}
+use Rattle.host_core.specs.declared.terminals.Terminals.TheVariants.{Waiting}
 use Rattle.world3270.specs.ByteWorld.{ByteWorld, new_byte_world}
 use Rattle.world3270.specs.OneOutcome.{StepsAreOne}
 use Rattle.world3270.specs.declared.event.Event.{Event}
@@ -181,8 +182,8 @@ one_world defines_once text world other is also =
     let panels : is.panels ≡ also.panels = defines_once text is.panels also.panels is.panels_read also.panels_read in
     let pool : is.pool ≡ also.pool =
     one_pool (lus_of is.panels) is.pool also.pool is.pool_read (subst (λ (set : Panels). IsPoolReadFrom (lus_of set) also.pool) (sym panels) also.pool_read) in
-    is.world_is ∙ ap (λ (set : Panels). new_byte_world set is.pool terminal_models) panels
-    ∙ ap (λ (list : List Entry). new_byte_world also.panels list terminal_models) pool ∙ sym also.world_is
+    is.world_is ∙ ap (λ (set : Panels). new_byte_world Waiting set is.pool terminal_models) panels
+    ∙ ap (λ (list : List Entry). new_byte_world Waiting also.panels list terminal_models) pool ∙ sym also.world_is
 
 pub one_script_page : DefinesOnce → StepsAreOne → ScriptsHaveOnePage
 one_script_page defines_once steps_are_one input page other stopped ended is also =

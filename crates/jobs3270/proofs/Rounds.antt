@@ -1,5 +1,5 @@
 -- A world settles, one connection and one round more at a time.
-use Rattle.std.proofs.Common.{◌≡◌, ◌∙◌, ◌<◌, ◌≤◌, ◌+◌, ◌-◌, ◌&&◌, ℕ, Bool, true, false, List, [], ◌∷◌, ◌++◌, None, refl, sym, ap, subst, suc, arith, append_assoc, append-nil, add-one}
+use Rattle.std.proofs.Common.{◌≡◌, ◌∙◌, ◌<◌, ◌≤◌, ◌+◌, ◌-◌, ◌&&◌, ℕ, Bool, true, false, List, [], ◌∷◌, ◌++◌, None, OnErr, Result, Ok, Err, is_some, refl, sym, ap, subst, suc, arith, append_assoc, append-nil, add-one}
 use Rattle.std.proofs.lemmas.List.{map-append}
 use Rattle.std.proofs.lemmas.List.Folds.{list_all-append}
 use Rattle.host_core.specs.State.{most_connections}
@@ -9,8 +9,44 @@ use Rattle.world3270.specs.ByteWorld.{ByteWorld}
 use Rattle.world3270.specs.declared.event.Event.{Event}
 use Rattle.world3270.specs.declared.event.Event.TheVariants as event
 use Rattle.world3270.specs.declared.event.Stepped.{Stepped}
-use Rattle.jobs3270.specs.Happenings.{AreRounds, Happening, OthersIf, RunsEvents, TakePlace, all_bytes, all_skipped, events_of, is_skipped, most_rounds, round_below, exchange_events}
-use Rattle.jobs3270.proofs.Happenings.{then_take_place}
+use Rattle.jobs3270.specs.Happenings.{AreRounds, Happening, IsStopped, OthersIf, RunsEvents, TakePlace, all_bytes, all_skipped, events_of, is_skipped, most_rounds, round_below, exchange_events}
+use Rattle.jobs3270.proofs.Happenings.{takes_place, then_take_place}
+
+-- ---- where a run stops
+
+-- at this event
+pub stopped_here : (event : Event) (answer : Stepped) (old new : ByteWorld) → Steps event old answer new → is_some (refused_at answer) ≡ true → IsStopped old new
+stopped_here event answer old new steps refused = record {
+  happenings = [];
+  mid = old;
+  take_place = refl;
+  event = event;
+  answer = answer;
+  steps = steps;
+  refused = refused;
+}
+
+-- after some that took place
+pub stopped_after : (happenings : List Happening) (old mid new : ByteWorld) → TakePlace happenings old mid → IsStopped mid new → IsStopped old new
+stopped_after happenings old mid new before stopped = record {
+  happenings = happenings ++ stopped.happenings;
+  mid = stopped.mid;
+  take_place = then_take_place happenings stopped.happenings old mid stopped.mid before stopped.take_place;
+  event = stopped.event;
+  answer = stopped.answer;
+  steps = stopped.steps;
+  refused = stopped.refused;
+}
+
+-- after one
+pub stopped_after_one : (event : Event) (answer : Stepped) (old mid new : ByteWorld) → Steps event old answer mid → refused_at answer ≡ None → IsStopped mid new
+    → IsStopped old new
+stopped_after_one event answer old mid new steps whole =
+    stopped_after (record { event = event; answer = answer } ∷ []) old mid new (takes_place event answer old mid steps whole)
+
+pub if_stopped : {T E : Type 0} (result : Result T E) (old new : ByteWorld) → IsStopped old new → OnErr result (IsStopped old new)
+if_stopped (Ok value) old new stopped = tt
+if_stopped (Err error) old new stopped = stopped
 
 -- ---- a round
 

@@ -14,7 +14,8 @@ use Rattle.panels.specs.Values.{value_of}
 use Rattle.panels.specs.declared.message_text.MessageText.{MessageText}
 use Rattle.panels.specs.declared.panel.Field.{Field}
 use Rattle.presentation.specs.Glyph.{blank}
-use Rattle.jobs3270.specs.Applications.{lacks_code, message_bytes, value_by}
+use Rattle.plain_text.specs.PlainTexts.{lacks_code}
+use Rattle.jobs3270.specs.Applications.{message_bytes, value_by}
 
 -- ---- words
 

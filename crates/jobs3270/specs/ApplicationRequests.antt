@@ -10,6 +10,8 @@ use Rattle.panels.specs.declared.panel.Field.{Field}
 use Rattle.tn3270e_msg.specs.Words.{lu_text}
 use Rattle.jobs3270.specs.Applications.{Text, key_name}
 use Rattle.jobs3270.specs.QuestionLines.{column_of, row_of, unicode_of}
+use Rattle.jobs3270.specs.SessionNames.{session_text}
+use Rattle.jobs3270.specs.declared.session_name.SessionName.{SessionName}
 
 -- a field's name, and its text in Unicode; a field without a value has no text
 abbrev pub text_asked : Values → Field → Text
@@ -19,9 +21,13 @@ text_asked values field = (field.name, unicode_of (unwrap_or (value_of values fi
 abbrev pub texts_asked : Values → List Field → List Text
 texts_asked values fields = map (text_asked values) fields
 
+-- the name of the session that a question is of, at a host that drew this number when it started
+abbrev pub session_asking : (boot : ℕ) → Question → SessionName
+session_asking boot question = record { boot = boot; number = question.ticket.session }
+
 -- the request asks this question, on this panel
-pub record AsksQuestion (panel : PanelParts) (question : Question) (request : Request) : Type 0 where
-  pub session : request.session ≡ question.ticket.session
+pub record AsksQuestion (boot : ℕ) (panel : PanelParts) (question : Question) (request : Request) : Type 0 where
+  pub session : request.session.now ≡ session_text (session_asking boot question)
   pub turn : request.turn ≡ question.ticket.turn
   pub lu : request.lu.now ≡ lu_text question.lu
   pub panel_name : request.panel.now ≡ panel.name
@@ -31,13 +37,13 @@ pub record AsksQuestion (panel : PanelParts) (question : Question) (request : Re
   pub fields : map field_text request.fields.now ≡ texts_asked question.values panel.fields
 
 -- These bytes ask it on this panel. `written`: how a request is written, for the application that it goes to.
-pub record IsRequestOn (written : Request → List ℕ) (panel : PanelParts) (question : Question) (bytes : List ℕ) : Type 0 where
+pub record IsRequestOn (written : Request → List ℕ) (boot : ℕ) (panel : PanelParts) (question : Question) (bytes : List ℕ) : Type 0 where
   pub request : Request
-  pub asks : AsksQuestion panel question request
+  pub asks : AsksQuestion boot panel question request
   pub bytes_are : bytes ≡ written request
 
 -- the same on the question's own panel; nothing is asked only if there is no such panel
-abbrev pub IsRequestFor : (written : Request → List ℕ) → Panels → Question → Option (List ℕ) → Type 0
-IsRequestFor written panels question None = slice_get panels.panels question.panel ≡ None
-IsRequestFor written panels question (Some bytes) =
-    (panel : PanelParts) × (slice_get panels.panels question.panel ≡ Some panel) × IsRequestOn written panel question bytes
+abbrev pub IsRequestFor : (written : Request → List ℕ) → (boot : ℕ) → Panels → Question → Option (List ℕ) → Type 0
+IsRequestFor written boot panels question None = slice_get panels.panels question.panel ≡ None
+IsRequestFor written boot panels question (Some bytes) =
+    (panel : PanelParts) × (slice_get panels.panels question.panel ≡ Some panel) × IsRequestOn written boot panel question bytes

@@ -1,14 +1,14 @@
 -- The words of an application's requests, what becomes of its replies, and what an operator is shown of its failures (our profile).
-use Rattle.std.specs.Prelude.{ℕ, ◌-◌, Bool, true, false, not, nat_le, nat_lt, List, [], ◌∷◌, ◌++◌, take, codes, chars, string_bytes, Option, Some, None, is_some, option_map, unwrap_or, if◌then◌else◌, ◌≡◌, ◌⊎◌, ⊤}
+use Rattle.std.specs.Prelude.{ℕ, ◌-◌, ◌<◌, Bool, true, nat_le, nat_lt, List, [], ◌∷◌, ◌++◌, length, slice_get, take, codes, chars, string_bytes, Option, Some, None, is_some, option_map, unwrap_or, if◌then◌else◌, ◌≡◌, ◌⊎◌, ⊤}
 use Rattle.std.specs.BTreeMap.{insert_entry}
 use Rattle.std.specs.Ordering.{nat_cmp}
 use Rattle.std.specs.Fmt.{decimal}
 use Rattle.std.specs.Option.{option_and_then, option_map_or}
-use Rattle.std.specs.List.{filter_map, list_any}
-use Rattle.codes3270.specs.CodePage.{character_of, code_of}
+use Rattle.std.specs.List.{filter_map}
+use Rattle.codes3270.specs.CodePage.{character_of}
+use Rattle.plain_text.specs.PlainTexts.{lacks_code, plain_text}
 use Rattle.codes3270.specs.declared.attention.Aid.{Aid}
 use Rattle.codes3270.specs.declared.attention.Aid.TheVariants as aid
-use Rattle.jobs3270.specs.declared.application_fault.Absence.{Absence}
 use Rattle.jobs3270.specs.declared.application_fault.ApplicationFault.{ApplicationFault}
 use Rattle.jobs3270.specs.declared.application_fault.ApplicationFault.TheVariants as why
 use Rattle.jobs3270.specs.declared.application_fault.FailureMessage.{FailureMessage}
@@ -23,9 +23,11 @@ use Rattle.application_http.specs.declared.fault.ReplyFault.{ReplyFault}
 use Rattle.application_http.specs.declared.fault.ReplyFault.TheVariants as reply
 use Rattle.panels.specs.Characters.{codes_of}
 use Rattle.panels.specs.MessageText.{message_of}
-use Rattle.panels.specs.Names.{field_named, panel_named}
+use Rattle.panels.specs.Names.{field_in, field_named, panel_named}
 use Rattle.panels.specs.Panel.{Panels}
 use Rattle.panels.specs.Screen.{Values}
+use Rattle.panels.specs.Values.{value_of}
+use Rattle.panels.specs.declared.panel.Field.{Field}
 
 -- ---- what it is sent
 
@@ -51,10 +53,6 @@ key_name (aid.Pa number) = codes "pa" ++ decimal number
 abbrev pub most_characters : ℕ
 most_characters = 3564
 
--- some character of a text has no code in the host's code
-abbrev pub lacks_code : List ℕ → Bool
-lacks_code text = list_any (λ character. not (is_some (code_of character))) (chars text)
-
 -- the value that a field is given by a text: what is beyond the largest screen is cut
 abbrev pub value_by : List ℕ → List ℕ
 value_by text = take most_characters (codes_of (chars text))
@@ -65,38 +63,46 @@ value_by text = take most_characters (codes_of (chars text))
 abbrev pub Text : Type 0
 Text = List ℕ × List ℕ
 
--- the values once a field has been given its text
+-- the values once a field has been given its text, in plain characters
 abbrev pub with_text : Panels → Text → Values → Values
-with_text panels text values = option_map_or (λ field. insert_entry nat_cmp values field.number (value_by text.1)) (field_named text.0 panels) values
+with_text panels text values = option_map_or (λ field. insert_entry nat_cmp values field.number (value_by (plain_text text.1))) (field_named text.0 panels) values
 
 -- the values once each field has been given its text, one after the other
 abbrev pub with_texts : Panels → List FieldText → Values → Values
 with_texts panels [] values = values
 with_texts panels (text ∷ texts) values = with_texts panels texts (with_text panels (field_text text) values)
 
--- there is the field, and each character of its text has a code
-pub record IsGoodText (panels : Panels) (text : Text) : Type 0 where
-  pub known : is_some (field_named text.0 panels) ≡ true
-  pub coded : lacks_code text.1 ≡ false
+-- some panel has the field
+abbrev pub is_known_text : Panels → Text → Bool
+is_known_text panels text = is_some (field_named text.0 panels)
 
--- why a field isn't given its text: there is no such field; or there is, and a character of the text has no code; want of memory says
--- nothing of it
-abbrev pub IsTextFault : Panels → Text → AnswerFault → Type 0
-IsTextFault panels text flaw.Memory = ⊤
-IsTextFault panels text (flaw.UnknownField name) = (string_bytes name ≡ text.0) × (field_named text.0 panels ≡ None)
-IsTextFault panels text (flaw.FieldWithoutCode name) = (string_bytes name ≡ text.0) × (is_some (field_named text.0 panels) ≡ true) × (lacks_code text.1 ≡ true)
-IsTextFault panels text _ = ⊥
+-- giving a field a text takes memory, if the field has no value yet, or the text isn't empty
+abbrev pub TakesMemory : Option (List ℕ) → List ℕ → Type 0
+TakesMemory None text = ⊤
+TakesMemory (Some value) text = 0 < length text
+
+-- the same of a text for the field with a name; the name of a field that no panel has takes memory, too
+abbrev pub TextTakesMemory : Values → Text → Option Field → Type 0
+TextTakesMemory values text None = 0 < length text.0
+TextTakesMemory values text (Some field) = TakesMemory (value_of values field.number) text.1
+
+-- why a field isn't given its text, while the fields have these values: no panel has the field, or what takes memory was refused it
+abbrev pub IsTextFault : Panels → Values → Text → AnswerFault → Type 0
+IsTextFault panels values text flaw.Memory = TextTakesMemory values text (field_named text.0 panels)
+IsTextFault panels values text (flaw.UnknownField name) = (string_bytes name ≡ text.0) × (field_named text.0 panels ≡ None)
+IsTextFault panels values text _ = ⊥
 
 -- each field is given its text
-abbrev pub AreGoodTexts : Panels → List FieldText → Type 0
-AreGoodTexts panels [] = ⊤
-AreGoodTexts panels (text ∷ texts) = IsGoodText panels (field_text text) × AreGoodTexts panels texts
+abbrev pub AreKnownTexts : Panels → List FieldText → Type 0
+AreKnownTexts panels [] = ⊤
+AreKnownTexts panels (text ∷ texts) = (is_known_text panels (field_text text) ≡ true) × AreKnownTexts panels texts
 
--- the fault of the first field that isn't given its text
-abbrev pub IsFirstTextFault : Panels → List FieldText → AnswerFault → Type 0
-IsFirstTextFault panels [] fault = ⊥
-IsFirstTextFault panels (text ∷ texts) fault =
-    IsTextFault panels (field_text text) fault ⊎ (IsGoodText panels (field_text text) × IsFirstTextFault panels texts fault)
+-- the fault of the first field that isn't given its text; `values`: those of the fields before it are set
+abbrev pub IsFirstTextFault : Panels → Values → List FieldText → AnswerFault → Type 0
+IsFirstTextFault panels values [] fault = ⊥
+IsFirstTextFault panels values (text ∷ texts) fault =
+    IsTextFault panels values (field_text text) fault
+    ⊎ ((is_known_text panels (field_text text) ≡ true) × IsFirstTextFault panels (with_text panels (field_text text) values) texts fault)
 
 -- a name is given, and nothing has it
 abbrev pub IsUnknown : (of : List ℕ → Option ℕ) → Option (List ℕ) → Type 0
@@ -108,18 +114,17 @@ abbrev pub IsKnown : (of : List ℕ → Option ℕ) → Option (List ℕ) → Ty
 IsKnown of None = ⊤
 IsKnown of (Some name) = is_some (of name) ≡ true
 
--- the number of what has this name, if a name is given
-abbrev pub IsNumberOf : (of : List ℕ → Option ℕ) → (name : Option (List ℕ)) → (number : Option ℕ) → Type 0
-IsNumberOf of None number = number ≡ None
-IsNumberOf of (Some name) number = (of name ≡ number) × (is_some number ≡ true)
-
 -- the panel with a name
 abbrev pub panel_number : Panels → List ℕ → Option ℕ
 panel_number panels name = panel_named name panels
 
--- the field with a name
-abbrev pub field_number : Panels → List ℕ → Option ℕ
-field_number panels name = option_map (λ field. field.number) (field_named name panels)
+-- the field of a panel with a name
+abbrev pub number_on : Panels → (panel : ℕ) → List ℕ → Option ℕ
+number_on panels panel name = option_map (λ field. field.number) (option_and_then (field_in name) (slice_get panels.panels panel))
+
+-- the panel that a reply names, or else the one on the screen: the cursor's field is one of its fields
+abbrev pub panel_of_reply : Panels → (shown : ℕ) → Reply → ℕ
+panel_of_reply panels shown reply = unwrap_or (option_and_then (panel_number panels) (option_map string_bytes reply.panel)) shown
 
 -- the text of a reply's message; a reply without one has no text
 abbrev pub message_in : Reply → List ℕ
@@ -133,35 +138,38 @@ as_byte character = if nat_lt character 256 then Some character else None
 abbrev pub message_bytes : List ℕ → List ℕ
 message_bytes text = filter_map as_byte (chars text)
 
--- why a message isn't shown; want of memory says nothing of it
-abbrev pub IsMessageFault : List ℕ → AnswerFault → Type 0
-IsMessageFault text flaw.Memory = ⊤
-IsMessageFault text flaw.MessageWithoutCode = lacks_code text ≡ true
-IsMessageFault text _ = ⊥
+-- The panel that a reply names is there, and has the cursor's field. `shown`: the panel on the screen.
+pub record HasItsNames (panels : Panels) (shown : ℕ) (reply : Reply) : Type 0 where
+  pub panel : IsKnown (panel_number panels) (option_map string_bytes reply.panel)
+  pub cursor : IsKnown (number_on panels (panel_of_reply panels shown reply)) (option_map string_bytes reply.cursor)
 
--- what the host does for a reply
-pub record IsAnswerFor (panels : Panels) (reply : Reply) (answer : Answer) : Type 0 where
-  pub panel : IsNumberOf (panel_number panels) (option_map string_bytes reply.panel) answer.panel
-  pub cursor : IsNumberOf (field_number panels) (option_map string_bytes reply.cursor) answer.cursor
-  pub coded : lacks_code (message_in reply) ≡ false
-  pub message : answer.message.characters ≡ message_of (message_bytes (message_in reply))
-  pub good : AreGoodTexts panels reply.fields.items
+-- what the host does for a reply: its texts are shown in plain characters
+pub record IsAnswerFor (panels : Panels) (shown : ℕ) (reply : Reply) (answer : Answer) : Type 0 where
+  pub names : HasItsNames panels shown reply
+  pub panel : answer.panel ≡ option_and_then (panel_number panels) (option_map string_bytes reply.panel)
+  pub cursor : answer.cursor ≡ option_and_then (number_on panels (panel_of_reply panels shown reply)) (option_map string_bytes reply.cursor)
+  pub message : answer.message.characters ≡ message_of (message_bytes (plain_text (message_in reply)))
+  pub known : AreKnownTexts panels reply.fields.items
   pub values : answer.values ≡ with_texts panels reply.fields.items []
 
--- the panel and the cursor's field that a reply names are there
-pub record HasItsNames (panels : Panels) (reply : Reply) : Type 0 where
-  pub panel : IsKnown (panel_number panels) (option_map string_bytes reply.panel)
-  pub cursor : IsKnown (field_number panels) (option_map string_bytes reply.cursor)
-
 -- Why the host can't do what a reply says: the first fault of its panel, its cursor's field, its message, and its fields, one after the
--- other. Want of memory says nothing of the reply.
-abbrev pub IsAnswerFault : Panels → Reply → AnswerFault → Type 0
-IsAnswerFault panels reply flaw.Memory = ⊤
-IsAnswerFault panels reply flaw.UnknownPanel = IsUnknown (panel_number panels) (option_map string_bytes reply.panel)
-IsAnswerFault panels reply flaw.UnknownCursor =
-    IsKnown (panel_number panels) (option_map string_bytes reply.panel) × IsUnknown (field_number panels) (option_map string_bytes reply.cursor)
-IsAnswerFault panels reply flaw.MessageWithoutCode = HasItsNames panels reply × (lacks_code (message_in reply) ≡ true)
-IsAnswerFault panels reply fault = HasItsNames panels reply × (lacks_code (message_in reply) ≡ false) × IsFirstTextFault panels reply.fields.items fault
+-- other. A message has no fault but that memory is refused it, which only an empty one doesn't take.
+abbrev pub IsAnswerFault : Panels → (shown : ℕ) → Reply → AnswerFault → Type 0
+IsAnswerFault panels shown reply flaw.Memory =
+    HasItsNames panels shown reply × ((0 < length (message_in reply)) ⊎ IsFirstTextFault panels [] reply.fields.items flaw.Memory)
+IsAnswerFault panels shown reply flaw.UnknownPanel = IsUnknown (panel_number panels) (option_map string_bytes reply.panel)
+IsAnswerFault panels shown reply flaw.UnknownCursor =
+    IsKnown (panel_number panels) (option_map string_bytes reply.panel) × IsUnknown (number_on panels (panel_of_reply panels shown reply)) (option_map string_bytes reply.cursor)
+IsAnswerFault panels shown reply fault = HasItsNames panels shown reply × IsFirstTextFault panels [] reply.fields.items fault
+
+-- the name of the first field whose text has a character that is replaced
+abbrev pub first_field_replaced : List FieldText → Option (List ℕ)
+first_field_replaced [] = None
+first_field_replaced (field ∷ fields) = if lacks_code (string_bytes field.text) then Some (string_bytes field.name) else first_field_replaced fields
+
+-- the first key of a reply whose text has such a character: that of the message, or the name of a field
+abbrev pub first_replaced : Reply → Option (List ℕ)
+first_replaced reply = if lacks_code (message_in reply) then Some (codes "message") else first_field_replaced reply.fields.items
 
 -- ---- when
 

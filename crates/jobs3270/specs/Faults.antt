@@ -10,7 +10,7 @@ use Rattle.lu_pool.specs.Messages.{fault_text as pool_fault_text}
 use Rattle.panels.specs.Messages.{fault_text as panel_fault_text}
 use Rattle.jobs3270.specs.LiveFaults.{live_fault_text, live_status}
 use Rattle.jobs3270.specs.declared.fault.Fault.{Fault}
-use Rattle.jobs3270.specs.declared.fault.Fault.TheVariants.{InputNotRead, Panels, Pool, NotHex, NotUnderstood, NoMemory, SocketFailed, CannotListen, NotAnApplication, TurnsOver, OutputFailed, Live}
+use Rattle.jobs3270.specs.declared.fault.Fault.TheVariants.{InputNotRead, Panels, Pool, NotHex, NotUnderstood, NoMemory, SocketFailed, NotRandom, CannotListen, NotAnApplication, TurnsOver, OutputFailed, Live}
 
 abbrev pub status_of : Fault → ℕ
 status_of InputNotRead = 1
@@ -21,6 +21,7 @@ status_of (NotUnderstood line) = 1
 status_of (NotAnApplication why) = 2
 status_of NoMemory = 3
 status_of SocketFailed = 4
+status_of NotRandom = 4
 status_of (CannotListen address kind) = 4
 status_of TurnsOver = 5
 status_of OutputFailed = 6
@@ -50,6 +51,7 @@ fault_text (NotHex line) = codes "line " ++ decimal line ++ codes ": not hex"
 fault_text (NotUnderstood line) = codes "line " ++ decimal line ++ codes ": not understood"
 fault_text NoMemory = codes "no memory"
 fault_text SocketFailed = codes "socket failed"
+fault_text NotRandom = codes "no random bytes"
 fault_text (CannotListen address kind) = codes "cannot listen on " ++ socket_text address ++ codes ": " ++ reason_of kind
 fault_text (NotAnApplication why) = url_reason why
 fault_text TurnsOver = codes "turns over"

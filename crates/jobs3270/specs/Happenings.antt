@@ -1,6 +1,6 @@
 -- What a script does to a world: events one after another, what is printed of them, typed text, and rounds until the world is idle
 -- (our profile). world3270's specs/ByteSteps says what an event does.
-use Rattle.std.specs.Prelude.{◌≡◌, ◌-◌, ◌^◌, ℕ, zero, suc, Bool, true, false, List, [], ◌∷◌, ◌++◌, None, codes, map}
+use Rattle.std.specs.Prelude.{◌≡◌, ◌-◌, ◌^◌, ℕ, zero, suc, Bool, true, false, List, [], ◌∷◌, ◌++◌, None, codes, is_some, map}
 use Rattle.std.specs.Fmt.{decimal}
 use Rattle.std.specs.List.{flat_map, list_all}
 use Rattle.host_core.specs.State.{most_connections}
@@ -27,6 +27,16 @@ abbrev pub TakePlace : List Happening → ByteWorld → ByteWorld → Type 0
 TakePlace [] old new = new ≡ old
 TakePlace (first ∷ others) old new =
     (mid : ByteWorld) × Steps first.event old first.answer mid × (refused_at first.answer ≡ None) × TakePlace others mid new
+
+-- After some that took place, memory was refused to the next event: to all of it, or to a part of its bytes.
+pub record IsStopped (old new : ByteWorld) : Type 0 where
+  pub happenings : List Happening
+  pub mid : ByteWorld
+  pub take_place : TakePlace happenings old mid
+  pub event : Event
+  pub answer : Stepped
+  pub steps : Steps event mid answer new
+  pub refused : is_some (refused_at answer) ≡ true
 
 abbrev pub events_of : List Happening → List Event
 events_of happenings = map (λ happening. happening.event) happenings

@@ -25,10 +25,13 @@ pub mod Refusals
 pub mod Helps
 pub mod ClapCommands
 pub mod Sockets
+pub mod SessionNames
 pub mod Notices
 pub mod Metrics
 pub mod Scrapes
 pub mod Timing
+pub mod Uptimes
+pub mod ServiceTurns
 pub mod Selfruns
 pub mod Checks
 pub mod Live
@@ -36,3 +39,4 @@ pub mod LiveFaults
 pub mod LiveSessions
 pub mod Applications
 pub mod ApplicationRequests
+pub mod AskedKeys

@@ -33,6 +33,7 @@ nothing_counted = record {
   ends = record { closed = none_closed; lost = 0; idle = 0; no_agreement = 0 };
   turned_away = 0;
   rejected = record { device_in_use = 0; inv_name = 0; inv_device_type = 0; unsupported_req = 0; other = 0 };
+  dropped_keys = 0;
   traffic = record { turns = 0; paints = 0; received = 0; sent = 0; whole_screens = 0 };
 }
 
@@ -89,6 +90,7 @@ counted (notice.TurnedAway peer) counts = record counts { turned_away = raised c
 counted (notice.Connected client) counts = record counts { current = raised counts.current 1; begun = raised counts.begun 1 }
 counted (notice.Rejected client rejection) counts = record counts { rejected = rejected_for rejection.reason counts.rejected }
 counted (notice.Bound client lu) counts = counts
+counted (notice.KeyDropped client dropped) counts = record counts { dropped_keys = raised counts.dropped_keys 1 }
 counted (notice.Ended client how usage) counts = with_usage usage.turns usage.received usage.sent (with_end how counts)
 
 -- ---- names
@@ -99,6 +101,7 @@ metric_name metric.SessionsTotal = codes "panel3270_sessions_total"
 metric_name metric.SessionEnds = codes "panel3270_session_ends_total"
 metric_name metric.TurnedAway = codes "panel3270_turned_away_total"
 metric_name metric.Rejections = codes "panel3270_rejections_total"
+metric_name metric.DroppedKeys = codes "panel3270_dropped_keys_total"
 metric_name metric.Turns = codes "panel3270_turns_total"
 metric_name metric.Paints = codes "panel3270_paints_total"
 metric_name metric.ReceivedBytes = codes "panel3270_received_bytes_total"
@@ -111,6 +114,7 @@ metric_help metric.SessionsTotal = codes "Connections of terminals that began."
 metric_help metric.SessionEnds = codes "Connections of terminals that ended, by what ended them."
 metric_help metric.TurnedAway = codes "Connections closed at once because no number was free."
 metric_help metric.Rejections = codes "Rejected requests for an LU, by reason."
+metric_help metric.DroppedKeys = codes "Keys that were dropped because the last one wasn't answered yet."
 metric_help metric.Turns = codes "Screens sent after the first one of a connection."
 metric_help metric.Paints = codes "Screens sent."
 metric_help metric.ReceivedBytes = codes "Bytes received from terminals."
@@ -184,4 +188,5 @@ traffic_lines counts = number_lines metric.Turns counts.turns ++ number_lines me
 
 abbrev pub metrics_page : Metrics → List ℕ
 metrics_page counts = number_lines metric.Sessions counts.current ++ number_lines metric.SessionsTotal counts.begun ++ end_lines counts.ends
-    ++ number_lines metric.TurnedAway counts.turned_away ++ rejected_lines counts.rejected ++ traffic_lines counts.traffic
+    ++ number_lines metric.TurnedAway counts.turned_away ++ rejected_lines counts.rejected ++ number_lines metric.DroppedKeys counts.dropped_keys
+    ++ traffic_lines counts.traffic

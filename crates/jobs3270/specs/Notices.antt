@@ -12,6 +12,8 @@ use Rattle.host_core.specs.declared.serving.Served.TheVariants as served
 use Rattle.tn3270e_msg.specs.declared.cause.Cause.{Cause}
 use Rattle.tn3270e_msg.specs.Words.{cause_name, cause_number, lu_text, reason_text}
 use Rattle.term_core.specs.ScreenText.{newline}
+use Rattle.jobs3270.specs.Applications.{key_name}
+use Rattle.jobs3270.specs.SessionNames.{session_text}
 use Rattle.jobs3270.specs.declared.limits.Overdue.{Overdue}
 use Rattle.jobs3270.specs.declared.limits.Overdue.TheVariants as overdue
 use Rattle.jobs3270.specs.declared.notice.Client.{Client}
@@ -23,9 +25,10 @@ use Rattle.jobs3270.specs.declared.notice.Notice.TheVariants as notice
 
 -- ---- lines
 
--- the connection: its number and its peer
+-- the connection: its number, its session's name, which no other session has, and its peer
 abbrev pub client_part : Client → List ℕ
-client_part client = codes " conn=" ++ decimal client.conn ++ codes " peer=" ++ socket_text client.peer
+client_part client =
+    codes " conn=" ++ decimal client.conn ++ (codes " session=" ++ session_text client.session ++ (codes " peer=" ++ socket_text client.peer))
 
 -- the LU that was requested, if one was
 abbrev pub lu_part : Option (List ℕ) → List ℕ
@@ -67,6 +70,7 @@ notice_text (notice.Connected client) = client_part client ++ codes " event=conn
 notice_text (notice.Rejected client rejection) =
     client_part client ++ codes " event=rejected" ++ lu_part rejection.lu ++ (codes " reason=" ++ reason_text rejection.reason)
 notice_text (notice.Bound client lu) = client_part client ++ (codes " event=bound lu=" ++ lu_text lu)
+notice_text (notice.KeyDropped client dropped) = client_part client ++ (codes " event=key-dropped key=" ++ key_name dropped.aid)
 notice_text (notice.Ended client why usage) = client_part client ++ ending_part why ++ usage_part usage
 
 -- each notice is an event, whose line has its time, but that the server listens

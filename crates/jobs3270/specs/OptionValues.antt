@@ -1,5 +1,5 @@
 -- The values of options (our profile).
-use Rattle.std.specs.Prelude.{ℕ, ◌==◌, ◌&&◌, Bool, true, false, nat_le, List, [], ◌∷◌, Option, Some, None, is_some, option_map, if◌then◌else◌}
+use Rattle.std.specs.Prelude.{ℕ, ◌==◌, ◌&&◌, Bool, true, false, nat_le, List, [], ◌∷◌, Option, Some, None, is_some, option_map, if◌then◌else◌, bytes_eq, codes}
 use Rattle.std.specs.List.{after_first, before_first}
 use Rattle.std.specs.Option.{option_and_then, option_map_or}
 use Rattle.std.specs.Net.Reader.{read_ipv4, read_ipv6, whole_value}
@@ -20,6 +20,11 @@ port_numbered number = if nat_le 1024 number && nat_le number 65535 then Some nu
 -- the ports of a service
 abbrev pub service_port_numbered : ℕ → Option ℕ
 service_port_numbered number = if nat_le 1 number && nat_le number 65535 then Some number else None
+
+-- the other port, if there is one, is the same
+abbrev pub is_same_port : ℕ → Option ℕ → Bool
+is_same_port port None = false
+is_same_port port (Some other) = port == other
 
 -- time limits in seconds; 0 is none
 abbrev pub seconds_numbered : ℕ → Option ℕ
@@ -59,11 +64,19 @@ turns_of word = option_and_then turns_numbered (number_of word)
 abbrev pub model_of : List ℕ → Option Model
 model_of word = option_and_then model_numbered (number_of word)
 
+-- 127.0.0.1
+abbrev pub this_machine : IpAddr
+this_machine = ip.V4 (record { octets = 127 ∷ 0 ∷ 0 ∷ 1 ∷ [] })
+
 -- the address that a word writes: four decimal octets, else the groups of an IPv6 address (RFC 4291, 2.2)
-unfoldable pub address_of : List ℕ → Option IpAddr
-address_of word =
+unfoldable pub written_address : List ℕ → Option IpAddr
+written_address word =
     option_map_or (λ octets. Some (ip.V4 (record { octets = octets }))) (whole_value (read_ipv4 word))
     (option_map (λ segments. ip.V6 (record { segments = segments })) (whole_value (read_ipv6 word)))
+
+-- the address that a word names: `localhost` is 127.0.0.1 (RFC 6761, 6.3)
+abbrev pub address_of : List ℕ → Option IpAddr
+address_of word = if bytes_eq word (codes "localhost") then Some this_machine else written_address word
 
 -- the letter between rows and columns
 abbrev pub is_x : ℕ → Bool
@@ -116,7 +129,3 @@ usual_keepalive = 60
 
 abbrev pub usual_idle : ℕ
 usual_idle = 0
-
--- 127.0.0.1
-abbrev pub this_machine : IpAddr
-this_machine = ip.V4 (record { octets = 127 ∷ 0 ∷ 0 ∷ 1 ∷ [] })

@@ -6,7 +6,7 @@ use Rattle.jobs3270.specs.Pages.{IsPage}
 use Rattle.jobs3270.specs.Counting.{Input, Output, Reads, chunk_size, more, Untouched, Written, CutShort}
 use Rattle.jobs3270.specs.declared.streams.Answer.{Answer}
 use Rattle.jobs3270.specs.declared.fault.Fault.{Fault}
-use Rattle.jobs3270.specs.declared.fault.Fault.TheVariants.{InputNotRead, Panels, Pool, NotHex, NotUnderstood, NoMemory, SocketFailed, CannotListen, NotAnApplication, TurnsOver, OutputFailed, Live}
+use Rattle.jobs3270.specs.declared.fault.Fault.TheVariants.{InputNotRead, Panels, Pool, NotHex, NotUnderstood, NoMemory, SocketFailed, NotRandom, CannotListen, NotAnApplication, TurnsOver, OutputFailed, Live}
 use Rattle.jobs3270.specs.declared.task.Task.{Task}
 use Rattle.jobs3270.specs.declared.task.Task.TheVariants.{Script, Show}
 use Rattle.jobs3270.specs.Scripts.{panel_text, HasPanelFault, HasPoolFault, IsScriptPage}
@@ -91,6 +91,7 @@ EndsPrinting Script (Some (NotUnderstood line)) text old new = Writes Script tex
 EndsPrinting (Show model) (Some (NotUnderstood line)) text old new = ⊥
 EndsPrinting task (Some NoMemory) text old new = Untouched old new
 EndsPrinting task (Some SocketFailed) text old new = ⊥
+EndsPrinting task (Some NotRandom) text old new = ⊥
 EndsPrinting task (Some (CannotListen address kind)) text old new = ⊥
 EndsPrinting task (Some (NotAnApplication why)) text old new = ⊥
 EndsPrinting task (Some TurnsOver) text old new = ⊥

@@ -62,13 +62,11 @@ command_of_verb verb =
     if bytes_eq verb (codes "restarthost") then Some (Happen RestartHost) else
     None
 
--- a verb and a number; the text of `type` and `note` is empty then
+-- a verb and a number
 abbrev pub command_of_number : List ℕ → ℕ → Option ScriptCommand
 command_of_number verb number =
     if bytes_eq verb (codes "connect") then Some (Happen (Connect number None)) else
-    if bytes_eq verb (codes "type") then Some (TypeText number) else
     if bytes_eq verb (codes "act") then Some (Happen (Act number)) else
-    if bytes_eq verb (codes "note") then option_map (λ note. Happen (Note number note)) (note_of []) else
     if bytes_eq verb (codes "lose") then Some (Happen (Lose number)) else
     if bytes_eq verb (codes "hostsees") then Some (Happen (HostSees number)) else
     if bytes_eq verb (codes "termsees") then Some (Happen (TermSees number)) else

@@ -2,7 +2,9 @@
 use Rattle.std.specs.Prelude.{◌≡◌, ⊤, ℕ, ◌+◌, ◌==◌, ◌&&◌, ◌||◌, Bool, true, List, [], ◌∷◌, codes, bytes_eq, nat_eq, Option, take, drop, map, if◌then◌else◌}
 use Rattle.std.specs.List.{after_first, starts_with}
 use Rattle.tn3270e_msg.specs.Lu.{lu_of}
-use Rattle.host_core.specs.State.{Host, new_host}
+use Rattle.host_core.specs.State.{Host, host_for}
+use Rattle.host_core.specs.declared.terminals.Terminals.{Terminals}
+use Rattle.host_core.specs.declared.terminals.Terminals.TheVariants.{Waiting}
 use Rattle.lu_pool.specs.Reading.{IsReadFrom as IsPoolReadFrom, IsRight, IsFirstFault}
 use Rattle.lu_pool.specs.declared.entry.Entry.{Entry}
 use Rattle.lu_pool.specs.declared.fault.PoolFault.{PoolFault}
@@ -54,7 +56,7 @@ pub record IsWorldOf (text : List ℕ) (world : ByteWorld) : Type 0 where
   pub pool : List Entry
   pub pool_read : IsPoolReadFrom (lus_of panels) pool
   pub lus_right : IsRight (lus_of panels)
-  pub world_is : world ≡ new_byte_world panels pool terminal_models
+  pub world_is : world ≡ new_byte_world Waiting panels pool terminal_models
 
 -- the text's panels, and a pool of their LUs; the text and the names have no fault
 pub record IsApplicationOf (text : List ℕ) (panels : PanelsRead) (pool : List Entry) : Type 0 where
@@ -62,12 +64,24 @@ pub record IsApplicationOf (text : List ℕ) (panels : PanelsRead) (pool : List 
   pub pool_read : IsPoolReadFrom (lus_of panels) pool
   pub lus_right : IsRight (lus_of panels)
 
--- a host of these
-pub record IsHostOf (text : List ℕ) (host : Host) : Type 0 where
+-- a host of these, for such terminals
+pub record IsHostOf (terminals : Terminals) (text : List ℕ) (host : Host) : Type 0 where
   pub panels : PanelsRead
   pub pool : List Entry
   pub is_application : IsApplicationOf text panels pool
-  pub host_is : host ≡ new_host panels pool
+  pub host_is : host ≡ host_for terminals panels pool
+
+-- the run's fault for one of a panel text, and for one of its LUs' names
+abbrev pub of_panels : PanelFault → Fault
+of_panels panel_fault.Memory = NoMemory
+of_panels panel_fault.NotToml = Panels panel_fault.NotToml
+of_panels (panel_fault.Tree fault place) = Panels (panel_fault.Tree fault place)
+
+abbrev pub of_pool : PoolFault → Fault
+of_pool pool_fault.Memory = NoMemory
+of_pool (pool_fault.BadName place) = Pool (pool_fault.BadName place)
+of_pool (pool_fault.Twice place) = Pool (pool_fault.Twice place)
+of_pool pool_fault.BadCount = Pool pool_fault.BadCount
 
 -- why a text defines no panels; a refusal of memory is no fault of the text
 abbrev pub HasPanelFault : List ℕ → PanelFault → Type 0

@@ -8,11 +8,10 @@ use Rattle.jobs3270.specs.ScriptLines.{behind}
 use Rattle.jobs3270.specs.declared.term_line.TerminalCommand.{TerminalCommand}
 use Rattle.jobs3270.specs.declared.term_line.TerminalCommand.TheVariants.{Nothing, TypeText, Press, Wait, Show, Status}
 
--- a verb alone; the text of `type` is empty then
+-- a verb alone
 abbrev pub command_of_verb : List ℕ → Option TerminalCommand
 command_of_verb verb =
     if bytes_eq verb (codes "") then Some Nothing else
-    if bytes_eq verb (codes "type") then Some TypeText else
     if bytes_eq verb (codes "wait") then Some Wait else
     if bytes_eq verb (codes "show") then Some Show else
     if bytes_eq verb (codes "status") then Some Status else

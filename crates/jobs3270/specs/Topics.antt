@@ -20,10 +20,12 @@ name_of topic.Serve = codes "serve"
 name_of topic.Term = codes "term"
 name_of topic.Operate = codes "operate"
 name_of topic.Help = codes "help"
+name_of topic.Version = codes "version"
 
 -- the jobs of the program
 abbrev pub jobs : List Topic
-jobs = topic.Script ∷ topic.Show ∷ topic.Selfrun ∷ topic.Check ∷ topic.Host ∷ topic.Serve ∷ topic.Term ∷ topic.Operate ∷ topic.Help ∷ []
+jobs = topic.Script ∷ topic.Show ∷ topic.Selfrun ∷ topic.Check ∷ topic.Host ∷ topic.Serve ∷ topic.Term ∷ topic.Operate ∷ topic.Help
+    ∷ topic.Version ∷ []
 
 -- the job with this name
 abbrev pub topic_named : List ℕ → Option Topic
@@ -37,6 +39,7 @@ topic_named name =
     if bytes_eq name (codes "term") then Some topic.Term else
     if bytes_eq name (codes "operate") then Some topic.Operate else
     if bytes_eq name (codes "help") then Some topic.Help else
+    if bytes_eq name (codes "version") then Some topic.Version else
     None
 
 -- ---- options
@@ -71,7 +74,7 @@ options_of topic.Serve =
     needed (codes "port") kind.ServicePort ∷ optional (codes "listen") kind.Address ∷ optional (codes "panels") kind.File
     ∷ optional (codes "negotiate") kind.Seconds ∷ optional (codes "keepalive") kind.Seconds ∷ optional (codes "idle") kind.Seconds
     ∷ optional (codes "application") kind.Url ∷ optional (codes "application-timeout") kind.ReplyTime
-    ∷ optional (codes "metrics") kind.ServicePort ∷ optional (codes "quiet") kind.Flag ∷ []
+    ∷ optional (codes "metrics") kind.ServicePort ∷ optional (codes "own-terminals") kind.Flag ∷ optional (codes "quiet") kind.Flag ∷ []
 options_of topic.Term = needed (codes "port") kind.Port ∷ optional (codes "lu") kind.LuName ∷ optional (codes "model") kind.Model ∷ []
 options_of topic.Operate =
     needed (codes "port") kind.Port ∷ optional (codes "lu") kind.LuName ∷ optional (codes "model") kind.Model ∷ optional (codes "raw") kind.TtySize ∷ []

@@ -12,8 +12,10 @@ use Rattle.clap.specs.declared.builder.action.ArgAction.TheVariants.{SetTrue}
 use Rattle.clap.specs.declared.error.kind.ErrorKind.{ErrorKind}
 use Rattle.clap.specs.declared.error.kind.ErrorKind.TheVariants as kind
 use Rattle.codes3270.specs.declared.size.Model.{Model}
+use Rattle.host_core.specs.declared.terminals.Terminals.{Terminals}
+use Rattle.host_core.specs.declared.terminals.Terminals.TheVariants.{Any, Waiting}
 use Rattle.tn3270e_msg.specs.Lu.{lu_of}
-use Rattle.jobs3270.specs.OptionValues.{address_of, model_of, port_of, reply_time_of, seconds_of, service_port_of, this_machine, tty_size_of, turns_of, usual_idle, usual_keepalive, usual_model, usual_negotiate, usual_reply_time, usual_turns}
+use Rattle.jobs3270.specs.OptionValues.{address_of, is_same_port, model_of, port_of, reply_time_of, seconds_of, service_port_of, this_machine, tty_size_of, turns_of, usual_idle, usual_keepalive, usual_model, usual_negotiate, usual_reply_time, usual_turns}
 use Rattle.jobs3270.specs.Topics.{OptionRow, jobs, name_of, operand_of, options_of, takes_value, topic_named}
 use Rattle.jobs3270.specs.declared.job.Job.{Job}
 use Rattle.jobs3270.specs.declared.job.Job.TheVariants as job
@@ -91,8 +93,12 @@ abbrev pub given_metrics : List Row → Option (Option ℕ)
 given_metrics options = option_map_or (λ word. option_map Some (service_port_of word)) (first_of (codes "metrics") options) (Some None)
 
 -- clap gives a flag that is there the value `true`
-abbrev pub is_quiet : List Row → Bool
-is_quiet options = option_map_or (λ word. bytes_eq word (codes "true")) (first_of (codes "quiet") options) false
+abbrev pub is_given : (flag : List ℕ) → List Row → Bool
+is_given flag options = option_map_or (λ word. bytes_eq word (codes "true")) (first_of flag options) false
+
+-- which terminals connect: `--own-terminals` says that all are ours, which wait
+abbrev pub given_terminals : List Row → Terminals
+given_terminals options = if is_given (codes "own-terminals") options then Waiting else Any
 
 abbrev pub given_limits : List Row → Option TimeLimits
 given_limits options =
@@ -107,9 +113,14 @@ given_service options =
       listen = listen;
       port = port;
       limits = limits;
-      quiet = is_quiet options;
+      terminals = given_terminals options;
+      quiet = is_given (codes "quiet") options;
       metrics = metrics;
     }) (given_metrics options)) (given_limits options)) (given_address options)) (given_service_port options)
+
+-- none if metrics were answered on the port that terminals connect to
+abbrev pub sound_service : List Row → Option Service
+sound_service options = option_and_then (λ service. if is_same_port service.port service.metrics then None else Some service) (given_service options)
 
 abbrev pub given_live_options : List Row → Option LiveOptions
 given_live_options options =
@@ -144,11 +155,12 @@ job_of topic.Check options = Some (job.Check (first_of (codes "file") options))
 job_of topic.Host options = option_and_then (λ port. option_map (λ turns. job.Host port turns) (given_turns options)) (given_port options)
 job_of topic.Serve options =
     option_and_then (λ service. option_map (λ application. job.Serve service (first_of (codes "panels") options) application) (given_application options))
-    (given_service options)
+    (sound_service options)
 job_of topic.Term options =
     option_and_then (λ port. option_and_then (λ lu. option_map (λ model. job.Term port lu model) (given_model options)) (given_lu options)) (given_port options)
 job_of topic.Operate options = option_map (λ live. job.Operate live) (given_live_options options)
 job_of topic.Help options = option_map (λ topic. job.Help topic) (given_topic options)
+job_of topic.Version options = Some job.Version
 
 abbrev pub job_named : List ℕ → List Row → Option Job
 job_named name options = option_and_then (λ topic. job_of topic options) (topic_named name)
@@ -157,6 +169,15 @@ job_named name options = option_and_then (λ topic. job_of topic options) (topic
 abbrev pub job_by : Option (List ℕ × List Row) → Option Job
 job_by None = Some job.Script
 job_by (Some named) = job_named named.0 named.1
+
+-- The last word is `--`, which ends the options: nothing follows it. `dashes`: the word before these is.
+abbrev pub ends_by_dashes : (dashes : Bool) → List (List ℕ) → Bool
+ends_by_dashes dashes [] = dashes
+ends_by_dashes dashes (word ∷ words) = ends_by_dashes (bytes_eq word (codes "--")) words
+
+-- the job of words that the command line takes
+abbrev pub job_taken : List (List ℕ) → Option (List ℕ × List Row) → Option Job
+job_taken words named = if ends_by_dashes false words then None else job_by named
 
 -- the topic of `--help`: the job whose option it is
 abbrev pub topic_of : List (List ℕ) → Topic
@@ -176,7 +197,7 @@ job_by_kind words _ = None
 -- the command line takes the arguments, and this is their job, if any
 pub record IsTakenFor (words : List (List ℕ)) (answer : Option Job) : Type 0 where
   pub taken : is_taken words ≡ true
-  pub job : job_by (subcommand_of program words) ≡ answer
+  pub job : job_taken words (subcommand_of program words) ≡ answer
 
 -- The command line doesn't take the arguments, and this is what a kind of error that clap has for them asks for. It has one kind, but
 -- for a word that may be an unknown job or an unknown option, which asks for nothing either way.

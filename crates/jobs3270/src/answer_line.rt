@@ -5,9 +5,10 @@ ghost use Rattle.jobs3270.specs.AnswerDrafts.{parts_in};
 ghost use Rattle.jobs3270.specs.AnswerLines.{answer_in, answer_of_parts, cut_at, is_quoted_after, message_text, no_parts, pair_of, panel_of_name, taken_as, value_text, with_cursor_in, with_message, with_pair, with_text_of, with_word, with_words, word_length, words_after};
 ghost use Rattle.panels.specs.Names.{field_named};
 
-use crate::application_reply::{lacks_code, message_bytes, set_text};
+use crate::application_reply::{message_bytes, set_text};
 use host_core::Answer;
 use panels::{MessageText, PanelSet, Values};
+use plain_text::lacks_code;
 use std::alloc::{AllocError, Global};
 
 // ---- words

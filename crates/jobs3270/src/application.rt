@@ -3,7 +3,7 @@ ghost use Rattle.std.specs.Prelude.{◌<◌};
 ghost use Rattle.host_core.specs.State.{most_connections};
 
 use crate::application_fault::{Absence, ApplicationFault};
-use crate::application_reply::{answer_of, telling};
+use crate::application_reply::{answer_of, replaced_in, telling};
 use crate::application_request::request_of;
 use crate::exchange::{Exchange, Exchanged, absence_of};
 use crate::fault::Fault;
@@ -125,8 +125,14 @@ impl Application {
         server: &Server,
         question: &Question,
     ) -> Result<Exchange, ApplicationFault> {
-        let Ok(Some(request)) = request_of(self.alloc, &self.endpoint, server.panels(), question)
-        else {
+        let request = request_of(
+            self.alloc,
+            &self.endpoint,
+            server.boot(),
+            server.panels(),
+            question,
+        );
+        let Ok(Some(request)) = request else {
             return Err(ApplicationFault::Absent(Absence::NoMemory));
         };
         let mut socket = match TcpStream::connect(net, self.endpoint.address()) {
@@ -137,7 +143,7 @@ impl Application {
         let _ = socket.set_nodelay(true);
         let _ = server.register(&mut socket, EXCHANGE_TOKEN);
         let now = server.now();
-        Ok(Exchange::new(self.alloc, socket, question.ticket, now, request))
+        Ok(Exchange::new(self.alloc, socket, question, now, request))
     }
 
     /// Goes on with an exchange, unless the operator has left.
@@ -156,7 +162,7 @@ impl Application {
         }
         let ticket = exchange.ticket();
         match exchange.serve() {
-            Exchanged::Over(Ok(reply)) => self.reply(server, conn, ticket, &reply, watcher),
+            Exchanged::Over(Ok(reply)) => self.reply(server, conn, &exchange, &reply, watcher),
             Exchanged::Over(Err(fault)) => self.fail(server, conn, ticket, &fault, watcher),
             Exchanged::Moved | Exchanged::Still if exchange.is_late(server.now(), self.most) => {
                 let fault = ApplicationFault::Absent(Absence::Late);
@@ -173,19 +179,26 @@ impl Application {
         }
     }
 
-    /// Does what a reply says.
+    /// Does what a reply says, and reports the characters that were replaced.
     fn reply<W: Watcher>(
         &self,
         server: &mut Server,
         conn: usize,
-        ticket: Ticket,
+        exchange: &Exchange,
         reply: &Reply,
         watcher: &mut W,
     ) -> Result<bool, Fault>
         requires { conn < most_connections }
     {
-        match answer_of(self.alloc, server.panels(), reply) {
-            Ok(answer) => self.answer(server, conn, ticket, &answer, watcher),
+        let ticket = exchange.ticket();
+        match answer_of(self.alloc, server.panels(), exchange.panel(), reply) {
+            Ok(answer) => {
+                let taken = self.answer(server, conn, ticket, &answer, watcher)?;
+                if taken {
+                    server.report_replaced(conn, replaced_in(reply), watcher)?;
+                }
+                Ok(taken)
+            }
             Err(fault) => {
                 let fault = ApplicationFault::Answer(fault);
                 self.fail(server, conn, ticket, &fault, watcher)

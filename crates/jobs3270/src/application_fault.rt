@@ -2,7 +2,7 @@
 ghost use Rattle.std.specs.Prelude.{◌≡◌};
 ghost use Rattle.jobs3270.specs.Applications.{message_for, message_for_answer, message_for_reply, failure_text};
 
-use crate::application_reply::AnswerFault;
+use crate::application_reply::{AnswerFault, Replaced};
 use crate::notice::{Client, put_client};
 use application_http::{KeyFault, ReplyFault};
 use std::alloc::AllocError;
@@ -166,9 +166,7 @@ fn put_answer_fault(text: &mut String, fault: &AnswerFault) -> Result<(), AllocE
         AnswerFault::Memory => put_reason(text, "no-memory"),
         AnswerFault::UnknownPanel => put_reason_at(text, "unknown-panel", "panel"),
         AnswerFault::UnknownCursor => put_reason_at(text, "unknown-field", "cursor"),
-        AnswerFault::MessageWithoutCode => put_reason_at(text, "no-code", "message"),
         AnswerFault::UnknownField(name) => put_reason_at(text, "unknown-field", name.as_str()),
-        AnswerFault::FieldWithoutCode(name) => put_reason_at(text, "no-code", name.as_str()),
     }
 }
 
@@ -204,4 +202,19 @@ pub(crate) fn put_application_line(
     put_client(text, client)?;
     put_application_fault(text, fault)?;
     text.push('\n')
+}
+
+/// Adds the line of a reply in which characters were replaced, in logfmt, with the time first.
+pub(crate) fn put_replaced_line(
+    text: &mut String,
+    time: &str,
+    client: &Client,
+    replaced: &Replaced<'_>,
+) -> Result<(), AllocError> {
+    write!(text, "time={time}")?;
+    put_client(text, client)?;
+    text.push_str(" event=application-replaced")?;
+    put_key(text, replaced.key)?;
+    let characters = replaced.characters;
+    write!(text, " characters={characters}\n")
 }

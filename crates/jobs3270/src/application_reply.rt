@@ -1,17 +1,20 @@
 //! What becomes of an application's reply: names and characters of panels, and numbers and bytes of the host.
 ghost use Rattle.std.specs.BTreeMap.{insert_entry};
 ghost use Rattle.std.specs.Ordering.{nat_cmp};
-ghost use Rattle.std.specs.Prelude.{◌≡◌, [], IfErr, IfOk, OnOk, chars, false, option_map, string_bytes, take, unwrap_or};
+ghost use Rattle.std.specs.Prelude.{◌≡◌, ◌<◌, [], IfErr, IfOk, OnErr, OnOk, chars, length, option_and_then, option_copied, option_map, string_bytes, take, true, unwrap_or};
 ghost use Rattle.application_http.specs.Replies.{field_text};
 ghost use Rattle.panels.specs.Characters.{codes_of};
 ghost use Rattle.panels.specs.MessageText.{message_of};
-ghost use Rattle.jobs3270.specs.Applications.{AreGoodTexts, IsAnswerFault, IsAnswerFor, IsFirstTextFault, IsGoodText, IsKnown, IsMessageFault, IsNumberOf, IsTextFault, IsUnknown, as_byte, field_number, lacks_code, message_bytes, most_characters, panel_number, value_by, with_text, with_texts};
+ghost use Rattle.panels.specs.Values.{value_of};
+ghost use Rattle.jobs3270.specs.Applications.{AreKnownTexts, IsAnswerFault, IsAnswerFor, IsFirstTextFault, IsKnown, IsTextFault, IsUnknown, TakesMemory, as_byte, first_field_replaced, first_replaced, is_known_text, message_bytes, message_in, most_characters, number_on, panel_number, panel_of_reply, value_by, with_text, with_texts};
+ghost use Rattle.plain_text.specs.PlainTexts.{plain_text};
 ghost use Rattle.jobs3270.specs.declared.application_reply.AnswerFault.TheVariants as flaw;
 
 use application_http::{FieldText, Reply};
 use codes3270::from_latin1;
 use host_core::Answer;
 use panels::{MessageText, PanelSet, Values};
+use plain_text::{count_without_code, lacks_code, plain_text};
 use std::alloc::{AllocError, Global};
 
 /// The most characters of a field's text: as many as the largest screen has cells, that of model 5.
@@ -20,18 +23,23 @@ const MOST_CHARACTERS: usize = 3_564;
 /// Why the host can't do what a reply says.
 #[derive(Debug, Drop)]
 pub enum AnswerFault {
-    /// Memory was refused; this says nothing of the reply.
+    /// Memory was refused to what is stored of the reply: a text, a field's first value, or the name of an unknown field.
     Memory,
     /// There is no such panel.
     UnknownPanel,
-    /// The cursor is to be in a field that there isn't.
+    /// The cursor is to be in a field that the panel doesn't have.
     UnknownCursor,
-    /// The message has a character that code page 037 doesn't have.
-    MessageWithoutCode,
     /// There is no field of this name.
     UnknownField(String),
-    /// The text of the field of this name has a character that code page 037 doesn't have.
-    FieldWithoutCode(String),
+}
+
+/// The characters of a reply that are replaced, since code page 037 doesn't have them.
+#[derive(Clone, Copy)]
+pub struct Replaced<'a> {
+    /// The first key whose text has one: `message`, or the name of a field.
+    pub key: &'a str,
+    /// How many the whole reply has.
+    pub characters: usize,
 }
 
 impl From<AllocError> for AnswerFault {
@@ -44,18 +52,15 @@ impl From<AllocError> for AnswerFault {
     }
 }
 
-/// Whether some character of a text has no code in the host's code.
-pub(crate) fn lacks_code(text: &str) -> bool
-    ensures { result ≡ lacks_code text.now }
-{
-    text.chars()
-        .any(|character| from_latin1(character).is_none())
-}
-
-/// The codes of a text's characters, as far as they have one.
+/// The codes of a text's characters, as far as they have one. Those of an empty text take no memory.
+#[tactic(auto, using(crate::proofs::Replies::no_codes))]
 fn codes_of(alloc: Global, text: &str) -> Result<Vec<u8>, AllocError>
-    ensures { IfOk result (λ codes. codes.items ≡ codes_of (chars text.now)) }
+    ensures codes { IfOk result (λ codes. codes.items ≡ codes_of (chars text.now)) }
+    ensures memory { OnErr result (0 < length text.now) }
 {
+    if text.is_empty() {
+        return Ok(Vec::new(alloc));
+    }
     text.chars()
         .filter_map(|character| from_latin1(character))
         .collect(alloc)
@@ -72,20 +77,33 @@ fn cut(codes: &[u8]) -> &[u8]
     }
 }
 
-/// Sets the value of a field to a text, whose characters have codes.
+/// Sets the value of a field to a text, whose characters have codes. An empty text takes memory only if the field has no value yet.
+#[tactic(auto, using(crate::proofs::Replies::takes_memory, crate::proofs::Replies::value_takes_memory))]
 pub(crate) fn set_text(
     alloc: Global,
     field: usize,
     text: &str,
     values: &mut Values,
 ) -> Result<(), AllocError>
-    ensures { OnOk result (values.new ≡ insert_entry nat_cmp values.old field (value_by text.now)) }
+    ensures set { OnOk result (values.new ≡ insert_entry nat_cmp values.old field (value_by text.now)) }
+    ensures memory { OnErr result (TakesMemory (value_of values.old field) text.now) }
 {
     let codes = codes_of(alloc, text)?;
     values.set(field, cut(codes.as_slice()))
 }
 
-/// Sets the value of the field of a name to its text.
+/// A copy of a text; an empty one takes no memory.
+fn copy_of(alloc: Global, text: &str) -> Result<String, AllocError>
+    ensures copy { IfOk result (λ copy. string_bytes copy ≡ text.now) }
+    ensures memory { OnErr result (0 < length text.now) }
+{
+    let mut copy = String::new(alloc);
+    copy.push_str(text)?;
+    Ok(copy)
+}
+
+/// Sets the value of the field of a name to its text, in plain characters.
+#[tactic(auto, using(crate::proofs::Replies::takes_memory, crate::proofs::Replies::plain_takes))]
 fn set_value(
     alloc: Global,
     panels: &PanelSet,
@@ -93,25 +111,23 @@ fn set_value(
     values: &mut Values,
 ) -> Result<(), AnswerFault>
     ensures set { OnOk result (values.new ≡ with_text panels.now (field_text field.now) values.old) }
-    ensures good { OnOk result (IsGoodText panels.now (field_text field.now)) }
-    ensures wrong { IfErr result (IsTextFault panels.now (field_text field.now)) }
+    ensures known { OnOk result (is_known_text panels.now (field_text field.now) ≡ true) }
+    ensures wrong { IfErr result (IsTextFault panels.now values.old (field_text field.now)) }
 {
     let name = field.name.as_str();
     let Some(found) = panels.field_named(name) else {
-        return Err(AnswerFault::UnknownField(String::from_str(alloc, name)?));
+        return Err(AnswerFault::UnknownField(copy_of(alloc, name)?));
     };
-    if lacks_code(field.text.as_str()) {
-        return Err(AnswerFault::FieldWithoutCode(String::from_str(alloc, name)?));
-    }
-    set_text(alloc, found.number, field.text.as_str(), values)?;
+    let text = plain_text(alloc, field.text.as_str())?;
+    set_text(alloc, found.number, text.as_str(), values)?;
     Ok(())
 }
 
 /// The values of fields.
 fn values_of(alloc: Global, panels: &PanelSet, fields: &[FieldText]) -> Result<Values, AnswerFault>
     ensures set { IfOk result (λ values. values ≡ with_texts panels.now fields.now []) }
-    ensures good { OnOk result (AreGoodTexts panels.now fields.now) }
-    ensures wrong { IfErr result (IsFirstTextFault panels.now fields.now) }
+    ensures known { OnOk result (AreKnownTexts panels.now fields.now) }
+    ensures wrong { IfErr result (IsFirstTextFault panels.now [] fields.now) }
 {
     let mut values = Values::new(alloc);
     for field in fields {
@@ -122,7 +138,7 @@ fn values_of(alloc: Global, panels: &PanelSet, fields: &[FieldText]) -> Result<V
 
 /// The number of the panel that a reply names, if it names one.
 fn panel_of(panels: &PanelSet, name: Option<&str>) -> Result<Option<usize>, AnswerFault>
-    ensures found { IfOk result (IsNumberOf (panel_number panels.now) (option_map (λ it. it.now) name.entry)) }
+    ensures found { IfOk result (λ panel. panel ≡ option_and_then (panel_number panels.now) (option_map (λ it. it.now) name.entry)) }
     ensures known { OnOk result (IsKnown (panel_number panels.now) (option_map (λ it. it.now) name.entry)) }
     ensures wrong { IfErr result (λ why. (why ≡ flaw.UnknownPanel) × IsUnknown (panel_number panels.now) (option_map (λ it. it.now) name.entry)) }
 {
@@ -135,17 +151,29 @@ fn panel_of(panels: &PanelSet, name: Option<&str>) -> Result<Option<usize>, Answ
     }
 }
 
-/// The number of the field that a reply puts the cursor in, if it does.
-fn cursor_of(panels: &PanelSet, name: Option<&str>) -> Result<Option<usize>, AnswerFault>
-    ensures found { IfOk result (IsNumberOf (field_number panels.now) (option_map (λ it. it.now) name.entry)) }
-    ensures known { OnOk result (IsKnown (field_number panels.now) (option_map (λ it. it.now) name.entry)) }
-    ensures wrong { IfErr result (λ why. (why ≡ flaw.UnknownCursor) × IsUnknown (field_number panels.now) (option_map (λ it. it.now) name.entry)) }
+/// The number of a panel's field with a name.
+fn number_on(panels: &PanelSet, panel: usize, name: &str) -> Option<usize>
+    ensures { result ≡ number_on panels.now panel name.now }
+{
+    let field = panels.panel(panel)?.field_named(name)?;
+    Some(field.number)
+}
+
+/// The number of the field of a panel that a reply puts the cursor in, if it does.
+fn cursor_of(
+    panels: &PanelSet,
+    panel: usize,
+    name: Option<&str>,
+) -> Result<Option<usize>, AnswerFault>
+    ensures found { IfOk result (λ cursor. cursor ≡ option_and_then (number_on panels.now panel) (option_map (λ it. it.now) name.entry)) }
+    ensures known { OnOk result (IsKnown (number_on panels.now panel) (option_map (λ it. it.now) name.entry)) }
+    ensures wrong { IfErr result (λ why. (why ≡ flaw.UnknownCursor) × IsUnknown (number_on panels.now panel) (option_map (λ it. it.now) name.entry)) }
 {
     let Some(name) = name else {
         return Ok(None);
     };
-    match panels.field_named(name) {
-        Some(field) => Ok(Some(field.number)),
+    match number_on(panels, panel, name) {
+        Some(number) => Ok(Some(number)),
         None => Err(AnswerFault::UnknownCursor),
     }
 }
@@ -157,26 +185,28 @@ fn as_byte(character: char) -> Option<u8>
     u8::try_from(character).ok()
 }
 
-/// The characters of a message as bytes; those beyond U+00FF, which have no code, are left out.
+/// The characters of a message as bytes; those beyond U+00FF, which have no code, are left out. An empty message takes no memory.
+#[tactic(auto, using(crate::proofs::Replies::no_bytes))]
 pub(crate) fn message_bytes(alloc: Global, text: &str) -> Result<Vec<u8>, AllocError>
-    ensures { IfOk result (λ bytes. bytes.items ≡ message_bytes text.now) }
+    ensures bytes { IfOk result (λ bytes. bytes.items ≡ message_bytes text.now) }
+    ensures memory { OnErr result (0 < length text.now) }
 {
+    if text.is_empty() {
+        return Ok(Vec::new(alloc));
+    }
     text.chars()
         .filter_map(|character| as_byte(character))
         .collect(alloc)
 }
 
-/// The message of a reply; no text if it has none.
-fn message_of(alloc: Global, text: Option<&str>) -> Result<MessageText, AnswerFault>
-    ensures coded { OnOk result (lacks_code (unwrap_or (option_map (λ it. it.now) text.entry) []) ≡ false) }
-    ensures shown { IfOk result (λ message. message.characters ≡ message_of (message_bytes (unwrap_or (option_map (λ it. it.now) text.entry) []))) }
-    ensures wrong { IfErr result (λ why. IsMessageFault (unwrap_or (option_map (λ it. it.now) text.entry) []) why) }
+/// The message of a reply, in plain characters. An empty one takes no memory.
+#[tactic(auto, using(crate::proofs::Replies::plain_is_of_a_text))]
+fn message_of(alloc: Global, text: &str) -> Result<MessageText, AllocError>
+    ensures memory { OnErr result (0 < length text.now) }
+    ensures message { IfOk result (λ message. message.characters ≡ message_of (message_bytes (plain_text text.now))) }
 {
-    let text = text.unwrap_or("");
-    if lacks_code(text) {
-        return Err(AnswerFault::MessageWithoutCode);
-    }
-    let characters = message_bytes(alloc, text)?;
+    let text = plain_text(alloc, text)?;
+    let characters = message_bytes(alloc, text.as_str())?;
     Ok(MessageText::new(characters.as_slice()))
 }
 
@@ -190,20 +220,28 @@ fn text_of(text: &Option<String>) -> Option<&str>
     }
 }
 
-/// What the host does for a reply: its panel is found first, then its cursor's field, then its message is read, then its fields. The
-/// fault of a refused reply is the first of these.
-#[tactic(auto, using(crate::proofs::Replies::fields_refused))]
+/// The text of a reply's message; empty if it has none.
+fn message_in(reply: &Reply) -> &str
+    ensures { result.now ≡ message_in reply.now }
+{
+    text_of(&reply.message).unwrap_or("")
+}
+
+/// What the host does for a reply, if the panel of this number is on the screen: the reply's panel is found first, then its cursor's
+/// field, then its message and its fields. The fault of a refused reply is the first of these.
+#[tactic(auto, using(crate::proofs::Replies::fields_refused, crate::proofs::Replies::message_refused))]
 pub(crate) fn answer_of(
     alloc: Global,
     panels: &PanelSet,
+    shown: usize,
     reply: &Reply,
 ) -> Result<Answer, AnswerFault>
-    ensures answer { IfOk result (IsAnswerFor panels.now reply.now) }
-    ensures refused { IfErr result (IsAnswerFault panels.now reply.now) }
+    ensures answer { IfOk result (IsAnswerFor panels.now shown reply.now) }
+    ensures refused { IfErr result (IsAnswerFault panels.now shown reply.now) }
 {
     let panel = panel_of(panels, text_of(&reply.panel))?;
-    let cursor = cursor_of(panels, text_of(&reply.cursor))?;
-    let message = message_of(alloc, text_of(&reply.message))?;
+    let cursor = cursor_of(panels, panel.unwrap_or(shown), text_of(&reply.cursor))?;
+    let message = message_of(alloc, message_in(reply))?;
     let values = values_of(alloc, panels, reply.fields.as_slice())?;
     Ok(Answer {
         panel,
@@ -211,6 +249,41 @@ pub(crate) fn answer_of(
         message,
         cursor,
     })
+}
+
+/// The name of the first field whose text has a character that is replaced.
+fn first_field_replaced(fields: &[FieldText]) -> Option<&str>
+    ensures { option_copied result ≡ first_field_replaced fields.now }
+{
+    for field in fields {
+        if lacks_code(field.text.as_str()) {
+            return Some(field.name.as_str());
+        }
+    }
+    None
+}
+
+/// The first key whose text has a character that is replaced: `message`, or the name of a field.
+fn first_replaced(reply: &Reply) -> Option<&str>
+    ensures { option_copied result ≡ first_replaced reply.now }
+{
+    if lacks_code(message_in(reply)) {
+        Some("message")
+    } else {
+        first_field_replaced(reply.fields.as_slice())
+    }
+}
+
+/// What is replaced in a reply, if anything is.
+pub(crate) fn replaced_in(reply: &Reply) -> Option<Replaced<'_>>
+    ensures { option_map (λ replaced. replaced.key.now) result ≡ first_replaced reply.now }
+{
+    let key = first_replaced(reply)?;
+    let mut characters = count_without_code(message_in(reply));
+    for field in reply.fields.as_slice() {
+        characters = characters.saturating_add(count_without_code(field.text.as_str()));
+    }
+    Some(Replaced { key, characters })
 }
 
 /// The answer that shows the same panel again, with a message.

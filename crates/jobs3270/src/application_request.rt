@@ -3,15 +3,18 @@ ghost use Rattle.std.specs.Prelude.{◌≡◌, IfOk, map, option_map, string_byt
 ghost use Rattle.application_http.specs.Replies.{field_text};
 ghost use Rattle.application_http.specs.Requests.{request_bytes};
 ghost use Rattle.tn3270e_msg.specs.Words.{lu_text};
-ghost use Rattle.jobs3270.specs.ApplicationRequests.{AsksQuestion, IsRequestFor, IsRequestOn, text_asked, texts_asked};
+ghost use Rattle.jobs3270.specs.ApplicationRequests.{AsksQuestion, IsRequestFor, IsRequestOn, session_asking, text_asked, texts_asked};
 ghost use Rattle.jobs3270.specs.Applications.{key_name, shown_character};
 ghost use Rattle.jobs3270.specs.QuestionLines.{column_of, row_of, unicode_of};
+ghost use Rattle.jobs3270.specs.SessionNames.{session_text};
 
+use crate::session_name::{SessionName, session_text};
 use application_http::{Endpoint, FieldText, Request, request_text};
 use codes3270::{Addr, Aid, Size, to_latin1};
 use host_core::Question;
 use panels::{Field, Panel, PanelSet, Values};
 use std::alloc::{AllocError, Global};
+use std::fmt;
 
 /// The character for a byte that code page 037 has none for (Unicode, REPLACEMENT CHARACTER).
 const NO_CHARACTER: char = '\u{FFFD}';
@@ -34,23 +37,39 @@ pub(crate) fn unicode_of(alloc: Global, bytes: &[u8]) -> Result<String, AllocErr
     Ok(text)
 }
 
-/// The name of a key, as a panel text has it; empty if no key was pressed.
+/// A key, which prints as its name in a panel text. No key has no name.
+#[derive(Clone, Copy)]
+pub(crate) struct KeyName(pub Aid);
+
+impl fmt::Display for KeyName {
+    ghost use Rattle.std.specs.Prelude.{Some};
+    ghost use Rattle.jobs3270.specs.Applications.{key_name};
+
+    ghost output = { λ key. Some (key_name key.0) };
+
+    fn fmt<W: fmt::Write>(&self, f: &mut fmt::Formatter<W>) -> fmt::Result {
+        match self.0 {
+            Aid::NoAid => Ok(()),
+            Aid::Enter => f.write_str("enter"),
+            Aid::Clear => f.write_str("clear"),
+            Aid::Pf(number) => {
+                let number = number.get();
+                write!(f, "pf{number}")
+            }
+            Aid::Pa(number) => {
+                let number = number.get();
+                write!(f, "pa{number}")
+            }
+        }
+    }
+}
+
+/// The name of a key as text.
 pub(crate) fn key_name(alloc: Global, aid: Aid) -> Result<String, AllocError>
     ensures { IfOk result (λ name. string_bytes name ≡ key_name aid) }
 {
-    match aid {
-        Aid::NoAid => Ok(String::new(alloc)),
-        Aid::Enter => String::from_str(alloc, "enter"),
-        Aid::Clear => String::from_str(alloc, "clear"),
-        Aid::Pf(number) => {
-            let number = number.get();
-            format!(in alloc; "pf{number}")
-        }
-        Aid::Pa(number) => {
-            let number = number.get();
-            format!(in alloc; "pa{number}")
-        }
-    }
+    let key = KeyName(aid);
+    format!(in alloc; "{key}")
 }
 
 /// The row and the column of an address on a screen of a size, each from 1 on.
@@ -88,22 +107,35 @@ fn texts_asked(
     Ok(texts)
 }
 
-/// The request of a question on a panel, by the texts of its LU, its key and its fields.
+/// The name of the session that a question is of, at a host that drew this number when it started.
+fn session_asking(boot: u64, question: &Question) -> SessionName
+    ensures { result ≡ session_asking boot question.now }
+{
+    SessionName {
+        boot,
+        number: question.ticket.session,
+    }
+}
+
+/// The request of a question on a panel, by the texts of its session, its LU, its key and its fields.
 fn request_by<'a>(
     panel: &'a Panel,
     question: &Question,
+    boot: u64,
+    session: &'a str,
     lu: &'a str,
     key: &'a str,
     fields: &'a [FieldText],
 ) -> Request<'a>
+    requires session { session.now ≡ session_text (session_asking boot question.now) }
     requires lu { lu.now ≡ lu_text question.now.lu }
     requires key { key.now ≡ key_name question.now.aid }
     requires fields { map field_text fields.now ≡ texts_asked question.now.values panel.now.fields }
-    ensures { AsksQuestion panel.now question.now result }
+    ensures { AsksQuestion boot panel.now question.now result }
 {
     let (row, col) = place_of(question.cursor, panel.size());
     Request {
-        session: question.ticket.session,
+        session,
         turn: question.ticket.turn,
         lu,
         panel: panel.name().as_str(),
@@ -118,11 +150,13 @@ fn request_by<'a>(
 fn request_on(
     alloc: Global,
     endpoint: &Endpoint,
+    boot: u64,
     panel: &Panel,
     question: &Question,
 ) -> Result<String, AllocError>
-    ensures { IfOk result (λ text. IsRequestOn (request_bytes endpoint.now) panel.now question.now (string_bytes text)) }
+    ensures { IfOk result (λ text. IsRequestOn (request_bytes endpoint.now) boot panel.now question.now (string_bytes text)) }
 {
+    let session = session_text(alloc, session_asking(boot, question))?;
     let lu = question.lu;
     let lu = format!(in alloc; "{lu}")?;
     let key = key_name(alloc, question.aid)?;
@@ -130,6 +164,8 @@ fn request_on(
     let request = request_by(
         panel,
         question,
+        boot,
+        session.as_str(),
         lu.as_str(),
         key.as_str(),
         fields.as_slice(),
@@ -138,17 +174,18 @@ fn request_on(
     Ok(text)
 }
 
-/// The request of a question; None if its panel isn't one of the panels.
+/// The request of a question, from a start of the host that drew this number; None if its panel isn't one of the panels.
 pub(crate) fn request_of(
     alloc: Global,
     endpoint: &Endpoint,
+    boot: u64,
     panels: &PanelSet,
     question: &Question,
 ) -> Result<Option<String>, AllocError>
-    ensures { IfOk result (λ text. IsRequestFor (request_bytes endpoint.now) panels.now question.now (option_map string_bytes text)) }
+    ensures { IfOk result (λ text. IsRequestFor (request_bytes endpoint.now) boot panels.now question.now (option_map string_bytes text)) }
 {
     match panels.panel(question.panel) {
-        Some(panel) => Ok(Some(request_on(alloc, endpoint, panel, question)?)),
+        Some(panel) => Ok(Some(request_on(alloc, endpoint, boot, panel, question)?)),
         None => Ok(None),
     }
 }

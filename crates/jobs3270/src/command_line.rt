@@ -1,12 +1,14 @@
 //! Reads the program's arguments.
-ghost use Rattle.std.specs.Prelude.{◌≡◌, [], IfOk, IfErr, Some, codes, map, option_map, string_bytes, true};
+ghost use Rattle.std.specs.Prelude.{◌≡◌, [], IfOk, IfErr, Some, codes, false, map, option_map, string_bytes, true};
 ghost use Rattle.clap.specs.Walk.{first_of, rows_of};
 ghost use Rattle.clap.specs.Simple.{new_rule, subcommand_rows_of};
 ghost use Rattle.clap.specs.Matches.{found_of};
+ghost use Rattle.jobs3270.specs.OptionValues.{is_same_port};
 ghost use Rattle.jobs3270.specs.Topics.{row_of};
-ghost use Rattle.jobs3270.specs.Words.{HasNoJob, IsJobOf, program, job_by, job_named, job_of, given_address, given_application, given_limits, given_live_options, given_lu, given_metrics, given_model, given_port, given_reply_time, given_seconds, given_service, given_service_port, given_topic, given_tty, given_turns, is_quiet, job_shape, operand_rules, option_rule, topic_of};
+ghost use Rattle.jobs3270.specs.Words.{HasNoJob, IsJobOf, program, job_by, job_named, job_of, given_address, given_application, given_limits, given_live_options, given_lu, given_metrics, given_model, given_port, given_reply_time, given_seconds, given_service, given_service_port, given_terminals, given_topic, given_tty, given_turns, ends_by_dashes, is_given, job_shape, job_taken, operand_rules, option_rule, sound_service, topic_of};
 ghost use Rattle.jobs3270.specs.ClapCommands.{AddsArguments, AddsJobs, IsArgument, IsCommand, IsJob, IsMatch, MayFail, job_or_fault};
 
+use crate::help::VERSION;
 use crate::job::{
     FileName, Job, LiveOptions, Port, ReplyTime, Seconds, ServicePort, Topic, Turns, UrlText,
     WordFault, model_of,
@@ -17,12 +19,10 @@ use crate::tty_size::TtySize;
 use clap::error::ErrorKind;
 use clap::{Arg, ArgAction, ArgMatches, Command};
 use codes3270::Model;
+use host_core::Terminals;
 use std::alloc::{AllocError, Global};
 use std::net::{IpAddr, Ipv4Addr};
 use tn3270e_msg::Lu;
-
-/// The program's version.
-const VERSION: &str = "1.0";
 
 // ---- the command line
 
@@ -110,7 +110,7 @@ fn bare<'a>(alloc: Global) -> Command<'a>
 }
 
 /// The jobs of the program.
-static JOBS: [Topic; 9] = [
+pub(crate) static JOBS: [Topic; 10] = [
     Topic::Script,
     Topic::Show,
     Topic::Selfrun,
@@ -120,6 +120,7 @@ static JOBS: [Topic; 9] = [
     Topic::Term,
     Topic::Operate,
     Topic::Help,
+    Topic::Version,
 ];
 
 /// The program, with its jobs as subcommands.
@@ -240,13 +241,24 @@ fn metrics_in(options: &ArgMatches<'_>) -> Option<Option<ServicePort>>
     }
 }
 
-/// Whether `--quiet` is given.
-fn quiet_in(options: &ArgMatches<'_>) -> bool
-    ensures { result ≡ is_quiet (rows_of (found_of options.now)) }
+/// Whether a flag is given.
+fn is_given(options: &ArgMatches<'_>, flag: &str) -> bool
+    ensures { result ≡ is_given flag.now (rows_of (found_of options.now)) }
 {
-    match given(options, "quiet") {
+    match given(options, flag) {
         Some(word) => word == "true",
         None => false,
+    }
+}
+
+/// Which terminals connect: those that wait if `--own-terminals` is given, else any.
+fn terminals_in(options: &ArgMatches<'_>) -> Terminals
+    ensures { result ≡ given_terminals (rows_of (found_of options.now)) }
+{
+    if is_given(options, "own-terminals") {
+        Terminals::Waiting
+    } else {
+        Terminals::Any
     }
 }
 
@@ -259,8 +271,31 @@ fn service_in(options: &ArgMatches<'_>) -> Option<Service>
         listen: address_in(options)?,
         limits: limits_in(options)?,
         metrics: metrics_in(options)?,
-        quiet: quiet_in(options),
+        terminals: terminals_in(options),
+        quiet: is_given(options, "quiet"),
     })
+}
+
+/// Whether another port, if there is one, is the same.
+pub(crate) fn is_same_port(port: ServicePort, other: Option<ServicePort>) -> bool
+    ensures { result ≡ is_same_port port other }
+{
+    match other {
+        Some(other) => port.get() == other.get(),
+        None => false,
+    }
+}
+
+/// How `serve` serves. None if metrics were answered on the port that terminals connect to.
+fn sound_service_in(options: &ArgMatches<'_>) -> Option<Service>
+    ensures { result ≡ sound_service (rows_of (found_of options.now)) }
+{
+    let service = service_in(options)?;
+    if is_same_port(service.port, service.metrics) {
+        None
+    } else {
+        Some(service)
+    }
 }
 
 /// What `operate` connects to, and its tty.
@@ -343,7 +378,7 @@ fn job_of<'a>(topic: Topic, options: &ArgMatches<'a>) -> Option<Job<'a>>
             turns: turns_in(options)?,
         },
         Topic::Serve => Job::Serve {
-            service: service_in(options)?,
+            service: sound_service_in(options)?,
             panels: file_in(options, "panels"),
             application: application_in(options)?,
         },
@@ -354,6 +389,7 @@ fn job_of<'a>(topic: Topic, options: &ArgMatches<'a>) -> Option<Job<'a>>
         },
         Topic::Operate => Job::Operate(live_options_in(options)?),
         Topic::Help => Job::Help(topic_in(options)?),
+        Topic::Version => Job::Version,
     };
     Some(job)
 }
@@ -375,6 +411,28 @@ fn job_in<'a>(matches: &ArgMatches<'a>) -> Option<Job<'a>>
     match matches.subcommand() {
         Some((name, options)) => job_named(name, options),
         None => Some(Job::Script),
+    }
+}
+
+/// Whether the last word is the one that ends options, so that nothing follows it.
+fn ends_by_dashes(words: &[String]) -> bool
+    ensures { result ≡ ends_by_dashes false (map string_bytes words.now) }
+{
+    let mut dashes = false;
+    for word in words {
+        dashes = word.as_str() == "--";
+    }
+    dashes
+}
+
+/// The job of words that are parsed as these matches.
+fn job_taken<'a>(words: &[String], matches: &ArgMatches<'a>) -> Option<Job<'a>>
+    ensures { result ≡ job_taken (map string_bytes words.now) (subcommand_rows_of matches.now) }
+{
+    if ends_by_dashes(words) {
+        None
+    } else {
+        job_in(matches)
     }
 }
 
@@ -408,14 +466,14 @@ fn matches_of<'a>(alloc: Global, words: &'a [String]) -> Result<ArgMatches<'a>, 
 
 /// The job of the program's arguments: `script` if there are none.
 ///
-/// Refused if the command line doesn't take them, or if a port, a number of turns or seconds, an address, an LU's name, a model, a size or
-/// a job's name isn't valid; Memory if memory is refused.
+/// Refused if the command line doesn't take them, if a port, a number of turns or seconds, an address, an LU's name, a model, a size or a
+/// job's name isn't valid, if `--metrics` has the port of `--port`, or if the last word is `--`; Memory if memory is refused.
 pub fn words<'a>(alloc: Global, words: &'a [String]) -> Result<Job<'a>, WordFault>
     ensures job { IfOk result (λ job. IsJobOf (map string_bytes words.now) (Some job)) }
     ensures fault { IfErr result (HasNoJob (map string_bytes words.now)) }
 {
     match matches_of(alloc, words) {
-        Ok(matches) => match job_in(&matches) {
+        Ok(matches) => match job_taken(words, &matches) {
             Some(job) => Ok(job),
             None => Err(WordFault::Refused),
         },

@@ -6,7 +6,7 @@ use crate::application_fault::{Absence, ApplicationFault};
 use crate::raw::{RawRead, RawWrite};
 use crate::socket_slot::is_passing;
 use application_http::{Reply, ReplyFault, ReplyReader};
-use host_core::Ticket;
+use host_core::{Question, Ticket};
 use mio::net::TcpStream;
 use std::alloc::Global;
 use std::io::{Error, ErrorKind};
@@ -55,12 +55,14 @@ fn read_as(answer: Result<Option<Reply>, ReplyFault>) -> Exchanged {
     }
 }
 
-/// An exchange: a connection to the application, the question's ticket, and what was sent and came.
+/// An exchange: a connection to the application, the question's ticket and panel, and what was sent and came.
 #[derive(Drop)]
 pub(crate) struct Exchange {
     alloc: Global,
     socket: TcpStream,
     ticket: Ticket,
+    /// The number of the panel on the screen.
+    panel: usize,
     /// When it began, in milliseconds of the server's time.
     began: u64,
     request: String,
@@ -74,14 +76,15 @@ impl Exchange {
     pub(crate) fn new(
         alloc: Global,
         socket: TcpStream,
-        ticket: Ticket,
+        question: &Question,
         began: u64,
         request: String,
     ) -> Exchange {
         Exchange {
             alloc,
             socket,
-            ticket,
+            ticket: question.ticket,
+            panel: question.panel,
             began,
             request,
             sent: 0,
@@ -92,6 +95,11 @@ impl Exchange {
     /// The ticket of the question.
     pub(crate) fn ticket(&self) -> Ticket {
         self.ticket
+    }
+
+    /// The number of the panel on the screen.
+    pub(crate) fn panel(&self) -> usize {
+        self.panel
     }
 
     /// Whether its reply is late.

@@ -29,6 +29,8 @@ pub enum Fault {
     NoMemory,
     /// The system refused a socket.
     SocketFailed,
+    /// The system refused random bytes.
+    NotRandom,
     /// The system refused to listen at this address, with an error of this kind.
     CannotListen(SocketAddr, ErrorKind),
     /// The URL is no application's, for this reason.
@@ -79,7 +81,7 @@ impl Fault {
             Fault::NotHex(_) | Fault::NotUnderstood(_) => 1,
             Fault::NotAnApplication(_) => 2,
             Fault::NoMemory => 3,
-            Fault::SocketFailed | Fault::CannotListen(_, _) => 4,
+            Fault::SocketFailed | Fault::NotRandom | Fault::CannotListen(_, _) => 4,
             Fault::TurnsOver => 5,
             Fault::OutputFailed => 6,
             Fault::Live(fault) => fault.status(),
@@ -103,6 +105,7 @@ impl fmt::Display for Fault {
             Fault::NotUnderstood(line) => write!(f, "line {line}: not understood"),
             Fault::NoMemory => f.write_str("no memory"),
             Fault::SocketFailed => f.write_str("socket failed"),
+            Fault::NotRandom => f.write_str("no random bytes"),
             Fault::CannotListen(address, kind) => {
                 let reason = reason_of(*kind);
                 write!(f, "cannot listen on {address}: {reason}")

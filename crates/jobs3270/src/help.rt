@@ -21,6 +21,7 @@ jobs:
   term      be a terminal of the host at 127.0.0.1, and do commands
   operate   be a terminal of the host at 127.0.0.1, for an operator at a tty
   help      print this text, or with a job's name the help of that job
+  version   print the version
 
 options:
   -h, --help      print this text, or after a job the help of that job
@@ -75,7 +76,7 @@ Serve panels to terminals that connect, without end, and log each connection on 
 
 options:
   --port P              the port, 1 to 65535
-  --listen ADDRESS      the IPv4 or IPv6 address to listen on [default: 127.0.0.1]
+  --listen ADDRESS      the IPv4 or IPv6 address to listen on; localhost is 127.0.0.1 [default: 127.0.0.1]
   --panels FILE         the file that has the panels [default: INPUT]
   --negotiate SECONDS   drop a connection without a session after this time [default: 30]
   --keepalive SECONDS   test a connection that sends nothing for this time [default: 60]
@@ -83,7 +84,8 @@ options:
   --application URL     the application of this machine for keys that panels ask about, as http://127.0.0.1:8080/bank
   --application-timeout SECONDS
                         the time that an answer may take, 1 to 3600 [default: 30]
-  --metrics P           the port of 127.0.0.1 that answers with metrics, 1 to 65535
+  --metrics P           the port of 127.0.0.1 that answers with metrics, 1 to 65535, not that of --port
+  --own-terminals       all terminals are this project's own, in which only the host ends the wait after a key
   --quiet               log no connection
 
 Other SECONDS are 0 to 1000000; 0 is no limit.
@@ -103,7 +105,7 @@ INPUT is commands, one a line.";
 const OPERATE: &str =
     "usage: panel3270 operate --port P [--lu NAME] [--model M] [--raw ROWSxCOLUMNS]
 
-Be a terminal of the host at 127.0.0.1, for an operator at this tty. Start it by the script bin/operate PORT [LU].
+Be a terminal of the host at 127.0.0.1, for an operator at this tty. Start it by the script bin/operate [OPTION ..] PORT [LU].
 
 options:
   --port P             the port, 1024 to 65535
@@ -117,7 +119,12 @@ const HELP: &str = "usage: panel3270 help [JOB]
 
 Print the help of the program, or of a job.";
 
-const VERSION: &str = "panel3270 1.1";
+const VERSION_HELP: &str = "usage: panel3270 version
+
+Print the version of the program.";
+
+/// The program's name and version.
+pub(crate) const VERSION: &str = "panel3270 1.1";
 
 /// The text about a topic, without the newline at its end.
 fn help_text(topic: Topic) -> &'static str
@@ -134,6 +141,7 @@ fn help_text(topic: Topic) -> &'static str
         Topic::Term => TERM,
         Topic::Operate => OPERATE,
         Topic::Help => HELP,
+        Topic::Version => VERSION_HELP,
     }
 }
 

@@ -382,6 +382,8 @@ pub enum Topic {
     Operate,
     /// The job `help`.
     Help,
+    /// The job `version`.
+    Version,
 }
 
 /// What a live terminal connects to, and its tty.

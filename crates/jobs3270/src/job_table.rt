@@ -93,7 +93,7 @@ static SELFRUN: [JobOption<'static>; 1] = [TURNS];
 
 static HOST: [JobOption<'static>; 2] = [PORT, TURNS];
 
-static SERVE: [JobOption<'static>; 10] = [
+static SERVE: [JobOption<'static>; 11] = [
     JobOption {
         name: "port",
         word: "--port",
@@ -149,6 +149,12 @@ static SERVE: [JobOption<'static>; 10] = [
         required: false,
     },
     JobOption {
+        name: "own-terminals",
+        word: "--own-terminals",
+        kind: ValueKind::Flag,
+        required: false,
+    },
+    JobOption {
         name: "quiet",
         word: "--quiet",
         kind: ValueKind::Flag,
@@ -181,7 +187,8 @@ pub(crate) fn options_of(topic: Topic) -> &'static [JobOption<'static>]
         Topic::Serve => &SERVE,
         Topic::Term => &TERM,
         Topic::Operate => &OPERATE,
-        Topic::Program | Topic::Script | Topic::Check | Topic::Help => &[],
+        Topic::Program | Topic::Script | Topic::Check => &[],
+        Topic::Help | Topic::Version => &[],
     }
 }
 
@@ -194,6 +201,7 @@ pub(crate) fn operand_of<'a>(topic: Topic) -> Option<&'a str>
         Topic::Check => Some("file"),
         Topic::Program | Topic::Script | Topic::Show | Topic::Selfrun => None,
         Topic::Host | Topic::Serve | Topic::Term | Topic::Operate => None,
+        Topic::Version => None,
     }
 }
 
@@ -212,6 +220,7 @@ pub(crate) fn name_of<'a>(topic: Topic) -> &'a str
         Topic::Term => "term",
         Topic::Operate => "operate",
         Topic::Help => "help",
+        Topic::Version => "version",
     }
 }
 
@@ -229,6 +238,7 @@ pub(crate) fn topic_named(name: &str) -> Option<Topic>
         "term" => Some(Topic::Term),
         "operate" => Some(Topic::Operate),
         "help" => Some(Topic::Help),
+        "version" => Some(Topic::Version),
         _ => None,
     }
 }

@@ -15,8 +15,8 @@
 //! which arguments give which job, `Topics` each job's options, `Refusals` what is printed for arguments that give no job, `Helps` the
 //! help, and `Faults` and `FileFaults` each fault's line and status. Readers and sockets are read and written by single calls that contracts can name ([`RawRead`], [`RawWrite`]):
 //! `RawCalls` says what their answers mean, `Sockets` what they do to a connection that is served, and `Waits` what they do to a
-//! terminal. `Timing` says what the time limits of a connection ask for, and `Notices` what the log's lines are. Nothing more is
-//! proved of the bytes on a socket.
+//! terminal. `ServiceTurns` says what a turn of `serve` is, `Timing` what the time limits of a connection ask for, and `Notices` what
+//! the log's lines are. Nothing more is proved of the bytes on a socket.
 #![tactic(auto)]
 
 mod answer_line;
@@ -24,6 +24,7 @@ mod application;
 mod application_fault;
 mod application_reply;
 mod application_request;
+mod asked_key;
 mod check;
 mod command_line;
 mod exchange;
@@ -59,7 +60,9 @@ mod script_line;
 mod selfrun;
 mod server;
 mod service;
+mod service_turn;
 mod serving;
+mod session_name;
 mod show;
 mod socket_slot;
 mod socket_terminal;
@@ -72,7 +75,7 @@ mod tty_size;
 mod uptime;
 
 pub use application_fault::{Absence, ApplicationFault, FailureMessage};
-pub use application_reply::AnswerFault;
+pub use application_reply::{AnswerFault, Replaced};
 pub use check::run_check;
 pub use command_line::words;
 pub use fault::Fault;
@@ -83,7 +86,7 @@ pub use job::{
     FileName, Job, LiveOptions, Port, ReplyTime, Seconds, ServicePort, Topic, Turns, UrlText,
     WordFault,
 };
-pub use limits::{Activity, Due, Overdue};
+pub use limits::{Activity, Awaited, Due, Overdue};
 pub use live::{Asked, LiveTerminal};
 pub use live_fault::LiveFault;
 pub use live_session::{OperatorSession, run_operate};
@@ -92,15 +95,16 @@ pub use metrics::{ClosedCounts, EndCounts, Metrics, RejectedCounts, TrafficCount
 pub use notice::{Client, Ending, Notice, Usage};
 pub use page::{Page, page_of};
 pub use raw::{RawRead, RawWrite};
-pub use refusal::{Refusal, refusal_of, refuse_words};
+pub use refusal::{Refusal, refusal_of, refuse_words, similar_to};
 pub use script::{host_of, run_script};
 pub use script_line::{ScriptCommand, typed_text};
 pub use selfrun::run_selfrun;
 pub use server::{Server, Watcher, patience};
 pub use service::{ApplicationChoice, Service, TimeLimits};
 pub use serving::{run_host, run_serve};
+pub use session_name::SessionName;
 pub use show::run_show;
-pub use streams::{Answer, CountedReader, CountedWriter, Sink, Source, WriteFailed};
+pub use streams::{Answer, CountedReader, CountedWriter, Sink, Source, UntilClosed, WriteFailed};
 pub use task::end_by;
 pub use term::{Wire, operate, run_term};
 pub use term_line::TerminalCommand;

@@ -1,9 +1,10 @@
 //! The time limits of a connection: when it is sent IAC NOP, and when it is dropped.
 ghost use Rattle.std.specs.Prelude.{◌≡◌};
-ghost use Rattle.jobs3270.specs.Timing.{are_applied, due, heard, is_over, is_unanswered, kept_alive, new_activity};
+ghost use Rattle.jobs3270.specs.Timing.{are_applied, awaited_on, due, heard, is_agreed, is_host, is_over, is_unanswered, kept_alive, new_activity};
 
 use crate::job::Seconds;
 use crate::service::TimeLimits;
+use host_core::{Phase, Turn};
 
 /// How many milliseconds after the time limits were applied last they are applied again though no byte moved.
 const LIMITS_INTERVAL: u64 = 100;
@@ -28,13 +29,25 @@ pub enum Due {
     Disconnect(Overdue),
 }
 
+/// What a connection waits for.
+#[derive(Clone, Copy)]
+pub enum Awaited {
+    /// That the ends agree on a session.
+    Agreement,
+    /// A key of the operator, who has the turn.
+    Operator,
+    /// The host, which has the turn, for example while the application decides; or the terminal's answer to a command, such as a
+    /// paint that is under way.
+    Host,
+}
+
 /// When a connection began, and when it did something. Times are milliseconds of the server's time.
 #[derive(Clone, Copy)]
 pub struct Activity {
     /// When it began.
     pub began: u64,
-    /// When bytes came last, or when it began.
-    pub heard: u64,
+    /// Since when it is silent of itself: when bytes came last, when it waited for the host last, or when it began.
+    pub silent_since: u64,
     /// When IAC NOP was due last, or bytes came since.
     pub kept_alive: u64,
     /// The number of bytes that had come at that time.
@@ -58,6 +71,42 @@ pub(crate) fn are_applied(moved: bool, applied: u64, now: u64) -> bool
     moved || now.saturating_sub(applied) >= LIMITS_INTERVAL
 }
 
+/// What a connection waits for, by the phase of its session, by who has the turn, and by the number of the command that waits for its
+/// answer.
+pub(crate) fn awaited_on(phase: &Phase, turn: Turn, pending: Option<u16>) -> Awaited
+    ensures { result ≡ awaited_on phase.now turn pending }
+{
+    match phase {
+        Phase::Bound(_) => match (turn, pending) {
+            (Turn::Terminal, None) => Awaited::Operator,
+            (Turn::Terminal, Some(_)) | (Turn::Host, _) => Awaited::Host,
+        },
+        Phase::Free | Phase::Talking | Phase::Closed(_) => Awaited::Agreement,
+    }
+}
+
+impl Awaited {
+    /// Whether the ends have agreed on a session.
+    fn is_agreed(self) -> bool
+        ensures { result ≡ is_agreed self }
+    {
+        match self {
+            Awaited::Agreement => false,
+            Awaited::Operator | Awaited::Host => true,
+        }
+    }
+
+    /// Whether it is the host's part.
+    fn is_host(self) -> bool
+        ensures { result ≡ is_host self }
+    {
+        match self {
+            Awaited::Host => true,
+            Awaited::Agreement | Awaited::Operator => false,
+        }
+    }
+}
+
 impl Activity {
     /// That of a connection that begins now.
     pub fn new(now: u64) -> Activity
@@ -65,25 +114,26 @@ impl Activity {
     {
         Activity {
             began: now,
-            heard: now,
+            silent_since: now,
             kept_alive: now,
             received: 0,
             sent: 0,
         }
     }
 
-    /// What is due now on a connection, whose terminal is bound to an LU or not. If more than one limit has passed, the first of
-    /// `negotiate`, `idle` and `keepalive` counts.
-    pub fn due(&self, limits: &TimeLimits, bound: bool, now: u64) -> Due
-        ensures { result ≡ due limits.now bound self.now now }
+    /// What is due now on a connection that waits for this. If more than one limit has passed, the first of `negotiate`, `idle` and
+    /// `keepalive` counts. While it waits for the host it isn't idle.
+    pub fn due(&self, limits: &TimeLimits, awaited: Awaited, now: u64) -> Due
+        ensures { result ≡ due limits.now awaited self.now now }
     {
-        if !bound && is_over(limits.negotiate, now.saturating_sub(self.began)) {
+        let agreed = awaited.is_agreed();
+        if !agreed && is_over(limits.negotiate, now.saturating_sub(self.began)) {
             return Due::Disconnect(Overdue::NoAgreement);
         }
-        if is_over(limits.idle, now.saturating_sub(self.heard)) {
+        if !awaited.is_host() && is_over(limits.idle, now.saturating_sub(self.silent_since)) {
             return Due::Disconnect(Overdue::Idle);
         }
-        if bound && is_over(limits.keepalive, now.saturating_sub(self.kept_alive)) {
+        if agreed && is_over(limits.keepalive, now.saturating_sub(self.kept_alive)) {
             return Due::KeepAlive;
         }
         Due::Nothing
@@ -97,14 +147,17 @@ impl Activity {
         self.received != received && self.sent == sent
     }
 
-    /// Takes the numbers of bytes that came and were sent until now.
-    pub fn hear(&mut self, received: u64, sent: u64, now: u64)
-        ensures { self.new ≡ heard received sent now self.old }
+    /// Takes the numbers of bytes that came and were sent until now, and what the connection waits for.
+    pub fn hear(&mut self, received: u64, sent: u64, awaited: Awaited, now: u64)
+        ensures { self.new ≡ heard received sent awaited now self.old }
     {
         if self.received != received {
             self.received = received;
-            self.heard = now;
+            self.silent_since = now;
             self.kept_alive = now;
+        }
+        if awaited.is_host() {
+            self.silent_since = now;
         }
         self.sent = sent;
     }

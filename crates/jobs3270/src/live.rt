@@ -1,6 +1,7 @@
 //! A live terminal: the bytes of an operator's tty and of a host come in, and what the tty is to be written goes out.
-ghost use Rattle.std.specs.Prelude.{◌≡◌, ◌++◌, ◌≤◌, [], None, IfOk, OnOk, drop, length};
+ghost use Rattle.std.specs.Prelude.{◌≡◌, ◌++◌, ◌<◌, ◌≤◌, [], None, IfOk, OnErr, OnOk, drop, length};
 ghost use Rattle.term_core.specs.Presses.{after_key, answer_to_key};
+ghost use Rattle.term_core.specs.Room.{out_room};
 ghost use Rattle.term_core.specs.State.{phase_of, connected, lost, model_of};
 ghost use Rattle.tty_keys.specs.Reading.{read_byte};
 ghost use Rattle.jobs3270.specs.Live.{Draws, Hears, ReadsTyped, TakesTurn, Types, after_keystroke, after_keystrokes, after_meaning, after_press, asks_after, first_seat, is_connected, is_enter, is_idle, is_quit, lu_place, picture_at, refusal_after};
@@ -162,11 +163,15 @@ impl LiveTerminal {
         self.terminal.phase()
     }
 
-    /// Begins a connection, on which the terminal requests this LU, if there is one. It may be called only in phase Idle.
+    /// Begins a connection, on which the terminal requests this LU, if there is one. It may be called only in phase Idle. Memory is
+    /// needed only if the terminal's output lacks room; if it is refused, nothing changes.
     pub fn connect(&mut self, wanted: Option<Lu>) -> Result<(), AllocError>
         requires { phase_of self.old.seat.terminal.link ≡ TermPhase.Idle }
         ensures seat { OnOk result (self.new.seat ≡ record self.old.seat { terminal = connected (model_of self.old.seat.terminal) wanted; refusal = None }) }
         ensures kept { OnOk result (self.new.kept ≡ self.old.kept) }
+        ensures room { OnOk result (out_room ≤ self.new.room) }
+        ensures full { OnErr result (self.old.room < out_room) }
+        ensures unchanged { OnErr result (self.new ≡ self.old) }
     {
         self.terminal.make_room()?;
         self.terminal.connected(wanted);

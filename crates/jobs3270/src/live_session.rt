@@ -282,6 +282,8 @@ struct Dialer {
     poll: Poll,
     events: Events,
     dialed: Option<TcpStream>,
+    /// Whether the host took a connection before. If it never did, a refusal ends the run.
+    was_taken: bool,
 }
 
 impl Dialer {
@@ -296,13 +298,15 @@ impl Dialer {
             poll,
             events,
             dialed: None,
+            was_taken: false,
         })
     }
 
-    /// Begins a connection. If the host isn't there, a read of the socket finds out.
-    fn dial(&self, net: &impl Net) -> Result<TcpStream, Fault> {
-        let Ok(mut socket) = TcpStream::connect(net, self.address) else {
-            return Err(Fault::SocketFailed);
+    /// Begins a connection. The host may refuse it at once, or later.
+    fn dial(&self, net: &impl Net) -> Result<TcpStream, ErrorKind> {
+        let mut socket = match TcpStream::connect(net, self.address) {
+            Ok(socket) => socket,
+            Err(error) => return Err(error.kind()),
         };
         // As in `Server::admit`: if one of these calls fails, the socket is used anyway.
         let _ = socket.set_nodelay(true);
@@ -314,23 +318,42 @@ impl Dialer {
         Ok(socket)
     }
 
-    /// Begins a connection, unless one is under way. If that fails at once, there is none.
-    fn redial(&mut self, net: &impl Net) {
+    /// Begins a connection, unless one is under way. CannotConnect if the host refuses it at once, and never took one before.
+    fn redial(&mut self, net: &impl Net) -> Result<(), Fault> {
         if self.dialed.is_none() {
-            self.dialed = self.dial(net).ok();
+            match self.dial(net) {
+                Ok(socket) => self.dialed = Some(socket),
+                Err(kind) => return self.give_up(kind),
+            }
+        }
+        Ok(())
+    }
+
+    /// Goes on without a connection if the host took one before.
+    fn give_up(&self, kind: ErrorKind) -> Result<(), Fault> {
+        if self.was_taken {
+            Ok(())
+        } else {
+            Err(Fault::Live(LiveFault::CannotConnect(self.address, kind)))
         }
     }
 
-    /// The connection that is under way, once the host took it. If the host refused it, there is none.
-    fn take_connected(&mut self) -> Option<TcpStream> {
-        let socket = self.dialed.take()?;
+    /// The connection that is under way, once the host took it. If the host refused it, there is none, and CannotConnect if it never
+    /// took one before.
+    fn take_connected(&mut self) -> Result<Option<TcpStream>, Fault> {
+        let Some(socket) = self.dialed.take() else {
+            return Ok(None);
+        };
         if socket.peer_addr().is_ok() {
-            return Some(socket);
+            self.was_taken = true;
+            return Ok(Some(socket));
         }
-        if let Ok(None) = socket.take_error() {
-            self.dialed = Some(socket);
+        match socket.take_error() {
+            Ok(None) => self.dialed = Some(socket),
+            Ok(Some(error)) => self.give_up(error.kind())?,
+            Err(error) => self.give_up(error.kind())?,
         }
-        None
+        Ok(None)
     }
 
     /// Waits for the connection: not at all if bytes moved in the turn before, or 10 milliseconds at most.
@@ -344,24 +367,25 @@ impl Dialer {
     }
 }
 
-/// Takes turns until the operator ends the program.
+/// Connects a session, and takes turns until the operator ends the program.
 fn take_turns<N: Net, K: Source + Drop, T: Sink + Drop>(
     net: &N,
     alloc: Global,
     dialer: &mut Dialer,
     session: &mut OperatorSession<TcpStream, K, T>,
 ) -> Result<(), Fault> {
+    dialer.redial(net)?;
     let mut moved = true;
     for _ in 0..u64::MAX {
+        if let Some(socket) = dialer.take_connected()? {
+            session.connect(socket, dialer.wanted)?;
+        }
         dialer.wait(moved)?;
         moved = session.turn(alloc)?;
         match session.take_asked() {
             Asked::Nothing => {}
             Asked::Quit => return Ok(()),
-            Asked::Connect => dialer.redial(net),
-        }
-        if let Some(socket) = dialer.take_connected() {
-            session.connect(socket, dialer.wanted)?;
+            Asked::Connect => dialer.redial(net)?,
         }
     }
     Ok(())
@@ -378,17 +402,6 @@ fn check_tty(model: Model, tty: Option<TtySize>) -> Result<(), Fault> {
     }
 }
 
-/// Connects a session, and takes its turns.
-fn operate_on<N: Net, K: Source + Drop, T: Sink + Drop>(
-    net: &N,
-    alloc: Global,
-    dialer: &mut Dialer,
-    session: &mut OperatorSession<TcpStream, K, T>,
-) -> Result<(), Fault> {
-    session.connect(dialer.dial(net)?, dialer.wanted)?;
-    take_turns(net, alloc, dialer, session)
-}
-
 /// Runs a live terminal.
 fn operate<N: Net, K: Source + Drop, T: Sink + Drop>(
     net: &N,
@@ -400,7 +413,7 @@ fn operate<N: Net, K: Source + Drop, T: Sink + Drop>(
     check_tty(options.model, options.tty)?;
     let mut dialer = Dialer::new(net, alloc, options.port, options.lu)?;
     let mut session = OperatorSession::new(alloc, options.model, keys, tty)?;
-    operate_on(net, alloc, &mut dialer, &mut session)
+    take_turns(net, alloc, &mut dialer, &mut session)
 }
 
 /// Runs a terminal at the host on a port of 127.0.0.1, for an operator whose keys are read from a tty in raw mode, and whose screen is

@@ -1,5 +1,6 @@
 //! The log of a server.
-use crate::application_fault::{ApplicationFault, put_application_line};
+use crate::application_fault::{ApplicationFault, put_application_line, put_replaced_line};
+use crate::application_reply::Replaced;
 use crate::fault::Fault;
 use crate::notice::{Client, Notice, put_notice};
 use crate::server::{Server, Watcher};
@@ -27,7 +28,7 @@ pub struct Log<'a, C, E> {
 const TIME_ROOM: usize = 32;
 
 /// Room for a line of the usual length, in bytes.
-const LINE_ROOM: usize = 192;
+const LINE_ROOM: usize = 256;
 
 /// Adds the time in UTC, in whole seconds (RFC 3339); `unknown` if the clock fails.
 fn put_time(text: &mut String, clock: &impl Clock) -> Result<(), AllocError> {
@@ -60,6 +61,20 @@ fn application_line_of(
     Ok(line)
 }
 
+/// The line of a reply in which characters were replaced, at this time.
+fn replaced_line_of(
+    alloc: Global,
+    clock: &impl Clock,
+    client: &Client,
+    replaced: &Replaced<'_>,
+) -> Result<String, AllocError> {
+    let mut time = String::with_capacity(alloc, TIME_ROOM)?;
+    put_time(&mut time, clock)?;
+    let mut line = String::with_capacity(alloc, LINE_ROOM)?;
+    put_replaced_line(&mut line, time.as_str(), client, replaced)?;
+    Ok(line)
+}
+
 impl<C: Clock, E: Sink> Watcher for Log<'_, C, E> {
     fn notice(&mut self, notice: &Notice) -> Result<(), Fault> {
         if self.quiet {
@@ -76,6 +91,16 @@ impl<C: Clock, E: Sink> Watcher for Log<'_, C, E> {
             return Ok(());
         }
         let line = application_line_of(self.alloc, self.clock, client, fault)?;
+        // Terminals are served even if the log can't be written.
+        let _ = self.lines.write_all(line.as_bytes());
+        Ok(())
+    }
+
+    fn replaced(&mut self, client: &Client, replaced: &Replaced<'_>) -> Result<(), Fault> {
+        if self.quiet {
+            return Ok(());
+        }
+        let line = replaced_line_of(self.alloc, self.clock, client, replaced)?;
         // Terminals are served even if the log can't be written.
         let _ = self.lines.write_all(line.as_bytes());
         Ok(())

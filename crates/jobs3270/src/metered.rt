@@ -3,6 +3,7 @@ ghost use Rattle.std.specs.Prelude.{◌<◌};
 ghost use Rattle.host_core.specs.State.{most_connections};
 
 use crate::application_fault::ApplicationFault;
+use crate::application_reply::Replaced;
 use crate::fault::Fault;
 use crate::job::ServicePort;
 use crate::metrics::Metrics;
@@ -65,6 +66,10 @@ impl<W: Watcher> Watcher for Metered<'_, W> {
 
     fn unanswered(&mut self, client: &Client, fault: &ApplicationFault) -> Result<(), Fault> {
         self.watcher.unanswered(client, fault)
+    }
+
+    fn replaced(&mut self, client: &Client, replaced: &Replaced<'_>) -> Result<(), Fault> {
+        self.watcher.replaced(client, replaced)
     }
 
     fn shown(&mut self, host: &Host, conn: usize) -> Result<(), Fault> {

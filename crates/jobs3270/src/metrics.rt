@@ -67,6 +67,8 @@ pub struct Metrics {
     /// Connections that were closed at once, since no number was free.
     pub turned_away: u64,
     pub rejected: RejectedCounts,
+    /// Keys that were dropped, since the last one wasn't answered yet.
+    pub dropped_keys: u64,
     pub traffic: TrafficCounts,
 }
 
@@ -164,6 +166,7 @@ impl Metrics {
                 unsupported_req: 0,
                 other: 0,
             },
+            dropped_keys: 0,
             traffic: TrafficCounts {
                 turns: 0,
                 paints: 0,
@@ -200,6 +203,7 @@ impl Metrics {
             Notice::Connected(_) => self.begin(),
             Notice::Rejected(_, rejection) => self.rejected.count(rejection.reason),
             Notice::Bound(_, _) => {}
+            Notice::KeyDropped(_, _) => raise(&mut self.dropped_keys, 1),
             Notice::Ended(_, ending, usage) => {
                 self.end(*ending);
                 self.count_usage(usage.turns, usage.received, usage.sent);

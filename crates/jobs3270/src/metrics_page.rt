@@ -19,6 +19,8 @@ pub enum Metric {
     TurnedAway,
     /// Rejected requests for an LU.
     Rejections,
+    /// Keys that were dropped.
+    DroppedKeys,
     /// Screens sent after the first one of a connection.
     Turns,
     /// Screens sent.
@@ -42,6 +44,7 @@ impl Metric {
             Metric::SessionEnds => "panel3270_session_ends_total",
             Metric::TurnedAway => "panel3270_turned_away_total",
             Metric::Rejections => "panel3270_rejections_total",
+            Metric::DroppedKeys => "panel3270_dropped_keys_total",
             Metric::Turns => "panel3270_turns_total",
             Metric::Paints => "panel3270_paints_total",
             Metric::ReceivedBytes => "panel3270_received_bytes_total",
@@ -60,6 +63,7 @@ impl Metric {
             Metric::SessionEnds => "Connections of terminals that ended, by what ended them.",
             Metric::TurnedAway => "Connections closed at once because no number was free.",
             Metric::Rejections => "Rejected requests for an LU, by reason.",
+            Metric::DroppedKeys => "Keys that were dropped because the last one wasn't answered yet.",
             Metric::Turns => "Screens sent after the first one of a connection.",
             Metric::Paints => "Screens sent.",
             Metric::ReceivedBytes => "Bytes received from terminals.",
@@ -288,7 +292,11 @@ impl fmt::Display for Metrics {
         let ends = self.ends;
         let turned_away = Number(Metric::TurnedAway, self.turned_away);
         let rejected = self.rejected;
+        let dropped_keys = Number(Metric::DroppedKeys, self.dropped_keys);
         let traffic = self.traffic;
-        write!(f, "{current}{begun}{ends}{turned_away}{rejected}{traffic}")
+        write!(
+            f,
+            "{current}{begun}{ends}{turned_away}{rejected}{dropped_keys}{traffic}"
+        )
     }
 }

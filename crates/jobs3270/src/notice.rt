@@ -2,17 +2,21 @@
 ghost use Rattle.std.specs.Prelude.{◌≡◌, ◌++◌, OnOk, string_bytes};
 ghost use Rattle.jobs3270.specs.Notices.{bound_in_turn, cause_part, client_part, closed_part, ending_of, ending_part, has_time, lu_part, notice_line, notice_text, number_part, overdue_part, time_part, usage_part};
 
+use crate::application_request::KeyName;
 use crate::limits::Overdue;
-use host_core::{Phase, Rejection, Served};
+use crate::session_name::SessionName;
+use host_core::{DroppedKey, Phase, Rejection, Served};
 use std::alloc::AllocError;
 use std::net::SocketAddr;
 use tn3270e_msg::{Cause, Lu};
 
-/// A connection: its number, 0 to 63, and its peer's address.
+/// A connection: its number, 0 to 63, its session's name, and its peer's address.
 #[derive(Clone, Copy)]
 pub struct Client {
-    /// The number.
+    /// The number, which later connections have again.
     pub conn: usize,
+    /// The session's name, which no other session has.
+    pub session: SessionName,
     /// The peer's address.
     pub peer: SocketAddr,
 }
@@ -56,17 +60,22 @@ pub enum Notice {
     Rejected(Client, Rejection),
     /// The terminal was bound to an LU.
     Bound(Client, Lu),
+    /// The host dropped a key that was pressed before the last one was answered.
+    KeyDropped(Client, DroppedKey),
     /// The connection is over.
     Ended(Client, Ending, Usage),
 }
 
-/// Adds the number and the peer of a connection.
+/// Adds the number, the session and the peer of a connection.
 pub(crate) fn put_client(text: &mut String, client: &Client) -> Result<(), AllocError>
     ensures { OnOk result (string_bytes text.new ≡ string_bytes text.old ++ client_part client.now) }
 {
-    let conn = client.conn;
-    let peer = client.peer;
-    write!(text, " conn={conn} peer={peer}")
+    let Client {
+        conn,
+        session,
+        peer,
+    } = *client;
+    write!(text, " conn={conn} session={session} peer={peer}")
 }
 
 /// Adds the LU that was requested, if one was.
@@ -187,6 +196,15 @@ fn put_bound(text: &mut String, client: &Client, lu: &Lu) -> Result<(), AllocErr
     write!(text, " event=bound lu={lu}")
 }
 
+/// Adds that a key was dropped.
+fn put_dropped_key(text: &mut String, client: &Client, dropped: DroppedKey) -> Result<(), AllocError>
+    ensures { OnOk result (string_bytes text.new ≡ string_bytes text.old ++ notice_text (Notice.KeyDropped client.now dropped)) }
+{
+    put_client(text, client)?;
+    let key = KeyName(dropped.aid);
+    write!(text, " event=key-dropped key={key}")
+}
+
 /// Adds what happened.
 fn put_text(text: &mut String, notice: &Notice) -> Result<(), AllocError>
     ensures { OnOk result (string_bytes text.new ≡ string_bytes text.old ++ notice_text notice.now) }
@@ -197,6 +215,7 @@ fn put_text(text: &mut String, notice: &Notice) -> Result<(), AllocError>
         Notice::Connected(client) => put_connected(text, client),
         Notice::Rejected(client, rejection) => put_rejection(text, client, rejection),
         Notice::Bound(client, lu) => put_bound(text, client, lu),
+        Notice::KeyDropped(client, dropped) => put_dropped_key(text, client, *dropped),
         Notice::Ended(client, ending, usage) => put_end(text, client, ending, usage),
     }
 }

@@ -1,9 +1,11 @@
 //! Single calls of readers and writers.
-ghost use Rattle.std.specs.Prelude.{ℕ, List, length};
+ghost use Rattle.std.specs.Prelude.{ℕ, List, IfSome, OnOk, length};
 ghost use Rattle.std.specs.Io.{ReadsAtMost, WritesAtMost};
-ghost use Rattle.std.specs.Io.KnownBytes.{ReadConsumes, WriteAppends};
+ghost use Rattle.std.specs.Io.KnownBytes.{Appends, ReadConsumes, WriteAppends};
+ghost use Rattle.std.specs.Fmt.{with_newline};
 ghost use Rattle.jobs3270.specs.RawCalls.{bytes_read};
 
+use std::fmt::Display;
 use std::io::{self, Read, Write};
 
 /// A reader whose calls a contract can name.
@@ -29,7 +31,8 @@ pub trait RawRead {
 
 /// A writer whose calls a contract can name.
 ///
-/// `write_took` relates the writer before a call, the bytes that the call was given, its answer, and the writer after the call.
+/// `write_took` relates the writer before a call, the bytes that the call was given, its answer, and the writer after the call;
+/// `line_took` does so for a line, by its text and the newline, if the text is known.
 pub trait RawWrite {
     ghost use Rattle.std.specs.Prelude.{Option, Result};
     ghost use Rattle.std.specs.declared.io.Error.{Error};
@@ -39,21 +42,28 @@ pub trait RawWrite {
 
     ghost write_took: { Self → List ℕ → Result ℕ Error → Self → Type 0 };
 
+    ghost line_took: { Self → Option (List ℕ) → Result Unit Error → Self → Type 0 };
+
     /// Writes once.
     fn write_once(&mut self, bytes: &[u8]) -> io::Result<usize>
         ensures bound { WritesAtMost result bytes.now }
         ensures bytes { WriteAppends (contents self.old) (contents self.new) result bytes.now }
         ensures took { write_took self.old bytes.now result self.new };
+
+    /// Writes a text and a newline.
+    fn write_text_line<D: Display + Drop>(&mut self, text: D) -> io::Result<()>
+        ensures bytes { OnOk result (IfSome (with_newline (D.output text)) (Appends (contents self.old) (contents self.new))) }
+        ensures took { line_took self.old (with_newline (D.output text)) result self.new };
 }
 
-// std's contracts of `read` and `write` bound the answer and say nothing else of it. So these relations say nothing.
+// std's contracts say of a call how many bytes it moved, and which, if they are known.
 
 impl<R: Read> RawRead for R {
-    ghost use Rattle.std.specs.Prelude.{⊤};
+    ghost use Rattle.jobs3270.specs.RawCalls.{ReadsLeft};
 
     ghost remaining = { R.remaining };
 
-    ghost read_gave = { λ _ _ _ _ _. ⊤ };
+    ghost read_gave = { λ old room bytes answer new. ReadsLeft (R.remaining old) room bytes answer (R.remaining new) };
 
     fn read_once(&mut self, buffer: &mut [u8]) -> io::Result<usize> {
         self.read(buffer)
@@ -61,13 +71,19 @@ impl<R: Read> RawRead for R {
 }
 
 impl<W: Write> RawWrite for W {
-    ghost use Rattle.std.specs.Prelude.{⊤};
+    ghost use Rattle.jobs3270.specs.RawCalls.{WritesFront, WritesText};
 
     ghost contents = { W.contents };
 
-    ghost write_took = { λ _ _ _ _. ⊤ };
+    ghost write_took = { λ old bytes answer new. WritesFront (W.contents old) bytes answer (W.contents new) };
+
+    ghost line_took = { λ old text answer new. WritesText (W.contents old) text answer (W.contents new) };
 
     fn write_once(&mut self, bytes: &[u8]) -> io::Result<usize> {
         self.write(bytes)
+    }
+
+    fn write_text_line<D: Display + Drop>(&mut self, text: D) -> io::Result<()> {
+        self.writeln(text)
     }
 }

@@ -1,23 +1,26 @@
 //! Which word of the command line is wrong, and the lines that say so.
-ghost use Rattle.std.specs.Prelude.{◌≡◌, codes, map, nat_eq, string_bytes};
+ghost use Rattle.std.specs.Prelude.{◌≡◌, codes, false, map, nat_eq, option_map, string_bytes};
 ghost use Rattle.std.specs.List.{after_first, before_first, starts_with};
 ghost use Rattle.jobs3270.specs.OptionValues.{is_value};
-ghost use Rattle.jobs3270.specs.Topics.{kind_named, options_of};
+ghost use Rattle.jobs3270.specs.Topics.{kind_named, options_of, row_of};
 ghost use Rattle.jobs3270.specs.Runs.{IsToldIn};
-ghost use Rattle.jobs3270.specs.Refusals.{awaited_after, has_value, is_equals, is_option, may_follow, name_after, of_files, of_job, of_options, of_topics, options_after, refusal_text, refused_text, words_refused, wrong_word};
+ghost use Rattle.jobs3270.specs.Refusals.{advice_text, awaited_after, has_one_port, has_value, has_value_of, is_equals, is_given_again, is_named, is_option, may_follow, name_after, of_files, of_job, of_options, of_serve, of_topics, of_words, options_after, port_given, refusal_text, refused_text, repeated, value_in, words_refused, wrong_word};
 
+use crate::command_line::{JOBS, is_same_port};
 use crate::job::{Port, ReplyTime, Seconds, ServicePort, Topic, Turns, model_of};
-use crate::job_table::{ValueKind, kind_named, options_of, topic_named};
+use crate::job_table::{JobOption, ValueKind, kind_named, name_of, options_of, topic_named};
 use crate::service::address_of;
 use crate::streams::Sink;
 use crate::tty_size::TtySize;
+use panel_check::Nearest;
+use std::alloc::{AllocError, Global};
 use std::fmt;
 use tn3270e_msg::Lu;
 
 /// The exit status if the words are refused.
 const WORDS_REFUSED: u8 = 2;
 
-/// Why the words of a command line are refused. Prints as two lines: the wrong word, and where help is.
+/// Why the words of a command line are refused.
 #[derive(Clone, Copy)]
 pub enum Refusal<'a> {
     /// There is no job of this name.
@@ -26,7 +29,11 @@ pub enum Refusal<'a> {
     Unexpected(Topic, &'a str),
     /// The job's option doesn't take this value.
     Invalid(Topic, &'a str, &'a str),
-    /// The job lacks an option or a value, or has one twice.
+    /// The job's option is given twice.
+    Twice(Topic, &'a str),
+    /// `--metrics` of `serve` has the port of `--port`.
+    OnePort,
+    /// The job lacks an option or a value.
     Incomplete(Topic),
     /// A word isn't UTF-8.
     NotText,
@@ -47,6 +54,7 @@ fn name_after(topic: Topic) -> &'static str
         Topic::Term => " term",
         Topic::Operate => " operate",
         Topic::Help => " help",
+        Topic::Version => " version",
     }
 }
 
@@ -60,12 +68,12 @@ fn options_after(topic: Topic) -> &'static str
         Topic::Check => " [FILE]",
         Topic::Host => " --port P [--turns N]",
         Topic::Serve => {
-            " --port P [--listen ADDRESS] [--panels FILE] [--negotiate SECONDS] [--keepalive SECONDS] [--idle SECONDS] [--application URL] [--application-timeout SECONDS] [--metrics P] [--quiet]"
+            " --port P [--listen ADDRESS] [--panels FILE] [--negotiate SECONDS] [--keepalive SECONDS] [--idle SECONDS] [--application URL] [--application-timeout SECONDS] [--metrics P] [--own-terminals] [--quiet]"
         }
         Topic::Term => " --port P [--lu NAME] [--model M]",
         Topic::Operate => " --port P [--lu NAME] [--model M] [--raw ROWSxCOLUMNS]",
         Topic::Help => " [JOB]",
-        Topic::Program | Topic::Script => "",
+        Topic::Program | Topic::Script | Topic::Version => "",
     }
 }
 
@@ -158,13 +166,17 @@ fn wrong_word<'a>(topic: Topic, previous: &'a str, word: &'a str) -> Refusal<'a>
     ensures { refusal_text result ≡ wrong_word topic previous.now word.now }
 {
     if awaited_after(topic, previous).is_some() {
-        Refusal::Invalid(topic, previous, word)
+        return Refusal::Invalid(topic, previous, word);
+    }
+    let option = before_equals(word);
+    if awaited_after(topic, option).is_some() {
+        Refusal::Invalid(topic, option, behind_equals(word))
     } else {
         Refusal::Unexpected(topic, word)
     }
 }
 
-/// The refusal of the words after a job's name.
+/// The refusal of the words after a job's name, none of whose options is given twice.
 fn of_options<'a>(topic: Topic, name: &'a str, words: &'a [String]) -> Refusal<'a>
     ensures { refusal_text result ≡ of_options topic name.now (map string_bytes words.now) }
 {
@@ -177,6 +189,100 @@ fn of_options<'a>(topic: Topic, name: &'a str, words: &'a [String]) -> Refusal<'
         previous = text;
     }
     Refusal::Incomplete(topic)
+}
+
+/// Whether a word is this option, alone or with its value.
+fn is_named(option: &str, word: &str) -> bool
+    ensures { result ≡ is_named option.now word.now }
+{
+    before_equals(word) == option
+}
+
+/// Whether words give an option twice.
+fn is_given_twice(option: &str, words: &[String]) -> bool
+    ensures { result ≡ is_given_again false option.now (map string_bytes words.now) }
+{
+    let mut given = false;
+    for word in words {
+        let named = is_named(option, word.as_str());
+        if given && named {
+            return true;
+        }
+        given = given || named;
+    }
+    false
+}
+
+/// The first of these options that is given twice.
+fn repeated<'a>(options: &[JobOption<'a>], words: &[String]) -> Option<&'a str>
+    ensures { option_map (λ option. option.now) result ≡ repeated (map row_of options.now) (map string_bytes words.now) }
+{
+    for option in options {
+        if is_given_twice(option.word, words) {
+            return Some(option.word);
+        }
+    }
+    None
+}
+
+/// The refusal of the words after the name of a job that takes options.
+fn of_words<'a>(topic: Topic, name: &'a str, words: &'a [String]) -> Refusal<'a>
+    ensures { refusal_text result ≡ of_words topic name.now (map string_bytes words.now) }
+{
+    match repeated(options_of(topic), words) {
+        Some(option) => Refusal::Twice(topic, option),
+        None => of_options(topic, name, words),
+    }
+}
+
+/// Whether a word has the value of an option: it is behind the option, or has it after a `=`.
+fn has_value_of(option: &str, awaited: bool, word: &str) -> bool
+    ensures { result ≡ has_value_of option.now awaited word.now }
+{
+    awaited || is_named(option, word) && word != option
+}
+
+/// The value that a word has.
+fn value_in(awaited: bool, word: &str) -> &str
+    ensures { result.now ≡ value_in awaited word.now }
+{
+    if awaited { word } else { behind_equals(word) }
+}
+
+/// The port that an option is given first.
+fn port_given(option: &str, words: &[String]) -> Option<ServicePort>
+    ensures { result ≡ port_given option.now false (map string_bytes words.now) }
+{
+    let mut awaited = false;
+    for word in words {
+        let text = word.as_str();
+        if has_value_of(option, awaited, text) {
+            return ServicePort::read(value_in(awaited, text));
+        }
+        awaited = text == option;
+    }
+    None
+}
+
+/// Whether `--metrics` has the port of `--port`.
+fn has_one_port(words: &[String]) -> bool
+    ensures { result ≡ has_one_port (map string_bytes words.now) }
+{
+    match port_given("--port", words) {
+        Some(port) => is_same_port(port, port_given("--metrics", words)),
+        None => false,
+    }
+}
+
+/// The refusal of the words after `serve`.
+fn of_serve<'a>(name: &'a str, words: &'a [String]) -> Refusal<'a>
+    ensures { refusal_text result ≡ of_serve name.now (map string_bytes words.now) }
+{
+    if has_one_port(words) {
+        Refusal::OnePort
+    } else {
+        of_words(Topic::Serve, name, words)
+    }
 }
 
 /// The refusal of the words after `help`.
@@ -224,10 +330,10 @@ fn of_job<'a>(topic: Topic, name: &'a str, words: &'a [String]) -> Refusal<'a>
     match topic {
         Topic::Help => of_topics(words),
         Topic::Check => of_files(words),
-        Topic::Program | Topic::Script | Topic::Show => of_options(topic, name, words),
-        Topic::Selfrun | Topic::Host | Topic::Serve | Topic::Term | Topic::Operate => {
-            of_options(topic, name, words)
-        }
+        Topic::Serve => of_serve(name, words),
+        Topic::Program | Topic::Script | Topic::Show => of_words(topic, name, words),
+        Topic::Selfrun | Topic::Host | Topic::Term => of_words(topic, name, words),
+        Topic::Operate | Topic::Version => of_words(topic, name, words),
     }
 }
 
@@ -244,58 +350,151 @@ pub fn refusal_of<'a>(words: &'a [String]) -> Refusal<'a>
     }
 }
 
+// ---- the word that was meant
+
+/// Whether a word begins as options do, and is more than a dash.
+fn is_option_like(word: &str) -> bool {
+    is_dashed(word) && word != "-"
+}
+
+/// The name of the job that was probably meant by a word.
+fn similar_job<'a>(alloc: Global, word: &'a str) -> Result<Option<&'a str>, AllocError> {
+    let mut nearest = Nearest::to(alloc, word);
+    for topic in &JOBS {
+        nearest.offer(name_of(*topic))?;
+    }
+    nearest.offer("--help")?;
+    nearest.offer("--version")?;
+    Ok(nearest.found())
+}
+
+/// The option of a job that was probably meant by a word that begins as options do.
+fn similar_option<'a>(
+    alloc: Global,
+    topic: Topic,
+    word: &'a str,
+) -> Result<Option<&'a str>, AllocError> {
+    let mut nearest = Nearest::to(alloc, before_equals(word));
+    if is_option_like(word) {
+        for option in options_of(topic) {
+            nearest.offer(option.word)?;
+        }
+        nearest.offer("--help")?;
+    }
+    Ok(nearest.found())
+}
+
+/// The word that was probably meant by the one that is refused, if there is one.
+pub fn similar_to<'a>(alloc: Global, refusal: &Refusal<'a>) -> Result<Option<&'a str>, AllocError> {
+    match refusal {
+        Refusal::UnknownJob(word) => similar_job(alloc, word),
+        Refusal::Unexpected(topic, word) => similar_option(alloc, *topic, word),
+        _ => Ok(None),
+    }
+}
+
 // ---- printing
 
-impl fmt::Display for Refusal<'_> {
-    ghost use Rattle.std.specs.Prelude.{Some};
-    ghost use Rattle.jobs3270.specs.Refusals.{refusal_text};
+/// A refusal, and the word that was probably meant, if there is one. Prints as two lines: the wrong word, and where help is.
+#[derive(Drop)]
+struct Advice<'a> {
+    refusal: Refusal<'a>,
+    similar: Option<&'a str>,
+}
 
-    ghost output = { λ refusal. Some (refusal_text refusal) };
+/// The word that was probably meant. Prints as a question in brackets.
+#[derive(Clone, Copy)]
+struct Similar<'a> {
+    name: Option<&'a str>,
+}
+
+impl fmt::Display for Similar<'_> {
+    ghost use Rattle.std.specs.Prelude.{Some, option_map};
+    ghost use Rattle.jobs3270.specs.Refusals.{similar_text};
+
+    ghost output = { λ similar. Some (similar_text (option_map (λ name. name.now) similar.name)) };
 
     fn fmt<W: fmt::Write>(&self, f: &mut fmt::Formatter<W>) -> fmt::Result {
-        match self {
+        match self.name {
+            Some(name) => write!(f, " (did you mean '{name}'?)"),
+            None => Ok(()),
+        }
+    }
+}
+
+/// The line that points to the help of a job, after the line before it.
+#[derive(Clone, Copy)]
+struct HelpLine {
+    topic: Topic,
+}
+
+impl fmt::Display for HelpLine {
+    ghost use Rattle.std.specs.Prelude.{Some};
+    ghost use Rattle.jobs3270.specs.Refusals.{help_line};
+
+    ghost output = { λ line. Some (help_line line.topic) };
+
+    fn fmt<W: fmt::Write>(&self, f: &mut fmt::Formatter<W>) -> fmt::Result {
+        let name = name_after(self.topic);
+        write!(f, "\nFor more information, try 'panel3270 help{name}'.")
+    }
+}
+
+impl fmt::Display for Advice<'_> {
+    ghost use Rattle.std.specs.Prelude.{Some, option_map};
+    ghost use Rattle.jobs3270.specs.Refusals.{advice_text};
+
+    ghost output = { λ advice. Some (advice_text (option_map (λ name. name.now) advice.similar) advice.refusal) };
+
+    fn fmt<W: fmt::Write>(&self, f: &mut fmt::Formatter<W>) -> fmt::Result {
+        let similar = Similar { name: self.similar };
+        match &self.refusal {
             Refusal::UnknownJob(word) => {
-                write!(
-                    f,
-                    "error: unknown job '{word}'\nFor more information, try 'panel3270 help'."
-                )
+                let help = HelpLine {
+                    topic: Topic::Program,
+                };
+                write!(f, "error: unknown job '{word}'{similar}{help}")
             }
             Refusal::Unexpected(topic, word) => {
-                let name = name_after(*topic);
-                write!(
-                    f,
-                    "error: unexpected word '{word}'\nFor more information, try 'panel3270 help{name}'."
-                )
+                let help = HelpLine { topic: *topic };
+                write!(f, "error: unexpected word '{word}'{similar}{help}")
             }
             Refusal::Invalid(topic, option, value) => {
-                let name = name_after(*topic);
-                write!(
-                    f,
-                    "error: invalid value '{value}' for '{option}'\nFor more information, try 'panel3270 help{name}'."
-                )
+                let help = HelpLine { topic: *topic };
+                write!(f, "error: invalid value '{value}' for '{option}'{help}")
+            }
+            Refusal::Twice(topic, option) => {
+                let help = HelpLine { topic: *topic };
+                write!(f, "error: '{option}' is given twice{help}")
+            }
+            Refusal::OnePort => {
+                let help = HelpLine {
+                    topic: Topic::Serve,
+                };
+                write!(f, "error: '--metrics' has the port of '--port'{help}")
             }
             Refusal::Incomplete(topic) => {
                 let name = name_after(*topic);
                 let options = options_after(*topic);
-                write!(
-                    f,
-                    "error: expected 'panel3270{name}{options}'\nFor more information, try 'panel3270 help{name}'."
-                )
+                let help = HelpLine { topic: *topic };
+                write!(f, "error: expected 'panel3270{name}{options}'{help}")
             }
             Refusal::NotText => {
-                f.write_str(
-                    "error: a word isn't UTF-8\nFor more information, try 'panel3270 help'.",
-                )
+                let help = HelpLine {
+                    topic: Topic::Program,
+                };
+                write!(f, "error: a word isn't UTF-8{help}")
             }
         }
     }
 }
 
-/// Prints a refusal, and returns the exit status. Lines that can't be written are left out.
-pub fn refuse_words<E: Sink>(refusal: Refusal<'_>, faults: &mut E) -> u8
+/// Prints a refusal, with the word that was probably meant, if there is one, and returns the exit status. Lines that can't be
+/// written are left out.
+pub fn refuse_words<E: Sink>(refusal: Refusal<'_>, similar: Option<&str>, faults: &mut E) -> u8
     ensures status { result ≡ words_refused }
-    ensures told { IsToldIn (E.seen faults.old) (E.seen faults.new) (refusal_text refusal.entry) }
+    ensures told { IsToldIn (E.seen faults.old) (E.seen faults.new) (advice_text (option_map (λ name. name.now) similar.entry) refusal.entry) }
 {
-    let _ = faults.write_line(refusal);
+    let _ = faults.write_line(Advice { refusal, similar });
     WORDS_REFUSED
 }

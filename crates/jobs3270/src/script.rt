@@ -1,19 +1,15 @@
 //! `script`: plays a script in a world of panels and terminals, and prints what the operators see.
-ghost use Rattle.std.specs.Prelude.{◌≡◌, ℕ, List, true, string_bytes, IfOk, IfErr};
+ghost use Rattle.std.specs.Prelude.{◌≡◌, true, string_bytes, IfOk, IfErr};
 ghost use Rattle.std.specs.Str.{IsCharBoundary};
-ghost use Rattle.lu_pool.specs.Reading.{IsFirstFault};
-ghost use Rattle.panels.specs.Defines.{IsReadFrom};
-ghost use Rattle.panels.specs.Panel.{Panels};
-ghost use Rattle.panels.specs.Passes.{IsReason};
 ghost use Rattle.jobs3270.specs.Runs.{EndsPrinting, InPieces, IsEnd, ending_of};
-ghost use Rattle.jobs3270.specs.Scripts.{HasNoWorld, IsApplicationOf, IsHostOf, IsScriptPage, IsWorldOf, behind_line, is_at_mark, lus_of, mark_place, panel_text, script_text};
+ghost use Rattle.jobs3270.specs.Scripts.{HasNoWorld, IsApplicationOf, IsHostOf, IsScriptPage, IsWorldOf, behind_line, is_at_mark, mark_place, of_panels, of_pool, panel_text, script_text};
 ghost use Rattle.jobs3270.specs.declared.task.Task.TheVariants.{Script};
 
 use crate::fault::Fault;
 use crate::player::{MODELS, play};
 use crate::streams::{Sink, Source};
 use crate::task::{Task, run};
-use host_core::Host;
+use host_core::{Host, Terminals};
 use lu_pool::{Pool, PoolFault};
 use panels::{PanelFault, PanelSet};
 use std::alloc::Global;
@@ -124,9 +120,9 @@ pub(crate) fn parted(input: &str) -> (&str, &str)
 
 // ---- what a panel text defines
 
-/// The run's fault for this fault of a panel text.
+/// The run's fault for this fault of a panel text: NoMemory exactly if that is Memory.
 fn of_panels(fault: PanelFault) -> Fault
-    ensures { (text : List ℕ) → IsReason text fault → HasNoWorld text result }
+    ensures { result ≡ of_panels fault }
 {
     match fault {
         PanelFault::Memory => Fault::NoMemory,
@@ -134,9 +130,9 @@ fn of_panels(fault: PanelFault) -> Fault
     }
 }
 
-/// The run's fault for this fault of the LUs' names.
+/// The run's fault for this fault of the LUs' names: NoMemory exactly if that is Memory.
 fn of_pool(fault: PoolFault) -> Fault
-    ensures { (text : List ℕ) (panels : Panels) → IsReadFrom text panels → IsFirstFault (lus_of panels) fault → HasNoWorld text result }
+    ensures { result ≡ of_pool fault }
 {
     match fault {
         PoolFault::Memory => Fault::NoMemory,
@@ -175,18 +171,18 @@ fn world_of(alloc: Global, text: &str) -> Result<World, Fault>
     }
 }
 
-/// The host of a panel text: its panels, and a pool of their LUs.
+/// The host of a panel text, for these terminals: its panels, and a pool of their LUs.
 ///
 /// Panels if the text defines no panels, Pool if their LUs are no pool, and NoMemory if memory is refused.
-pub fn host_of(alloc: Global, text: &str) -> Result<Host, Fault>
-    ensures host { IfOk result (IsHostOf text.now) }
+pub fn host_of(alloc: Global, terminals: Terminals, text: &str) -> Result<Host, Fault>
+    ensures host { IfOk result (IsHostOf terminals text.now) }
     ensures fault { IfErr result (HasNoWorld text.now) }
 {
     let (panels, pool) = match application_of(alloc, text) {
         Ok(parts) => parts,
         Err(fault) => return Err(fault),
     };
-    match Host::new(alloc, panels, pool) {
+    match Host::serving(alloc, terminals, panels, pool) {
         Ok(host) => Ok(host),
         Err(_) => Err(Fault::NoMemory),
     }

@@ -105,9 +105,7 @@ fn command_of_number(verb: &str, number: usize) -> Option<ScriptCommand>
 {
     match verb {
         "connect" => Some(ScriptCommand::Happen(Event::Connect(number, None))),
-        "type" => Some(ScriptCommand::TypeText(number)),
         "act" => Some(ScriptCommand::Happen(Event::Act(number))),
-        "note" => Some(ScriptCommand::Happen(Event::Note(number, note_of("")?))),
         "lose" => Some(ScriptCommand::Happen(Event::Lose(number))),
         "hostsees" => Some(ScriptCommand::Happen(Event::HostSees(number))),
         "termsees" => Some(ScriptCommand::Happen(Event::TermSees(number))),

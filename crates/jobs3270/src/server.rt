@@ -1,17 +1,20 @@
 //! Serves a host over sockets, one turn at a time.
-ghost use Rattle.std.specs.Prelude.{◌≡◌, ◌<◌, IfSome};
+ghost use Rattle.std.specs.Prelude.{◌≡◌, ◌<◌, IfNone, IfSome};
 ghost use Rattle.host_core.specs.State.{most_connections, phase_of, service_at};
 ghost use Rattle.host_core.specs.declared.phase.Phase.TheVariants as phase;
 ghost use Rattle.jobs3270.specs.Notices.{is_bound, is_new, is_shown};
+ghost use Rattle.jobs3270.specs.Sockets.{AreTaken};
 
 use crate::application_fault::ApplicationFault;
+use crate::application_reply::Replaced;
 use crate::fault::Fault;
-use crate::limits::{Activity, Due, are_applied};
+use crate::limits::{Activity, Due, are_applied, awaited_on};
 use crate::notice::{Client, Ending, Notice, Usage, bound_in_turn, ending_of};
 use crate::service::TimeLimits;
+use crate::session_name::SessionName;
 use crate::sockets::Sockets;
 use host_core::{
-    Acted, Answer, Host, MOST_CONNECTIONS, PanelSet, Phase, Question, Rejection, Served, Ticket,
+    Acted, Answer, DroppedKey, Host, MOST_CONNECTIONS, PanelSet, Phase, Question, Rejection, Served, Ticket,
     Turn, serve_turn,
 };
 use mio::net::{TcpListener, TcpStream};
@@ -31,8 +34,8 @@ const MOST_EVENTS: usize = 128;
 /// The most connections that one turn accepts: more than the system queues.
 const MOST_ACCEPTED: usize = 65_536;
 
-/// The most rejections that a host keeps of a connection.
-const MOST_REJECTIONS: usize = 8;
+/// The most rejections that a host keeps of a connection, and the most dropped keys.
+const MOST_REPORTS: usize = 8;
 
 /// The poll token of the listener: no connection has this number.
 const LISTENER: Token = Token(MOST_CONNECTIONS);
@@ -44,6 +47,9 @@ pub trait Watcher {
 
     /// Handles that a question to the application has no answer. A fault ends the turn.
     fn unanswered(&mut self, client: &Client, fault: &ApplicationFault) -> Result<(), Fault>;
+
+    /// Handles that characters of the application's reply were replaced. A fault ends the turn.
+    fn replaced(&mut self, client: &Client, replaced: &Replaced<'_>) -> Result<(), Fault>;
 
     /// Handles that the host showed a screen on a connection. A fault ends the turn.
     fn shown(&mut self, host: &Host, conn: usize) -> Result<(), Fault>
@@ -63,6 +69,10 @@ impl Watcher for Unwatched {
     }
 
     fn unanswered(&mut self, _client: &Client, _fault: &ApplicationFault) -> Result<(), Fault> {
+        Ok(())
+    }
+
+    fn replaced(&mut self, _client: &Client, _replaced: &Replaced<'_>) -> Result<(), Fault> {
         Ok(())
     }
 
@@ -89,6 +99,8 @@ struct ConnectionInfo {
 pub struct Server {
     host: Host,
     sockets: Sockets<TcpStream>,
+    /// The name of the next session. The host counts its sessions likewise, in the tickets of questions.
+    next_session: SessionName,
     /// What is known of each number's last connection.
     infos: Vec<Option<ConnectionInfo>>,
     /// The server's time, in milliseconds.
@@ -124,10 +136,12 @@ fn no_infos(alloc: Global) -> Result<Vec<Option<ConnectionInfo>>, AllocError> {
     Ok(infos)
 }
 
-/// The least free connection number, if there is one.
+/// The least free connection number. None only if no number is free.
 fn free_number(host: &Host) -> Option<usize>
     ensures in_range { IfSome result (λ conn. conn < most_connections) }
     ensures free { IfSome result (λ conn. phase_of (service_at conn host.now) ≡ phase.Free) }
+    ensures least { IfSome result (λ conn. AreTaken conn host.now) }
+    ensures none { IfNone result (AreTaken most_connections host.now) }
 {
     for conn in 0..MOST_CONNECTIONS {
         if let Phase::Free = host.phase(conn) {
@@ -169,12 +183,13 @@ fn is_bound(phase: &Phase) -> bool
 }
 
 impl Server {
-    /// A server of this host at an address; at any free port if its port is 0. NoMemory if memory is refused; CannotListen if the
-    /// system refuses a socket, such as for a port in use.
+    /// A server of a new host at an address; at any free port if its port is 0. `boot`: the first part of the names of its sessions.
+    /// NoMemory if memory is refused; CannotListen if the system refuses a socket, such as for a port in use.
     pub fn new(
         net: &impl Net,
         alloc: Global,
         host: Host,
+        boot: u64,
         address: SocketAddr,
     ) -> Result<Server, Fault> {
         let Ok(sockets) = Sockets::new(alloc) else {
@@ -193,6 +208,7 @@ impl Server {
         Ok(Server {
             host,
             sockets,
+            next_session: SessionName { boot, number: 0 },
             infos,
             now: 0,
             applied: 0,
@@ -234,6 +250,11 @@ impl Server {
     /// The server's time, in milliseconds.
     pub(crate) fn now(&self) -> u64 {
         self.now
+    }
+
+    /// The first part of the names of its sessions.
+    pub(crate) fn boot(&self) -> u64 {
+        self.next_session.boot
     }
 
     /// The host.
@@ -292,6 +313,19 @@ impl Server {
         match self.info(conn) {
             Some(info) => watcher.unanswered(&info.client, fault),
             None => Ok(()),
+        }
+    }
+
+    /// Hands the watcher what was replaced in the reply to a connection's question, if anything was.
+    pub(crate) fn report_replaced<W: Watcher>(
+        &self,
+        conn: usize,
+        replaced: Option<Replaced<'_>>,
+        watcher: &mut W,
+    ) -> Result<(), Fault> {
+        match (self.info(conn), replaced) {
+            (Some(info), Some(replaced)) => watcher.replaced(&info.client, &replaced),
+            _ => Ok(()),
         }
     }
 
@@ -365,7 +399,13 @@ impl Server {
             return Err(Fault::NoMemory);
         }
         self.sockets.open(conn, socket);
-        let client = Client { conn, peer };
+        let session = self.next_session;
+        self.next_session = session.next();
+        let client = Client {
+            conn,
+            session,
+            peer,
+        };
         self.keep_info(ConnectionInfo {
             client,
             activity: Activity::new(self.now),
@@ -401,6 +441,7 @@ impl Server {
         }
         let after = self.host.phase(conn);
         self.report_talk(conn, &before, &after, watcher)?;
+        self.report_dropped_keys(conn, watcher)?;
         if is_shown(pending, self.host.pending(conn), self.host.turn(conn)) {
             self.report_screen(conn, &before, watcher)?;
         }
@@ -422,7 +463,7 @@ impl Server {
     ) -> Result<(), Fault>
         requires { conn < most_connections }
     {
-        for _ in 0..MOST_REJECTIONS {
+        for _ in 0..MOST_REPORTS {
             match self.host.next_rejection(conn) {
                 Some(rejection) => self.report_rejection(conn, rejection, watcher)?,
                 None => break,
@@ -451,6 +492,36 @@ impl Server {
     fn report_bound<W: Watcher>(&self, conn: usize, lu: Lu, watcher: &mut W) -> Result<(), Fault> {
         match self.info(conn) {
             Some(info) => watcher.notice(&Notice::Bound(info.client, lu)),
+            None => Ok(()),
+        }
+    }
+
+    /// Hands the watcher each dropped key of the connection that wasn't reported yet.
+    fn report_dropped_keys<W: Watcher>(
+        &mut self,
+        conn: usize,
+        watcher: &mut W,
+    ) -> Result<(), Fault>
+        requires { conn < most_connections }
+    {
+        for _ in 0..MOST_REPORTS {
+            match self.host.next_dropped_key(conn) {
+                Some(key) => self.report_dropped_key(conn, key, watcher)?,
+                None => break,
+            }
+        }
+        Ok(())
+    }
+
+    /// Hands the watcher a dropped key.
+    fn report_dropped_key<W: Watcher>(
+        &self,
+        conn: usize,
+        key: DroppedKey,
+        watcher: &mut W,
+    ) -> Result<(), Fault> {
+        match self.info(conn) {
+            Some(info) => watcher.notice(&Notice::KeyDropped(info.client, key)),
             None => Ok(()),
         }
     }
@@ -538,12 +609,13 @@ impl Server {
             return Ok(false);
         };
         let (received, sent) = (self.sockets.received(conn), self.sockets.sent(conn));
-        let bound = is_bound(&self.host.phase(conn));
+        let phase = self.host.phase(conn);
+        let awaited = awaited_on(&phase, self.host.turn(conn), self.host.pending(conn));
         let unanswered = info.activity.is_unanswered(received, sent);
-        info.activity.hear(received, sent, self.now);
-        match info.activity.due(limits, bound, self.now) {
+        info.activity.hear(received, sent, awaited, self.now);
+        match info.activity.due(limits, awaited, self.now) {
             Due::Disconnect(overdue) => {
-                self.end(conn, bound, Ending::Dropped(overdue), watcher)?;
+                self.end(conn, is_bound(&phase), Ending::Dropped(overdue), watcher)?;
                 Ok(true)
             }
             Due::KeepAlive => {

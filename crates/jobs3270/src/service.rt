@@ -1,9 +1,10 @@
 //! How `serve` serves: where it listens, its time limits, and what it tells.
 ghost use Rattle.std.specs.Prelude.{◌≡◌};
-ghost use Rattle.jobs3270.specs.OptionValues.{address_of};
+ghost use Rattle.jobs3270.specs.OptionValues.{address_of, written_address};
 
 use crate::job::{ReplyTime, Seconds, ServicePort, UrlText};
-use std::net::IpAddr;
+use host_core::Terminals;
+use std::net::{IpAddr, Ipv4Addr};
 
 /// How long a connection may be silent. 0 seconds: without limit.
 #[derive(Clone, Copy)]
@@ -25,6 +26,8 @@ pub struct Service {
     pub port: ServicePort,
     /// How long connections may be silent.
     pub limits: TimeLimits,
+    /// Which terminals connect.
+    pub terminals: Terminals,
     /// Whether connections are not logged.
     pub quiet: bool,
     /// The port of 127.0.0.1 that answers with metrics, if one does.
@@ -41,8 +44,18 @@ pub struct ApplicationChoice<'a> {
 }
 
 /// The IPv4 or IPv6 address that a word writes, if it writes one.
+fn written_address(word: &str) -> Option<IpAddr>
+    ensures { result ≡ written_address word.now }
+{
+    word.parse::<IpAddr>().ok()
+}
+
+/// The address that a word names: `localhost` is 127.0.0.1, and other words write an IPv4 or IPv6 address.
 pub(crate) fn address_of(word: &str) -> Option<IpAddr>
     ensures { result ≡ address_of word.now }
 {
-    word.parse::<IpAddr>().ok()
+    match word {
+        "localhost" => Some(IpAddr::V4(Ipv4Addr::LOCALHOST)),
+        _ => written_address(word),
+    }
 }

@@ -1,11 +1,13 @@
 //! The streams of a run. They count their failures, so that a contract can say that a run ended early only if a stream failed.
-ghost use Rattle.std.specs.Prelude.{◌≡◌, ◌<◌, ℕ, List, length};
+ghost use Rattle.std.specs.Prelude.{◌≡◌, ◌<◌, ℕ, IsErr, List, Option, Result, length};
 ghost use Rattle.jobs3270.specs.Counted.{reader_in, writer_in};
-ghost use Rattle.jobs3270.specs.Counting.{Input, Output, GivesWithin, Gives, Counts, Writes, WritesLine, bytes_given, chunk_size};
+ghost use Rattle.std.specs.Fmt.{with_newline};
+ghost use Rattle.jobs3270.specs.Counting.{Input, Output, GivesWithin, Gives, Counts, Writes, WritesLine, bytes_given, chunk_size, more};
+ghost use Rattle.jobs3270.specs.RawCalls.{count_taken};
 
-use crate::raw::RawRead;
+use crate::raw::{RawRead, RawWrite};
 use std::fmt::Display;
-use std::io::{ErrorKind, Write};
+use std::io::{self, ErrorKind, Write};
 
 /// The size of the buffer of each read.
 pub(crate) const CHUNK: usize = 4096;
@@ -49,17 +51,28 @@ pub trait Source {
 }
 
 /// The output of a run.
+///
+/// `wrote` relates the sink before a write, the bytes, the result, and the sink after it; `told` does so for a line, by its text and
+/// the newline, if the text is known.
 pub trait Sink {
+    ghost use Rattle.jobs3270.specs.declared.streams.WriteFailed.{WriteFailed};
+
     /// The bytes that it got, if they are known; and how many writes failed. Only failed writes raise this count.
     ghost seen: { Self → Output };
 
+    ghost wrote: { Self → List ℕ → Result Unit WriteFailed → Self → Type 0 };
+
+    ghost told: { Self → Option (List ℕ) → Result Unit WriteFailed → Self → Type 0 };
+
     /// Writes all bytes. A write that fails may have taken some of the first bytes.
     fn write_all(&mut self, bytes: &[u8]) -> Result<(), WriteFailed>
-        ensures { Writes result (seen self.old) (seen self.new) bytes.now };
+        ensures counts { Writes result (seen self.old) (seen self.new) bytes.now }
+        ensures wrote { wrote self.old bytes.now result self.new };
 
     /// Writes a text and a newline.
     fn write_line<D: Display + Drop>(&mut self, text: D) -> Result<(), WriteFailed>
-        ensures { WritesLine result (seen self.old) (seen self.new) (D.output text) };
+        ensures counts { WritesLine result (seen self.old) (seen self.new) (D.output text) }
+        ensures told { told self.old (with_newline (D.output text)) result self.new };
 }
 
 /// Reads once, into a buffer of `CHUNK` bytes.
@@ -132,6 +145,34 @@ impl<R: RawRead> Source for CountedReader<R> {
     }
 }
 
+/// A writer that takes all bytes once its reader has closed the pipe: a reader that needs no more is no fault. What it holds isn't
+/// known.
+#[derive(Drop)]
+pub struct UntilClosed<W> {
+    writer: W,
+}
+
+impl<W: Write> UntilClosed<W> {
+    /// The writer, until its pipe is closed.
+    pub fn new(writer: W) -> UntilClosed<W> {
+        UntilClosed { writer }
+    }
+}
+
+impl<W: Write> Write for UntilClosed<W> {
+    fn write(&mut self, bytes: &[u8]) -> io::Result<usize> {
+        match self.writer.write(bytes) {
+            Ok(count) => Ok(count),
+            Err(error) if error.kind() == ErrorKind::BrokenPipe => Ok(bytes.len()),
+            Err(error) => Err(error),
+        }
+    }
+
+    fn flush(&mut self) -> io::Result<()> {
+        self.writer.flush()
+    }
+}
+
 /// A writer of std's as a sink, with a count.
 #[derive(Drop)]
 pub struct CountedWriter<W> {
@@ -139,7 +180,19 @@ pub struct CountedWriter<W> {
     failures: u64,
 }
 
-impl<W: Write> CountedWriter<W> {
+/// How many bytes a write of at least one byte took: none if it was interrupted. None if it failed.
+fn count_taken(answer: io::Result<usize>) -> Option<usize>
+    ensures { result ≡ count_taken answer }
+{
+    match answer {
+        Ok(0) => None,
+        Ok(count) => Some(count),
+        Err(error) if error.kind() == ErrorKind::Interrupted => Some(0),
+        Err(_) => None,
+    }
+}
+
+impl<W: RawWrite> CountedWriter<W> {
     /// A sink over a writer; the count is 0.
     pub fn new(writer: W) -> CountedWriter<W>
         ensures writer { writer_in result ≡ writer }
@@ -157,10 +210,25 @@ impl<W: Write> CountedWriter<W> {
     {
         self.writer
     }
+
+    /// Counts a failure.
+    fn fail(&mut self) -> Result<(), WriteFailed>
+        ensures failed { IsErr result }
+        ensures counted { self.new ≡ record self.old { failures = more self.old.failures 1 } }
+    {
+        self.failures = self.failures.saturating_add(1);
+        Err(WriteFailed)
+    }
 }
 
-impl<W: Write> Sink for CountedWriter<W> {
+impl<W: RawWrite> Sink for CountedWriter<W> {
+    ghost use Rattle.jobs3270.specs.RawCalls.{WritesAll, WritesOneLine};
+
     ghost seen = { λ s. record { got = W.contents s.writer; failures = s.failures } };
+
+    ghost wrote = { λ old bytes result new. WritesAll W.write_took old.writer bytes result new.writer };
+
+    ghost told = { λ old text result new. WritesOneLine W.line_took old.writer text result new.writer };
 
     fn write_all(&mut self, bytes: &[u8]) -> Result<(), WriteFailed> {
         let mut taken = 0;
@@ -168,27 +236,18 @@ impl<W: Write> Sink for CountedWriter<W> {
             if taken == bytes.len() {
                 return Ok(());
             }
-            match self.writer.write(&bytes[taken..]) {
-                Ok(0) => break,
-                Ok(count) => taken += count,
-                Err(error) => {
-                    if error.kind() != ErrorKind::Interrupted {
-                        break;
-                    }
-                }
+            match count_taken(self.writer.write_once(&bytes[taken..])) {
+                Some(count) => taken += count,
+                None => return self.fail(),
             }
         }
-        self.failures = self.failures.saturating_add(1);
-        Err(WriteFailed)
+        self.fail()
     }
 
     fn write_line<D: Display + Drop>(&mut self, text: D) -> Result<(), WriteFailed> {
-        match self.writer.writeln(text) {
+        match self.writer.write_text_line(text) {
             Ok(()) => Ok(()),
-            Err(_) => {
-                self.failures = self.failures.saturating_add(1);
-                Err(WriteFailed)
-            }
+            Err(_) => self.fail(),
         }
     }
 }

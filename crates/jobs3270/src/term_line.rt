@@ -27,7 +27,6 @@ fn command_of_verb(verb: &str) -> Option<TerminalCommand>
 {
     match verb {
         "" => Some(TerminalCommand::Nothing),
-        "type" => Some(TerminalCommand::TypeText),
         "wait" => Some(TerminalCommand::Wait),
         "show" => Some(TerminalCommand::Show),
         "status" => Some(TerminalCommand::Status),

@@ -1,7 +1,9 @@
 //! The time since a server began.
-ghost use Rattle.std.specs.Prelude.{◌≡◌, ◌≤◌, max};
+ghost use Rattle.std.specs.Prelude.{◌≡◌, ◌≤◌, None};
+ghost use Rattle.std.specs.Time.{instant_nanos};
+ghost use Rattle.jobs3270.specs.Uptimes.{after_reading, millis_between};
 
-use std::time::{Clock, Duration, Instant};
+use std::time::Instant;
 
 /// The milliseconds since a server began, by a monotonic clock. They never go back.
 #[derive(Clone, Copy)]
@@ -10,21 +12,18 @@ pub(crate) struct Uptime {
     millis: u64,
 }
 
-/// The later of two times.
-fn later(millis: u64, read: u64) -> u64
-    ensures { result ≡ max millis read }
+/// The milliseconds from one reading of a clock to another: 0 if the clock went back, and at most 2^64 - 1.
+fn millis_between(start: Instant, now: Instant) -> u64
+    ensures { result ≡ millis_between (instant_nanos start) (instant_nanos now) }
 {
-    millis.max(read)
-}
-
-/// A duration in milliseconds. One of more than 64 bits is taken for 0: no clock has run as long.
-fn millis_of(duration: Duration) -> u64 {
-    u64::try_from(duration.as_millis()).unwrap_or(0)
+    u64::try_from(now.duration_since(start).as_millis()).unwrap_or(u64::MAX)
 }
 
 impl Uptime {
     /// No time: it begins with the first reading of a clock.
-    pub(crate) fn new() -> Uptime {
+    pub(crate) fn new() -> Uptime
+        ensures { result ≡ record { start = None; millis = 0 } }
+    {
         Uptime {
             start: None,
             millis: 0,
@@ -38,15 +37,16 @@ impl Uptime {
         self.millis
     }
 
-    /// Reads the clock. If it fails, or is behind an earlier reading, the time stays.
-    pub(crate) fn read<C: Clock>(&mut self, clock: &C)
-        ensures { self.old.millis ≤ self.new.millis }
+    /// Takes a reading of the clock. If there is none, or it is behind an earlier one, the time stays.
+    pub(crate) fn take(&mut self, reading: Option<Instant>)
+        ensures taken { self.new ≡ after_reading reading self.old }
+        ensures goes_on { self.old.millis ≤ self.new.millis }
     {
-        let Ok(now) = Instant::now(clock) else {
+        let Some(now) = reading else {
             return;
         };
         match self.start {
-            Some(start) => self.millis = later(self.millis, millis_of(now.duration_since(start))),
+            Some(start) => self.millis = self.millis.max(millis_between(start, now)),
             None => self.start = Some(now),
         }
     }

@@ -2,19 +2,26 @@
 //! help; this crate passes the arguments, the standard streams and files.
 #![tactic(auto)]
 
+ghost use Rattle.std.specs.Iterator.{IsFinite};
+
 use jobs3270::{
     ApplicationChoice, CountedReader, CountedWriter, Fault, FileName, Job, LiveOptions, Refusal,
-    Service, Sink, WordFault, end_by, refusal_of, refuse_file, refuse_words, run_check, run_help,
-    run_host, run_operate, run_script, run_selfrun, run_serve, run_show, run_term, run_version,
-    words,
+    Service, Sink, UntilClosed, WordFault, end_by, refusal_of, refuse_file, refuse_words,
+    run_check, run_help, run_host, run_operate, run_script, run_selfrun, run_serve, run_show,
+    run_term, run_version, similar_to, words,
 };
 use std::env;
 use std::fs::File;
-use std::io::{self, ErrorKind};
-use std::net::Net;
+use std::io::{self, ErrorKind, IsTerminal, Stdout};
 use std::process::ExitCode;
 use std::sync::Wait;
-use std::time::Clock;
+
+/// What reports call the standard input.
+const STANDARD_INPUT: &str = "standard input";
+
+/// What `serve` says if an operator has to type the panels.
+const WAITS_FOR_PANELS: &str =
+    "reading panels from standard input; end with Ctrl-D, or give --panels FILE";
 
 /// The arguments after the program's name.
 fn given_words(rt: &HostRuntime) -> io::Result<Vec<String>> {
@@ -38,33 +45,44 @@ fn end_without<E: Sink>(name: &str, why: ErrorKind, faults: &mut E) -> u8 {
     }
 }
 
-/// Serves the panels of a file, or of the standard input if there is none, and returns the exit status.
-fn serve<R: Net + Wait + Clock>(
+/// Serves the panels of a file, or of the standard input if there is none, a turn for each item of `turns`, and returns the exit status.
+fn serve<T: Iterator<Item = ()>>(
     rt: &HostRuntime,
-    waiting: &R,
+    turns: T,
     service: &Service,
     panels: Option<FileName<'_>>,
     application: &ApplicationChoice<'_>,
-) -> u8 {
+) -> u8
+    requires can { T.can_next turns }
+    requires ends { IsFinite (T.remaining turns) }
+{
     let alloc = rt.alloc();
     let mut faults = CountedWriter::new(rt.stderr());
     let Some(panels) = panels else {
-        let mut input = CountedReader::new(rt.stdin());
+        let stdin = rt.stdin();
+        if stdin.is_terminal() {
+            let _ = faults.write_line(WAITS_FOR_PANELS);
+        }
+        let mut input = CountedReader::new(stdin);
         return run_serve(
-            waiting,
+            rt,
             alloc,
+            turns,
             service,
             application,
+            STANDARD_INPUT,
             &mut input,
             &mut faults,
         );
     };
     match open(rt, panels.as_str()) {
         Ok(file) => run_serve(
-            waiting,
+            rt,
             alloc,
+            turns,
             service,
             application,
+            panels.as_str(),
             &mut CountedReader::new(file),
             &mut faults,
         ),
@@ -72,14 +90,19 @@ fn serve<R: Net + Wait + Clock>(
     }
 }
 
+/// The standard output of a job whose reader may close it early, as `head -1` does.
+fn open_ended(rt: &HostRuntime) -> CountedWriter<UntilClosed<Stdout>> {
+    CountedWriter::new(UntilClosed::new(rt.stdout()))
+}
+
 /// Checks the panel text of a file, or of the standard input if there is none, and returns the exit status.
 fn check(rt: &HostRuntime, file: Option<FileName<'_>>) -> u8 {
     let alloc = rt.alloc();
-    let mut out = CountedWriter::new(rt.stdout());
+    let mut out = open_ended(rt);
     let mut faults = CountedWriter::new(rt.stderr());
     let Some(file) = file else {
         let mut input = CountedReader::new(rt.stdin());
-        return run_check(alloc, "standard input", &mut input, &mut out, &mut faults);
+        return run_check(alloc, STANDARD_INPUT, &mut input, &mut out, &mut faults);
     };
     let name = file.as_str();
     match open(rt, name) {
@@ -99,8 +122,11 @@ fn operate(rt: &HostRuntime, options: &LiveOptions) -> u8 {
     run_operate(rt, rt.alloc(), options, input, out, &mut faults)
 }
 
-/// Does a job, and returns the exit status.
-fn do_job<R: Net + Wait + Clock>(rt: &HostRuntime, waiting: &R, job: Job<'_>) -> u8 {
+/// Does a job, and returns the exit status. `serve` takes a turn for each item of `turns`.
+fn do_job<T: Iterator<Item = ()>>(rt: &HostRuntime, turns: T, job: Job<'_>) -> u8
+    requires can { T.can_next turns }
+    requires ends { IsFinite (T.remaining turns) }
+{
     let alloc = rt.alloc();
     let mut input = CountedReader::new(rt.stdin());
     let mut out = CountedWriter::new(rt.stdout());
@@ -117,25 +143,31 @@ fn do_job<R: Net + Wait + Clock>(rt: &HostRuntime, waiting: &R, job: Job<'_>) ->
             service,
             panels,
             application,
-        } => serve(rt, waiting, &service, panels, &application),
+        } => serve(rt, turns, &service, panels, &application),
         Job::Term { port, lu, model } => {
             run_term(rt, port, model, lu, &mut input, &mut out, &mut faults)
         }
         Job::Operate(options) => operate(rt, &options),
-        Job::Help(topic) => run_help(topic, &mut out, &mut faults),
-        Job::Version => run_version(&mut out, &mut faults),
+        Job::Help(topic) => run_help(topic, &mut open_ended(rt), &mut faults),
+        Job::Version => run_version(&mut open_ended(rt), &mut faults),
     }
 }
 
-/// Does what the words ask for, and returns the exit status.
-///
-/// `waiting` is the runtime, too: `main` alone has its leave to wait, and hands it on.
-fn run<R: Net + Wait + Clock>(rt: &HostRuntime, waiting: &R, given: &[String]) -> u8 {
+/// Prints why words are refused, with the word that was probably meant, and returns the exit status.
+fn refuse(rt: &HostRuntime, refusal: Refusal<'_>) -> u8 {
+    // Without memory nothing is suggested.
+    let similar = similar_to(rt.alloc(), &refusal).unwrap_or(None);
+    refuse_words(refusal, similar, &mut CountedWriter::new(rt.stderr()))
+}
+
+/// Does what the words ask for, and returns the exit status. `serve` takes a turn for each item of `turns`.
+fn run<T: Iterator<Item = ()>>(rt: &HostRuntime, turns: T, given: &[String]) -> u8
+    requires can { T.can_next turns }
+    requires ends { IsFinite (T.remaining turns) }
+{
     match words(rt.alloc(), given) {
-        Ok(job) => do_job(rt, waiting, job),
-        Err(WordFault::Refused) => {
-            refuse_words(refusal_of(given), &mut CountedWriter::new(rt.stderr()))
-        }
+        Ok(job) => do_job(rt, turns, job),
+        Err(WordFault::Refused) => refuse(rt, refusal_of(given)),
         Err(WordFault::Memory) => { end_by(Fault::NoMemory, &mut CountedWriter::new(rt.stderr())) }
     }
 }
@@ -145,13 +177,14 @@ fn without_words(rt: &HostRuntime, why: ErrorKind) -> u8 {
     let mut faults = CountedWriter::new(rt.stderr());
     match why {
         ErrorKind::OutOfMemory => end_by(Fault::NoMemory, &mut faults),
-        _ => refuse_words(Refusal::NotText, &mut faults),
+        _ => refuse_words(Refusal::NotText, None, &mut faults),
     }
 }
 
 fn main(rt: HostRuntime) -> ExitCode {
     let status = match given_words(&rt) {
-        Ok(given) => run(&rt, &rt, given.as_slice()),
+        // `serve` ends by a fault alone.
+        Ok(given) => run(&rt, rt.forever(), given.as_slice()),
         Err(error) => without_words(&rt, error.kind()),
     };
     ExitCode::from(status)

@@ -11,6 +11,7 @@ mod appending;
 mod calls;
 mod hosts;
 mod making;
+mod questions;
 mod story;
 mod terminals;
 mod trial;
@@ -18,8 +19,9 @@ mod wire;
 mod worlds;
 
 use crate::named::named;
-use calls::{CALLS, Call};
+use calls::CALLS;
 use std::io::{self, ErrorKind};
+pub use trial::{Answer, Came, Trial, try_on};
 
 fn print_names(rt: &impl Print) -> io::Result<()> {
     for (name, _) in &CALLS {
@@ -28,9 +30,8 @@ fn print_names(rt: &impl Print) -> io::Result<()> {
     Ok(())
 }
 
-/// Tries a call, and prints the result. Whether that is as promised.
-fn tell(rt: &(impl Print + Eprint + AllocGlobal), call: Call) -> io::Result<bool> {
-    let came = call.attempt(rt)?;
+/// Prints the result of a call. Whether that is as promised.
+pub fn print_came(rt: &impl Print, came: Came) -> io::Result<bool> {
     let answer = if came.is_refused { "no memory" } else { "done" };
     let how = if came.is_as_promised {
         "as promised"
@@ -51,7 +52,7 @@ pub fn try_growth(
         return Ok(true);
     };
     match named(&CALLS, name) {
-        Some(call) => tell(rt, call),
+        Some(call) => print_came(rt, call.attempt(rt)?),
         None => Err(io::Error::from(ErrorKind::InvalidInput)),
     }
 }

@@ -24,7 +24,7 @@ pub use case_file::CaseFile;
 pub use dialogue::run_dialogues;
 pub use fault::{Fault, expect, expect_bytes_of, expect_number, expect_of, print_result};
 pub use fuzz::run_fuzz;
-pub use growths::try_growth;
+pub use growths::{Answer, Came, Trial, print_came, try_growth, try_on};
 pub use models::model_number;
 pub use serving::{Range, run_serving};
 pub use speed::{Scale, measure};

@@ -3,6 +3,7 @@
 //! runs/, and runs/sockets has the loops over sockets.
 mod checks;
 mod commands;
+mod growths;
 mod memory;
 mod operators;
 mod streams;
@@ -11,3 +12,4 @@ mod texts;
 
 pub(crate) use checks::try_jobs;
 pub(crate) use commands::run_commands;
+pub(crate) use growths::try_growths;

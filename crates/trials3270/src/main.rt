@@ -17,7 +17,7 @@
 //! serving             connections that break off: trials `serving`
 //! serving-last        the last case of each kind alone
 //! jobs                checks of jobs that the program can't show: `jobs::checks`
-//! growths [CALL]      the call to try; without one the names of all: trials `growths`
+//! growths [CALL]      the call to try; without one the names of all: trials `growths`, and `jobs::growths`
 //! compare-speed       the times of the former code and the present: library_tests `former::figures`
 //! ```
 //!
@@ -27,12 +27,10 @@
 mod jobs;
 
 use anyhow::{Context, Result, ensure};
-use jobs::{run_commands, try_jobs};
+use jobs::{run_commands, try_growths, try_jobs};
 use library_tests::{compare, compare_reports, compare_speed, try_libraries};
 use std::{env, fs};
-use trials::{
-    CaseFile, Range, Scale, measure, run_dialogues, run_fuzz, run_serving, run_worlds, try_growth,
-};
+use trials::{CaseFile, Range, Scale, measure, run_dialogues, run_fuzz, run_serving, run_worlds};
 
 /// Parts with files of cases.
 #[derive(Clone, Copy)]
@@ -135,7 +133,7 @@ impl Checks {
             Checks::Serving => Ok(run_serving(rt, Range::Each)?),
             Checks::ServingLast => Ok(run_serving(rt, Range::Last)?),
             Checks::Jobs => Ok(try_jobs(rt)?),
-            Checks::Growths => Ok(try_growth(rt, detail)?),
+            Checks::Growths => Ok(try_growths(rt, detail)?),
             Checks::CompareSpeed => {
                 compare_speed(rt)?;
                 Ok(true)

@@ -1,10 +1,11 @@
 //! The calls that can answer want of memory, by name.
 use crate::growths::appending::Appends;
 use crate::growths::hosts::{
-    AGREED, Asked, Asks, Hosting, NO_ROOM_FOR_A_COMMAND, NO_ROOM_FOR_A_REPLY, OPENED, READY, Step,
-    WIDE_TALK,
+    AGREED, Asked, Asks, Hosting, NO_ROOM_FOR_A_COMMAND, NO_ROOM_FOR_A_REPLY, OPENED, READY, SHOWN,
+    Step, WIDE_TALK,
 };
 use crate::growths::making::{Maker, Makes};
+use crate::growths::questions::{Asking, Inquires};
 use crate::growths::story::{CLEAR, ENTER};
 use crate::growths::terminals::{Attached, Does};
 use crate::growths::trial::{Came, try_on};
@@ -22,12 +23,14 @@ pub(crate) enum Call {
     Host(Asks, usize, &'static [Step]),
     /// The same with a client of model 5.
     WideHost(Asks, usize, &'static [Step]),
+    /// A call on a host whose question is open.
+    Inquiry(Inquires),
     Terminal(Does),
     World(Lets),
 }
 
 /// Each with its name: the crate's, the call's, and in some cases on what.
-pub(crate) static CALLS: [(&str, Call); 46] = [
+pub(crate) static CALLS: [(&str, Call); 50] = [
     ("telnet_wire:Decoder::new", Call::Make(Makes::Decoder)),
     ("telnet_wire:put_record", Call::Append(Appends::Record)),
     ("telnet_wire:put_option", Call::Append(Appends::Option)),
@@ -114,6 +117,22 @@ pub(crate) static CALLS: [(&str, Call); 46] = [
         "host_core:Host::act,model-5",
         Call::WideHost(Asks::Act, READY, &[Step::Fed(ENTER)]),
     ),
+    (
+        "host_core:Host::question",
+        Call::Inquiry(Inquires::Question),
+    ),
+    (
+        "host_core:Host::answer,message",
+        Call::Inquiry(Inquires::Message),
+    ),
+    (
+        "host_core:Host::answer,value",
+        Call::Inquiry(Inquires::Value),
+    ),
+    (
+        "host_core:Host::note",
+        Call::Host(Asks::Note, SHOWN, &[Step::Fills(NO_ROOM_FOR_A_REPLY)]),
+    ),
     ("host_core:serve_turn", Call::Host(Asks::Serve, READY, &[])),
     (
         "host_core:serve_turn,model-5",
@@ -173,6 +192,7 @@ impl Call {
             Call::WideHost(asks, count, last) => {
                 try_on::<Hosting, _>(rt, Asked::by_model_5(asks, count, last))
             }
+            Call::Inquiry(inquires) => try_on::<Asking, _>(rt, inquires),
             Call::Terminal(does) => try_on::<Attached, _>(rt, does),
             Call::World(lets) => try_on::<Small, _>(rt, lets),
         }

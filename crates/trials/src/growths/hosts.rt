@@ -8,7 +8,7 @@ use crate::growths::wire::Wire;
 use crate::likeness::hosts_look_same;
 use crate::readers::read_host;
 use crate::sign_on::{
-    DO_OTHER, DONE_0, PANELS, WANTS_LU, WANTS_LU_AS_MODEL_5, WANTS_RESPONSES, WILL_TN3270E,
+    DO_OTHER, DONE_0, NOTE, PANELS, WANTS_LU, WANTS_LU_AS_MODEL_5, WANTS_RESPONSES, WILL_TN3270E,
 };
 use codes3270::Model;
 use host_core::{Acted, Host, OUT_ROOM, Phase, Served, serve_turn};
@@ -17,7 +17,7 @@ use std::io;
 use tn3270e_msg::{Fed, REPLY_ROOM, Stop};
 
 /// The connection, and another one, to which nothing happens.
-const CONN: usize = 0;
+pub(crate) const CONN: usize = 0;
 
 const OTHER: usize = 1;
 
@@ -28,6 +28,7 @@ pub(crate) enum Asks {
     /// These lines are fed, and many bytes after them.
     Feed(&'static [&'static [u8]]),
     Act,
+    Note,
     /// A turn of serving, in which Enter comes.
     Serve,
 }
@@ -37,7 +38,7 @@ impl Asks {
     fn lines(self) -> &'static [&'static [u8]] {
         match self {
             Asks::Feed(lines) => lines,
-            Asks::Open | Asks::Act | Asks::Serve => &[],
+            Asks::Open | Asks::Act | Asks::Note | Asks::Serve => &[],
         }
     }
 }
@@ -61,7 +62,7 @@ pub(crate) struct Asked {
 }
 
 /// With a client of model 2: from the offer to the panel to sign on with, and no room for a further command.
-static STORY: [Step; 7] = [
+pub(crate) static STORY: [Step; 7] = [
     Step::Opens,
     Step::Fed(WILL_TN3270E),
     Step::Fed(WANTS_LU),
@@ -85,10 +86,12 @@ static WIDE_STORY: [Step; 7] = [
 /// What that client sends up to agreement.
 pub(crate) const WIDE_TALK: &[&[u8]] = &[WILL_TN3270E, WANTS_LU_AS_MODEL_5, WANTS_RESPONSES];
 
-/// How many steps of a story there are up to the connection's begin, up to agreement, and in all.
+/// How many steps of a story there are up to the connection's begin, up to agreement, up to the panel that is shown, and in all.
 pub(crate) const OPENED: usize = 1;
 
 pub(crate) const AGREED: usize = 4;
+
+pub(crate) const SHOWN: usize = 6;
 
 pub(crate) const READY: usize = 7;
 
@@ -146,7 +149,7 @@ fn fill(host: &mut Host, unsent: usize) {
     }
 }
 
-fn tell(host: &mut Host, steps: &[Step]) {
+pub(crate) fn tell(host: &mut Host, steps: &[Step]) {
     for step in steps {
         match step {
             Step::Opens => {
@@ -169,7 +172,7 @@ fn feed_part(host: &mut Host, bytes: &[u8], from: usize, count: usize) -> Fed {
     host.feed(CONN, rest.get(..count).unwrap_or(rest))
 }
 
-fn answer_of(acted: Acted) -> Answer {
+pub(crate) fn answer_of(acted: Acted) -> Answer {
     match acted {
         Acted::Sent => Answer::Done,
         Acted::Nothing => Answer::Otherwise,
@@ -178,7 +181,7 @@ fn answer_of(acted: Acted) -> Answer {
 }
 
 /// Feeds a positive response to the command that waits for its answer, if one does.
-fn feed_response(host: &mut Host) {
+pub(crate) fn feed_response(host: &mut Host) {
     if let Some(number) = host.pending(CONN) {
         let [high, low] = number.to_be_bytes();
         host.feed(CONN, &[2, 0, 0, high, low, 0, 0xFF, 0xEF]);
@@ -237,6 +240,7 @@ impl Trial for Hosting {
             Asks::Open => open(&mut self.host, CONN),
             Asks::Feed(_) => self.feed(),
             Asks::Act => answer_of(self.host.act(CONN)),
+            Asks::Note => answer_of(self.host.note(CONN, &NOTE)),
             Asks::Serve => self.serve(),
         }
     }

@@ -5,7 +5,7 @@ use std::io;
 
 /// What a call answered.
 #[derive(Clone, Copy)]
-pub(crate) enum Answer {
+pub enum Answer {
     /// It did what it is for.
     Done,
     /// Memory was refused, and nothing has changed.
@@ -25,7 +25,7 @@ pub(crate) fn made<T: Drop, E: Drop>(made: Result<T, E>) -> Answer {
 }
 
 /// A value, and the call on it that is tried.
-pub(crate) trait Trial {
+pub trait Trial {
     /// Which call that is.
     type Call: Copy;
 
@@ -49,7 +49,7 @@ pub(crate) trait Trial {
 
 /// The result of a trial.
 #[derive(Clone, Copy)]
-pub(crate) struct Came {
+pub struct Came {
     /// Whether want of memory was answered.
     pub(crate) is_refused: bool,
     /// Whether value and twin were as the answer promises, and went on alike.
@@ -92,10 +92,7 @@ fn try_with_twin<T: Trial>(rt: &impl Eprint, value: &mut T, twin: &mut T) -> io:
 }
 
 /// Tries a call on a value of a kind.
-pub(crate) fn try_on<T: Trial + Drop, R: Eprint + AllocGlobal>(
-    rt: &R,
-    call: T::Call,
-) -> io::Result<Came> {
+pub fn try_on<T: Trial + Drop, R: Eprint + AllocGlobal>(rt: &R, call: T::Call) -> io::Result<Came> {
     let mut value = T::before(rt.alloc(), call)?;
     let mut twin = T::before(rt.alloc(), call)?;
     try_with_twin(rt, &mut value, &mut twin)

@@ -5,6 +5,7 @@ use crate::fault::Fault;
 use crate::models::MODELS;
 use crate::readers::read_parts;
 use host_core::{Host, MOST_CONNECTIONS, Phase};
+use presentation::Screen;
 use std::alloc::Global;
 use term_core::Terminal;
 use world3270::{Event, Ran, Stepped, World};
@@ -54,6 +55,20 @@ impl WorldFixture {
         requires { number < 4 }
     {
         self.world.terminal(number)
+    }
+
+    /// The screen that the host's last write with restore left on a terminal.
+    pub(crate) fn last_restored(&self, number: usize) -> &Screen
+        requires { number < 4 }
+    {
+        self.world.last_restored(number)
+    }
+
+    /// Whether Erase Input was done at a terminal since then.
+    pub(crate) fn erased(&self, number: usize) -> bool
+        requires { number < 4 }
+    {
+        self.world.erased(number)
     }
 
     /// Whether the host holds an end of a connection.

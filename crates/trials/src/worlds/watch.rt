@@ -1,10 +1,13 @@
 //! Who is at which connection, and whether the headline holds of what is seen there.
 ghost use Rattle.std.specs.Prelude.{◌<◌};
 
+use crate::places::cell_at;
 use crate::worlds::belief::is_believed;
 use crate::worlds::fixture::{TERMINALS, WorldFixture};
 use crate::worlds::scripted_event::ScriptedEvent;
+use codes3270::{Addr, Aid, Cell};
 use host_core::{MOST_CONNECTIONS, Turn};
+use presentation::Screen;
 use term_core::TermPhase;
 
 /// Where a terminal is.
@@ -144,7 +147,7 @@ fn decides(fixture: &WorldFixture, conn: usize) -> bool {
         && fixture.host().pending(conn).is_none()
 }
 
-/// Whether the screen is as the host believes it.
+/// Whether the screen is as the host believes it, and after Enter or a PF key has what the host left.
 fn sees(fixture: &WorldFixture, conn: usize, terminal: usize) -> bool
     requires { terminal < 4 }
 {
@@ -153,4 +156,42 @@ fn sees(fixture: &WorldFixture, conn: usize, terminal: usize) -> bool
             fixture.host().shadow(conn),
             fixture.terminal(terminal).screen(),
         )
+        && keeps_unreturned(fixture, terminal)
+}
+
+/// Whether after Enter or a PF key each unmodified input field has what the host's last write with restore left there, or nulls
+/// if Erase Input was done since.
+fn keeps_unreturned(fixture: &WorldFixture, terminal: usize) -> bool
+    requires { terminal < 4 }
+{
+    let screen = fixture.terminal(terminal).screen();
+    let left = fixture.last_restored(terminal);
+    let erased = fixture.erased(terminal);
+    if !matches!(screen.aid(), Aid::Enter | Aid::Pf(_)) {
+        return true;
+    }
+    (0..screen.size().cells()).all(|place| {
+        !is_unmodified_input(screen, place)
+            || cell_at(screen, place) == cell_left(left, erased, place)
+    })
+}
+
+/// What the host left in a cell of an input field: a null if Erase Input was done since.
+fn cell_left(left: &Screen, erased: bool, place: u16) -> Option<Cell> {
+    if erased {
+        Some(Cell::Char(0))
+    } else {
+        cell_at(left, place)
+    }
+}
+
+/// Whether a cell is a character of an unprotected field with MDT off.
+fn is_unmodified_input(screen: &Screen, place: u16) -> bool {
+    let Some(at) = Addr::new(place, screen.size()) else {
+        return false;
+    };
+    match (screen.cell(at), screen.attribute_over(at)) {
+        (Cell::Char(_), Some(attr)) => !attr.protected && !attr.mdt,
+        _ => false,
+    }
 }

@@ -1,8 +1,8 @@
 //! Checks of the jobs that the program itself can't show.
 use crate::jobs::operators::an_operator_types;
 use crate::jobs::streams::{
-    a_script_tells_of_its_writer, broken_input_is_refused, input_is_limited,
-    output_that_fails_is_told,
+    a_script_tells_of_its_writer, an_interrupted_write_is_repeated, broken_input_is_refused,
+    input_is_limited, output_that_fails_is_told,
 };
 use crate::jobs::terminals::{an_operator_signs_on, runs_end_early, waits_end};
 use jobs3270::typed_text;
@@ -16,6 +16,7 @@ enum Check {
     LongInput,
     FailingOutput,
     FailingOutputOfAScript,
+    InterruptedOutput,
     Session,
     Waits,
     EarlyEnds,
@@ -24,7 +25,7 @@ enum Check {
 }
 
 /// Each check, and what it shows, in words.
-static CHECKS: [(Check, &str); 9] = [
+static CHECKS: [(Check, &str); 10] = [
     (Check::BrokenInput, "input that breaks off is refused"),
     (
         Check::LongInput,
@@ -37,6 +38,10 @@ static CHECKS: [(Check, &str); 9] = [
     (
         Check::FailingOutputOfAScript,
         "a script tells of output that fails, not of its line",
+    ),
+    (
+        Check::InterruptedOutput,
+        "a write that is interrupted is made again",
     ),
     (
         Check::Session,
@@ -67,6 +72,7 @@ impl Check {
             Check::LongInput => input_is_limited(alloc),
             Check::FailingOutput => output_that_fails_is_told(alloc),
             Check::FailingOutputOfAScript => a_script_tells_of_its_writer(alloc),
+            Check::InterruptedOutput => an_interrupted_write_is_repeated(alloc),
             Check::Session => an_operator_signs_on(alloc),
             Check::Waits => waits_end(alloc),
             Check::EarlyEnds => runs_end_early(alloc),

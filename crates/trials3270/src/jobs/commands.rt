@@ -14,7 +14,7 @@ use std::alloc::{AllocError, Global};
 use std::io;
 use trials::CaseFile;
 
-fn push_words(given: &mut Vec<String>, line: &str) -> Result<(), AllocError> {
+pub(crate) fn push_words(given: &mut Vec<String>, line: &str) -> Result<(), AllocError> {
     for word in line.split_whitespace() {
         given.push(String::from_str(*given.allocator(), word)?)?;
     }

@@ -53,15 +53,20 @@ impl Read for Pieces<'_> {
     }
 }
 
-/// Takes bytes as long as it has room for whole writes.
+/// Takes bytes as long as it has room for whole writes. Its first writes are interrupted.
 #[derive(Drop)]
 pub(crate) struct Paper {
     pub(crate) text: Vec<u8>,
     room: usize,
+    interruptions: u32,
 }
 
 impl Write for Paper {
     fn write(&mut self, bytes: &[u8]) -> io::Result<usize> {
+        if self.interruptions > 0 {
+            self.interruptions -= 1;
+            return Err(io::Error::from(ErrorKind::Interrupted));
+        }
         if self.room < bytes.len() {
             return Err(io::Error::from(ErrorKind::StorageFull));
         }
@@ -77,9 +82,19 @@ impl Write for Paper {
 
 /// A writer with room for this number of bytes.
 pub(crate) fn paper_with(alloc: Global, room: usize) -> CountedWriter<Paper> {
+    interrupted_paper(alloc, room, 0)
+}
+
+/// A writer whose first writes are interrupted, this number of them.
+pub(crate) fn interrupted_paper(
+    alloc: Global,
+    room: usize,
+    interruptions: u32,
+) -> CountedWriter<Paper> {
     CountedWriter::new(Paper {
         text: Vec::new(alloc),
         room,
+        interruptions,
     })
 }
 

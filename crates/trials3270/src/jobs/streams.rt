@@ -1,5 +1,5 @@
 //! Runs of show and script whose input breaks off or is long, or whose output fails. A helper owns one run, and compares how it ended.
-use crate::jobs::memory::{Paper, Pieces, expect_written, paper_with};
+use crate::jobs::memory::{Paper, Pieces, expect_written, interrupted_paper, paper_with};
 use codes3270::Model;
 use jobs3270::{CountedReader, CountedWriter, MOST_BYTES, MOST_READS, run_script, run_show};
 use std::alloc::{AllocError, Global};
@@ -120,6 +120,31 @@ pub(crate) fn output_that_fails_is_told(alloc: Global) -> Result<(), Fault> {
         fails_with_room(alloc, room)?;
     }
     expect_status(alloc, Pieces::whole(REFUSED_AND_SHOWN), whole, 0)
+}
+
+/// A command that is refused, and a line that isn't a command.
+const REFUSED_AND_NOT_HEX: &[u8] = b"F5\n%\n";
+
+/// Expects `run_show` to print its page and its fault, though the first writes of both outputs are interrupted.
+fn expect_uninterrupted(alloc: Global, interruptions: u32) -> Result<(), Fault> {
+    let mut input = CountedReader::new(Pieces::whole(REFUSED_AND_NOT_HEX));
+    let mut out = interrupted_paper(alloc, usize::MAX, interruptions);
+    let mut faults = interrupted_paper(alloc, usize::MAX, interruptions);
+    let status = run_show(alloc, Model::M2, &mut input, &mut out, &mut faults);
+    let outcome = outcome_of(status, out, faults);
+    expect_written(
+        alloc,
+        "output: ",
+        "refused OPERATION-CHECK\n",
+        outcome.out.as_slice(),
+    )?;
+    expect_end(alloc, &outcome, 1, "line 2: not hex\n")
+}
+
+/// A write that is interrupted is made again, of the page and of a fault.
+pub(crate) fn an_interrupted_write_is_repeated(alloc: Global) -> Result<(), Fault> {
+    expect_uninterrupted(alloc, 1)?;
+    expect_uninterrupted(alloc, 3)
 }
 
 /// Two lines of a script, of which the first prints `idle`, and the second isn't understood.

@@ -1,5 +1,6 @@
 //! The commands of lines and of words, as texts: what a script would spell, with all defaults filled in.
 use codes3270::Model;
+use host_core::Terminals;
 use jobs3270::{
     ApplicationChoice, FileName, Job, LiveOptions, Port, ScriptCommand, Service, TerminalCommand,
     Topic, TtySize, WordFault, typed_text,
@@ -106,6 +107,7 @@ fn topic_name(topic: Topic) -> &'static str {
         Topic::Term => "term",
         Topic::Operate => "operate",
         Topic::Help => "help",
+        Topic::Version => "version",
     }
 }
 
@@ -117,12 +119,13 @@ fn write_file<W: Write>(f: &mut Formatter<W>, file: &Option<FileName<'_>>) -> fm
     }
 }
 
-/// How `serve` serves: its address and port, its time limits, and what it tells.
+/// How `serve` serves: its address and port, its time limits, whether all terminals are its own, and what it tells.
 fn write_service<W: Write>(f: &mut Formatter<W>, service: &Service) -> fmt::Result {
     let Service {
         listen,
         port,
         limits,
+        terminals,
         quiet,
         metrics,
     } = service;
@@ -132,6 +135,9 @@ fn write_service<W: Write>(f: &mut Formatter<W>, service: &Service) -> fmt::Resu
     write!(f, ", {negotiate} {keepalive} {} seconds", limits.idle.get())?;
     if let Some(metrics) = metrics {
         write!(f, ", metrics at {}", metrics.get())?;
+    }
+    if let Terminals::Waiting = terminals {
+        f.write_str(", own terminals")?;
     }
     if *quiet {
         f.write_str(", quiet")

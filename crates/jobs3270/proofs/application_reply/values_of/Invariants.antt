@@ -1,10 +1,10 @@
 use Rattle.std.proofs.Common.{◌≡◌, [], drop}
 use Rattle.jobs3270.specs.Applications.{with_texts}
-use Rattle.jobs3270.proofs.Replies.{AreGoodBefore}
+use Rattle.jobs3270.proofs.Replies.{AreKnownBefore}
 use Rattle.jobs3270.proofs.application_reply.values_of.Given as goal
 
 abbrev pub invariant-loop-field : goal.invariant-loop-field
 invariant-loop-field l = record {
   values : with_texts l.panels (drop l.field-index l.fields) l.values ≡ with_texts l.panels l.fields [];
-  before : AreGoodBefore l.panels l.fields (drop l.field-index l.fields);
+  before : AreKnownBefore l.panels l.fields l.values (drop l.field-index l.fields);
 }
