@@ -7,7 +7,7 @@ use Rattle.panels.specs.Defines.{DefinesOnce}
 use Rattle.panels.specs.Panel.{Panels}
 use Rattle.world3270.specs.ByteRuns.{refused_at}
 use Rattle.world3270.specs.ByteSteps.{Steps}
-use Rattle.host_core.specs.declared.terminals.Terminals.TheVariants.{Waiting}
+use Rattle.host_core.specs.declared.terminals.Terminals.{Terminals}
 use Rattle.world3270.specs.ByteWorld.{ByteWorld, new_byte_world}
 use Rattle.world3270.specs.OneOutcome.{StepsAreOne}
 use Rattle.world3270.specs.declared.event.Event.{Event}
@@ -177,16 +177,16 @@ same_lus (first ∷ others) (rival ∷ rivals) same =
 one_pool : (read : List (Option (List ℕ))) (pool other : List Entry) → IsPoolReadFrom read pool → IsPoolReadFrom read other → pool ≡ other
 one_pool read pool other is also = is.free ∙ same_lus pool other (sym is.lus ∙ also.lus) ∙ sym also.free
 
-one_world : DefinesOnce → (text : List ℕ) (world other : ByteWorld) → IsWorldOf text world → IsWorldOf text other → world ≡ other
-one_world defines_once text world other is also =
+one_world : DefinesOnce → (serves : Terminals) (text : List ℕ) (world other : ByteWorld) → IsWorldOf serves text world → IsWorldOf serves text other → world ≡ other
+one_world defines_once serves text world other is also =
     let panels : is.panels ≡ also.panels = defines_once text is.panels also.panels is.panels_read also.panels_read in
     let pool : is.pool ≡ also.pool =
     one_pool (lus_of is.panels) is.pool also.pool is.pool_read (subst (λ (set : Panels). IsPoolReadFrom (lus_of set) also.pool) (sym panels) also.pool_read) in
-    is.world_is ∙ ap (λ (set : Panels). new_byte_world Waiting set is.pool terminal_models) panels
-    ∙ ap (λ (list : List Entry). new_byte_world Waiting also.panels list terminal_models) pool ∙ sym also.world_is
+    is.world_is ∙ ap (λ (set : Panels). new_byte_world serves set is.pool terminal_models) panels
+    ∙ ap (λ (list : List Entry). new_byte_world serves also.panels list terminal_models) pool ∙ sym also.world_is
 
 pub one_script_page : DefinesOnce → StepsAreOne → ScriptsHaveOnePage
-one_script_page defines_once steps_are_one input page other stopped ended is also =
-    let old : is.old ≡ also.old = one_world defines_once (panel_text input) is.old also.old is.begins also.begins in
+one_script_page defines_once steps_are_one serves input page other stopped ended is also =
+    let old : is.old ≡ also.old = one_world defines_once serves (panel_text input) is.old also.old is.begins also.begins in
     one_playing steps_are_one (lines_of (script_text input)) 1 is.old is.new also.new is.is_played.happenings also.is_played.happenings page other stopped ended is.is_played.plays
     (subst (λ (world : ByteWorld). Plays 1 (lines_of (script_text input)) world also.is_played.happenings other ended also.new) (sym old) also.is_played.plays)

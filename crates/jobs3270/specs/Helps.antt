@@ -10,7 +10,7 @@ use Rattle.jobs3270.specs.declared.job.Topic.TheVariants as topic
 -- the text about a topic, without the newline at its end
 abbrev pub help_text : Topic → List ℕ
 help_text topic.Program = codes "panel3270: TN3270E hosts and terminals, and 3270 screens\n\nusage: panel3270 [JOB] < INPUT\n\njobs:\n  script    serve panels to terminals, which do commands; this is the job if no word is given\n  selfrun   do the same over sockets\n  show      apply commands of the data stream, in hexadecimal, to a blank screen, and print it\n  check     print every fault of a panel text\n  host      serve panels to terminals that connect to 127.0.0.1, for a number of turns\n  serve     serve panels to terminals that connect, without end\n  term      be a terminal of the host at 127.0.0.1, and do commands\n  operate   be a terminal of the host at 127.0.0.1, for an operator at a tty\n  help      print this text, or with a job's name the help of that job\n  version   print the version\n\noptions:\n  -h, --help      print this text, or after a job the help of that job\n  -V, --version   print the version\n\nINPUT is UTF-8 of at most 1048576 bytes, in lines that end with LF, which the last may lack.\nstatus: 0 done, 1 input refused, 2 words refused, 3 no memory, 4 socket failed, 5 turns over, 6 output failed"
-help_text topic.Script = codes "usage: panel3270 [script] < INPUT\n\nServe panels to four terminals, of models 2 to 5, which do commands, and print what their operators see.\n\nINPUT is panels in TOML, a line %%, and commands, one a line."
+help_text topic.Script = codes "usage: panel3270 [script] [--any-terminal] < INPUT\n\nServe panels to four terminals, of models 2 to 5, which do commands, and print what their operators see.\n\noptions:\n  --any-terminal   the host serves any terminal, as that of serve does, and so doesn't rely on these, which wait\n\nINPUT is panels in TOML, a line %%, and commands, one a line."
 help_text topic.Show = codes "usage: panel3270 show [--model M] < INPUT\n\nApply commands of the 3270 data stream to a blank screen, and print it.\n\noptions:\n  --model M   the model of the screen, 2 to 5 [default: 2]\n\nINPUT is commands, one a line: pairs of hexadecimal digits, and blanks; no tab, CR or comment."
 help_text topic.Selfrun = codes "usage: panel3270 selfrun [--turns N] < INPUT\n\nServe panels to four terminals, of models 2 to 5, over sockets of this machine. The terminals do commands. Print what their operators see.\n\noptions:\n  --turns N   the number of turns, 1 to 1000000 [default: 10000]\n\nINPUT is panels in TOML, a line %%, and commands, one a line."
 help_text topic.Check = codes "usage: panel3270 check [FILE]\n\nPrint every fault of a panel text, and warnings, each with its line. Without FILE the text is standard input.\n\nFILE is panels in TOML. A line %% ends them."

@@ -61,7 +61,7 @@ OnInput Came old new Has = (text : List ℕ) × IsInput old new text × Came tex
 
 -- the page of a task's input, and the number of the line that ends it, if any
 abbrev pub IsPageBy : Task → (text page : List ℕ) → Option ℕ → Type 0
-IsPageBy Script text page stopped = IsScriptPage text page stopped
+IsPageBy (Script serves) text page stopped = IsScriptPage serves text page stopped
 IsPageBy (Show model) text page stopped = IsPage model text page stopped
 
 -- that page was written
@@ -81,13 +81,13 @@ pub record WritesInPart (task : Task) (text : List ℕ) (old new : Output) : Typ
 abbrev pub EndsPrinting : Task → Option Fault → (text : List ℕ) (old new : Output) → Type 0
 EndsPrinting task None text old new = Writes task text old new None
 EndsPrinting task (Some InputNotRead) text old new = ⊥
-EndsPrinting Script (Some (Panels fault)) text old new = HasPanelFault (panel_text text) fault × Untouched old new
+EndsPrinting (Script serves) (Some (Panels fault)) text old new = HasPanelFault (panel_text text) fault × Untouched old new
 EndsPrinting (Show model) (Some (Panels fault)) text old new = ⊥
-EndsPrinting Script (Some (Pool fault)) text old new = HasPoolFault (panel_text text) fault × Untouched old new
+EndsPrinting (Script serves) (Some (Pool fault)) text old new = HasPoolFault (panel_text text) fault × Untouched old new
 EndsPrinting (Show model) (Some (Pool fault)) text old new = ⊥
-EndsPrinting Script (Some (NotHex line)) text old new = ⊥
+EndsPrinting (Script serves) (Some (NotHex line)) text old new = ⊥
 EndsPrinting (Show model) (Some (NotHex line)) text old new = Writes (Show model) text old new (Some line)
-EndsPrinting Script (Some (NotUnderstood line)) text old new = Writes Script text old new (Some line)
+EndsPrinting (Script serves) (Some (NotUnderstood line)) text old new = Writes (Script serves) text old new (Some line)
 EndsPrinting (Show model) (Some (NotUnderstood line)) text old new = ⊥
 EndsPrinting task (Some NoMemory) text old new = Untouched old new
 EndsPrinting task (Some SocketFailed) text old new = ⊥

@@ -4,7 +4,6 @@ use Rattle.std.specs.List.{after_first, starts_with}
 use Rattle.tn3270e_msg.specs.Lu.{lu_of}
 use Rattle.host_core.specs.State.{Host, host_for}
 use Rattle.host_core.specs.declared.terminals.Terminals.{Terminals}
-use Rattle.host_core.specs.declared.terminals.Terminals.TheVariants.{Waiting}
 use Rattle.lu_pool.specs.Reading.{IsReadFrom as IsPoolReadFrom, IsRight, IsFirstFault}
 use Rattle.lu_pool.specs.declared.entry.Entry.{Entry}
 use Rattle.lu_pool.specs.declared.fault.PoolFault.{PoolFault}
@@ -49,14 +48,15 @@ script_text input = behind_line (drop (mark_place true input) input)
 abbrev pub lus_of : PanelsRead → List (Option (List ℕ))
 lus_of panels = map lu_of panels.lus
 
--- the text's panels, a pool of their LUs, and terminals of models 2 to 5; the text and the names have no fault
-pub record IsWorldOf (text : List ℕ) (world : ByteWorld) : Type 0 where
+-- the text's panels, a pool of their LUs, a host that serves such terminals, and terminals of models 2 to 5; the text and the names have
+-- no fault
+pub record IsWorldOf (serves : Terminals) (text : List ℕ) (world : ByteWorld) : Type 0 where
   pub panels : PanelsRead
   pub panels_read : IsReadFrom text panels
   pub pool : List Entry
   pub pool_read : IsPoolReadFrom (lus_of panels) pool
   pub lus_right : IsRight (lus_of panels)
-  pub world_is : world ≡ new_byte_world Waiting panels pool terminal_models
+  pub world_is : world ≡ new_byte_world serves panels pool terminal_models
 
 -- the text's panels, and a pool of their LUs; the text and the names have no fault
 pub record IsApplicationOf (text : List ℕ) (panels : PanelsRead) (pool : List Entry) : Type 0 where
@@ -110,14 +110,15 @@ HasNoWorld text _ = ⊥
 
 -- ---- the page
 
--- The page of an input: the output of its script, up to the first line that isn't understood, if any.
-pub record IsScriptPage (input page : List ℕ) (stopped : Option ℕ) : Type 0 where
+-- The page of an input, with a host that serves such terminals: the output of its script, up to the first line that isn't understood, if
+-- any.
+pub record IsScriptPage (serves : Terminals) (input page : List ℕ) (stopped : Option ℕ) : Type 0 where
   pub old : ByteWorld
-  pub begins : IsWorldOf (panel_text input) old
+  pub begins : IsWorldOf serves (panel_text input) old
   pub new : ByteWorld
   pub is_played : IsPlayed (script_text input) old page stopped new
 
 -- An input has one page, and one number of the line that isn't understood, if any.
 abbrev pub ScriptsHaveOnePage : Type 0
-ScriptsHaveOnePage = (input page other : List ℕ) (stopped ended : Option ℕ) → IsScriptPage input page stopped → IsScriptPage input other ended
+ScriptsHaveOnePage = (serves : Terminals) (input page other : List ℕ) (stopped ended : Option ℕ) → IsScriptPage serves input page stopped → IsScriptPage serves input other ended
     → (page ≡ other) × (stopped ≡ ended)

@@ -6,7 +6,7 @@ use Rattle.jobs3270.specs.declared.fault.Fault.TheVariants as fault
 
 module _ {S : Type 0} (served timed : S → Bool → Result Bool Fault → S → Type 0) (consulted : S → Result Bool Fault → S → Type 0)
     (told : S → Bool → S → Type 0) where
-  -- A whole turn: each connection is served, the time limits are kept, the application is consulted, and the watcher is told.
+  -- A whole turn: each connection is served, the time limits are kept, the application is consulted, and the watcher hears of it.
   pub record TakesWhole (old : S) (busy : Bool) (did : Bool) (new : S) : Type 0 where
     pub after_serving : S
     pub after_time : S

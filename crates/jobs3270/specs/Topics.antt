@@ -67,6 +67,7 @@ optional name kind = record { name = name; word = codes "--" ++ name; kind = kin
 
 -- the options of a job
 abbrev pub options_of : Topic → List OptionRow
+options_of topic.Script = optional (codes "any-terminal") kind.Flag ∷ []
 options_of topic.Show = optional (codes "model") kind.Model ∷ []
 options_of topic.Selfrun = optional (codes "turns") kind.Turns ∷ []
 options_of topic.Host = needed (codes "port") kind.Port ∷ optional (codes "turns") kind.Turns ∷ []

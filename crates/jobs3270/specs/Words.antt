@@ -100,6 +100,10 @@ is_given flag options = option_map_or (λ word. bytes_eq word (codes "true")) (f
 abbrev pub given_terminals : List Row → Terminals
 given_terminals options = if is_given (codes "own-terminals") options then Waiting else Any
 
+-- which terminals the host of a script serves: the script's wait, but it need not rely on that
+abbrev pub given_script_terminals : List Row → Terminals
+given_script_terminals options = if is_given (codes "any-terminal") options then Any else Waiting
+
 abbrev pub given_limits : List Row → Option TimeLimits
 given_limits options =
     option_and_then (λ negotiate. option_and_then (λ keepalive. option_map (λ idle. record { negotiate = negotiate; keepalive = keepalive; idle = idle })
@@ -148,7 +152,7 @@ given_topic options = option_map_or topic_named (first_of (codes "job") options)
 -- the job of a topic with these options
 abbrev pub job_of : Topic → List Row → Option Job
 job_of topic.Program options = None
-job_of topic.Script options = Some job.Script
+job_of topic.Script options = Some (job.Script (given_script_terminals options))
 job_of topic.Show options = option_map (λ model. job.Show model) (given_model options)
 job_of topic.Selfrun options = option_map (λ turns. job.Selfrun turns) (given_turns options)
 job_of topic.Check options = Some (job.Check (first_of (codes "file") options))
@@ -167,7 +171,7 @@ job_named name options = option_and_then (λ topic. job_of topic options) (topic
 
 -- without arguments the job is `script`
 abbrev pub job_by : Option (List ℕ × List Row) → Option Job
-job_by None = Some job.Script
+job_by None = Some (job.Script Waiting)
 job_by (Some named) = job_named named.0 named.1
 
 -- The last word is `--`, which ends the options: nothing follows it. `dashes`: the word before these is.

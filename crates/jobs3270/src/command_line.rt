@@ -5,7 +5,7 @@ ghost use Rattle.clap.specs.Simple.{new_rule, subcommand_rows_of};
 ghost use Rattle.clap.specs.Matches.{found_of};
 ghost use Rattle.jobs3270.specs.OptionValues.{is_same_port};
 ghost use Rattle.jobs3270.specs.Topics.{row_of};
-ghost use Rattle.jobs3270.specs.Words.{HasNoJob, IsJobOf, program, job_by, job_named, job_of, given_address, given_application, given_limits, given_live_options, given_lu, given_metrics, given_model, given_port, given_reply_time, given_seconds, given_service, given_service_port, given_terminals, given_topic, given_tty, given_turns, ends_by_dashes, is_given, job_shape, job_taken, operand_rules, option_rule, sound_service, topic_of};
+ghost use Rattle.jobs3270.specs.Words.{HasNoJob, IsJobOf, program, job_by, job_named, job_of, given_address, given_application, given_limits, given_live_options, given_lu, given_metrics, given_model, given_port, given_reply_time, given_script_terminals, given_seconds, given_service, given_service_port, given_terminals, given_topic, given_tty, given_turns, ends_by_dashes, is_given, job_shape, job_taken, operand_rules, option_rule, sound_service, topic_of};
 ghost use Rattle.jobs3270.specs.ClapCommands.{AddsArguments, AddsJobs, IsArgument, IsCommand, IsJob, IsMatch, MayFail, job_or_fault};
 
 use crate::help::VERSION;
@@ -262,6 +262,17 @@ fn terminals_in(options: &ArgMatches<'_>) -> Terminals
     }
 }
 
+/// Which terminals the host of a script serves: any if `--any-terminal` is given, else those that wait.
+fn script_terminals_in(options: &ArgMatches<'_>) -> Terminals
+    ensures { result ≡ given_script_terminals (rows_of (found_of options.now)) }
+{
+    if is_given(options, "any-terminal") {
+        Terminals::Any
+    } else {
+        Terminals::Waiting
+    }
+}
+
 /// How `serve` serves.
 fn service_in(options: &ArgMatches<'_>) -> Option<Service>
     ensures { result ≡ given_service (rows_of (found_of options.now)) }
@@ -363,7 +374,9 @@ fn job_of<'a>(topic: Topic, options: &ArgMatches<'a>) -> Option<Job<'a>>
 {
     let job = match topic {
         Topic::Program => return None,
-        Topic::Script => Job::Script,
+        Topic::Script => Job::Script {
+            terminals: script_terminals_in(options),
+        },
         Topic::Show => Job::Show {
             model: model_in(options)?,
         },
@@ -410,7 +423,9 @@ fn job_in<'a>(matches: &ArgMatches<'a>) -> Option<Job<'a>>
 {
     match matches.subcommand() {
         Some((name, options)) => job_named(name, options),
-        None => Some(Job::Script),
+        None => Some(Job::Script {
+            terminals: Terminals::Waiting,
+        }),
     }
 }
 

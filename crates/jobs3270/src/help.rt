@@ -1,6 +1,7 @@
 //! `help` and `--version`: the texts that tell how the program is used.
 ghost use Rattle.std.specs.Prelude.{◌≡◌};
 ghost use Rattle.jobs3270.specs.Helps.{PrintsLine, help_text, version_text};
+ghost use Rattle.jobs3270.specs.declared.job.Topic.TheVariants.{Serve as ServeTopic, Operate as OperateTopic};
 
 use crate::fault::Fault;
 use crate::job::Topic;
@@ -30,9 +31,12 @@ options:
 INPUT is UTF-8 of at most 1048576 bytes, in lines that end with LF, which the last may lack.
 status: 0 done, 1 input refused, 2 words refused, 3 no memory, 4 socket failed, 5 turns over, 6 output failed";
 
-const SCRIPT: &str = "usage: panel3270 [script] < INPUT
+const SCRIPT: &str = "usage: panel3270 [script] [--any-terminal] < INPUT
 
 Serve panels to four terminals, of models 2 to 5, which do commands, and print what their operators see.
+
+options:
+  --any-terminal   the host serves any terminal, as that of serve does, and so doesn't rely on these, which wait
 
 INPUT is panels in TOML, a line %%, and commands, one a line.";
 
@@ -126,6 +130,20 @@ Print the version of the program.";
 /// The program's name and version.
 pub(crate) const VERSION: &str = "panel3270 1.1";
 
+/// The text about `serve`. It and the next have functions of their own, since the prover compares only so much text in one.
+fn serve_text() -> &'static str
+    ensures { result.now ≡ help_text ServeTopic }
+{
+    SERVE
+}
+
+/// The text about `operate`.
+fn operate_text() -> &'static str
+    ensures { result.now ≡ help_text OperateTopic }
+{
+    OPERATE
+}
+
 /// The text about a topic, without the newline at its end.
 fn help_text(topic: Topic) -> &'static str
     ensures { result.now ≡ help_text topic }
@@ -137,9 +155,9 @@ fn help_text(topic: Topic) -> &'static str
         Topic::Selfrun => SELFRUN,
         Topic::Check => CHECK,
         Topic::Host => HOST,
-        Topic::Serve => SERVE,
+        Topic::Serve => serve_text(),
         Topic::Term => TERM,
-        Topic::Operate => OPERATE,
+        Topic::Operate => operate_text(),
         Topic::Help => HELP,
         Topic::Version => VERSION_HELP,
     }

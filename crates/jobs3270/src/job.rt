@@ -6,6 +6,7 @@ use crate::script_line::number_of;
 use crate::service::{ApplicationChoice, Service};
 use crate::tty_size::TtySize;
 use codes3270::Model;
+use host_core::Terminals;
 use std::marker;
 use tn3270e_msg::Lu;
 
@@ -402,8 +403,10 @@ pub struct LiveOptions {
 /// A job of the program.
 #[derive(Drop)]
 pub enum Job<'a> {
-    /// Serves panels to the terminals of a script.
-    Script,
+    /// Serves panels to the terminals of a script; the host serves such terminals.
+    Script {
+        terminals: Terminals,
+    },
     /// Applies commands to a screen of a model.
     Show {
         model: Model,

@@ -87,6 +87,13 @@ const MODEL: JobOption<'static> = JobOption {
     required: false,
 };
 
+static SCRIPT: [JobOption<'static>; 1] = [JobOption {
+    name: "any-terminal",
+    word: "--any-terminal",
+    kind: ValueKind::Flag,
+    required: false,
+}];
+
 static SHOW: [JobOption<'static>; 1] = [MODEL];
 
 static SELFRUN: [JobOption<'static>; 1] = [TURNS];
@@ -181,13 +188,14 @@ pub(crate) fn options_of(topic: Topic) -> &'static [JobOption<'static>]
     ensures { map row_of result.now ≡ options_of topic }
 {
     match topic {
+        Topic::Script => &SCRIPT,
         Topic::Show => &SHOW,
         Topic::Selfrun => &SELFRUN,
         Topic::Host => &HOST,
         Topic::Serve => &SERVE,
         Topic::Term => &TERM,
         Topic::Operate => &OPERATE,
-        Topic::Program | Topic::Script | Topic::Check => &[],
+        Topic::Program | Topic::Check => &[],
         Topic::Help | Topic::Version => &[],
     }
 }

@@ -63,7 +63,8 @@ impl Metric {
             Metric::SessionEnds => "Connections of terminals that ended, by what ended them.",
             Metric::TurnedAway => "Connections closed at once because no number was free.",
             Metric::Rejections => "Rejected requests for an LU, by reason.",
-            Metric::DroppedKeys => "Keys that were dropped because the last one wasn't answered yet.",
+            Metric::DroppedKeys =>
+                "Keys that were dropped because the last one wasn't answered yet.",
             Metric::Turns => "Screens sent after the first one of a connection.",
             Metric::Paints => "Screens sent.",
             Metric::ReceivedBytes => "Bytes received from terminals.",

@@ -197,7 +197,11 @@ fn put_bound(text: &mut String, client: &Client, lu: &Lu) -> Result<(), AllocErr
 }
 
 /// Adds that a key was dropped.
-fn put_dropped_key(text: &mut String, client: &Client, dropped: DroppedKey) -> Result<(), AllocError>
+fn put_dropped_key(
+    text: &mut String,
+    client: &Client,
+    dropped: DroppedKey,
+) -> Result<(), AllocError>
     ensures { OnOk result (string_bytes text.new ≡ string_bytes text.old ++ notice_text (Notice.KeyDropped client.now dropped)) }
 {
     put_client(text, client)?;

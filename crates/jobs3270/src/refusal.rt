@@ -63,6 +63,7 @@ fn options_after(topic: Topic) -> &'static str
     ensures { result.now ≡ options_after topic }
 {
     match topic {
+        Topic::Script => " [--any-terminal]",
         Topic::Show => " [--model M]",
         Topic::Selfrun => " [--turns N]",
         Topic::Check => " [FILE]",
@@ -73,7 +74,7 @@ fn options_after(topic: Topic) -> &'static str
         Topic::Term => " --port P [--lu NAME] [--model M]",
         Topic::Operate => " --port P [--lu NAME] [--model M] [--raw ROWSxCOLUMNS]",
         Topic::Help => " [JOB]",
-        Topic::Program | Topic::Script | Topic::Version => "",
+        Topic::Program | Topic::Version => "",
     }
 }
 

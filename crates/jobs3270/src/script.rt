@@ -16,28 +16,34 @@ use std::alloc::Global;
 use world3270::World;
 
 /// Serves the panels of the input to four terminals, and does the commands of its script, one a line. The input is the panel text, a
-/// line `%%` and the script. Terminals 0 to 3 have models 2 to 5. Prints the page when the script has ended. Writes a fault that ends
-/// the run to `faults` as one line.
+/// line `%%` and the script. Terminals 0 to 3 have models 2 to 5; they wait, on which the host relies or not. Prints the page when the
+/// script has ended. Writes a fault that ends the run to `faults` as one line.
 ///
 /// Returns the exit status: 0 if the whole page was printed; 1 if the input can't be read (as for
 /// [`run_show`](crate::run_show)), if the panel text defines no panels, if their LUs are no pool, or if a line of the script isn't
 /// understood, after the output of the lines before it; 3 if memory is refused; 6 if the output fails.
 pub fn run_script<I: Source, O: Sink, E: Sink>(
     alloc: Global,
+    terminals: Terminals,
     input: &mut I,
     out: &mut O,
     faults: &mut E,
 ) -> u8
-    ensures { IsEnd Script (InPieces I.gave input.old input.new) (I.seen input.old) (I.seen input.new) (O.seen out.old) (O.seen out.new) (E.seen faults.old) (E.seen faults.new) result }
+    ensures { IsEnd (Script terminals) (InPieces I.gave input.old input.new) (I.seen input.old) (I.seen input.new) (O.seen out.old) (O.seen out.new) (E.seen faults.old) (E.seen faults.new) result }
 {
-    run(alloc, Task::Script, input, out, faults)
+    run(alloc, Task::Script(terminals), input, out, faults)
 }
 
 /// Prints the page of a text.
-pub(crate) fn print_script<O: Sink>(alloc: Global, text: &str, out: &mut O) -> Result<(), Fault>
-    ensures { EndsPrinting Script (ending_of result) text.now (O.seen out.old) (O.seen out.new) }
+pub(crate) fn print_script<O: Sink>(
+    alloc: Global,
+    terminals: Terminals,
+    text: &str,
+    out: &mut O,
+) -> Result<(), Fault>
+    ensures { EndsPrinting (Script terminals) (ending_of result) text.now (O.seen out.old) (O.seen out.new) }
 {
-    let page = match page_of_script(alloc, text) {
+    let page = match page_of_script(alloc, terminals, text) {
         Ok(page) => page,
         Err(fault) => return Err(fault),
     };
@@ -59,12 +65,12 @@ struct ScriptPage {
 }
 
 /// Plays the script of an input in the world of its panel text.
-fn page_of_script(alloc: Global, input: &str) -> Result<ScriptPage, Fault>
-    ensures page { IfOk result (λ page. IsScriptPage input.now (string_bytes page.text) page.stopped) }
+fn page_of_script(alloc: Global, terminals: Terminals, input: &str) -> Result<ScriptPage, Fault>
+    ensures page { IfOk result (λ page. IsScriptPage terminals input.now (string_bytes page.text) page.stopped) }
     ensures fault { IfErr result (HasNoWorld (panel_text input.now)) }
 {
     let (panel_text, script) = parted(input);
-    let mut world = match world_of(alloc, panel_text) {
+    let mut world = match world_of(alloc, terminals, panel_text) {
         Ok(world) => world,
         Err(fault) => return Err(fault),
     };
@@ -156,16 +162,16 @@ fn application_of(alloc: Global, text: &str) -> Result<(PanelSet, Pool), Fault>
     Ok((panels, pool))
 }
 
-/// The world of a panel text: its panels, a pool of their LUs, and the terminals of a script.
-fn world_of(alloc: Global, text: &str) -> Result<World, Fault>
-    ensures world { IfOk result (IsWorldOf text.now) }
+/// The world of a panel text: its panels, a pool of their LUs, a host that serves such terminals, and the terminals of a script.
+fn world_of(alloc: Global, terminals: Terminals, text: &str) -> Result<World, Fault>
+    ensures world { IfOk result (IsWorldOf terminals text.now) }
     ensures fault { IfErr result (HasNoWorld text.now) }
 {
     let (panels, pool) = match application_of(alloc, text) {
         Ok(parts) => parts,
         Err(fault) => return Err(fault),
     };
-    match World::new(alloc, panels, pool, &MODELS) {
+    match World::serving(alloc, terminals, panels, pool, &MODELS) {
         Ok(world) => Ok(world),
         Err(_) => Err(Fault::NoMemory),
     }

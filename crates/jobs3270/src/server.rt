@@ -14,8 +14,8 @@ use crate::service::TimeLimits;
 use crate::session_name::SessionName;
 use crate::sockets::Sockets;
 use host_core::{
-    Acted, Answer, DroppedKey, Host, MOST_CONNECTIONS, PanelSet, Phase, Question, Rejection, Served, Ticket,
-    Turn, serve_turn,
+    Acted, Answer, DroppedKey, Host, MOST_CONNECTIONS, PanelSet, Phase, Question, Rejection,
+    Served, Ticket, Turn, serve_turn,
 };
 use mio::net::{TcpListener, TcpStream};
 use mio::{Events, Interest, Poll, Token};
@@ -497,11 +497,7 @@ impl Server {
     }
 
     /// Hands the watcher each dropped key of the connection that wasn't reported yet.
-    fn report_dropped_keys<W: Watcher>(
-        &mut self,
-        conn: usize,
-        watcher: &mut W,
-    ) -> Result<(), Fault>
+    fn report_dropped_keys<W: Watcher>(&mut self, conn: usize, watcher: &mut W) -> Result<(), Fault>
         requires { conn < most_connections }
     {
         for _ in 0..MOST_REPORTS {

@@ -213,7 +213,7 @@ impl Serving {
     }
 }
 
-/// What is served, with the clock and the time limits by which it is served, and who is told of it.
+/// What is served, with the clock and the time limits by which it is served, and the watcher, which logs it.
 #[derive(Drop)]
 struct Shift<'a, R, W> {
     serving: &'a mut Serving,

@@ -9,13 +9,14 @@ use crate::script::print_script;
 use crate::show::print_page;
 use crate::streams::{Sink, Source};
 use codes3270::Model;
+use host_core::Terminals;
 use std::alloc::Global;
 
 /// A job that opens no socket.
 #[derive(Clone, Copy)]
 pub(crate) enum Task {
-    /// `run_script`'s.
-    Script,
+    /// `run_script`'s, of a host that serves these terminals.
+    Script(Terminals),
     /// `run_show`'s, on a screen of this model.
     Show(Model),
 }
@@ -66,7 +67,7 @@ fn print<O: Sink>(alloc: Global, task: Task, text: &str, out: &mut O) -> Result<
     ensures { EndsPrinting task (ending_of result) text.now (O.seen out.old) (O.seen out.new) }
 {
     match task {
-        Task::Script => print_script(alloc, text, out),
+        Task::Script(terminals) => print_script(alloc, terminals, text, out),
         Task::Show(model) => print_page(alloc, model, text, out),
     }
 }

@@ -132,7 +132,9 @@ fn do_job<T: Iterator<Item = ()>>(rt: &HostRuntime, turns: T, job: Job<'_>) -> u
     let mut out = CountedWriter::new(rt.stdout());
     let mut faults = CountedWriter::new(rt.stderr());
     match job {
-        Job::Script => run_script(alloc, &mut input, &mut out, &mut faults),
+        Job::Script { terminals } => {
+            run_script(alloc, terminals, &mut input, &mut out, &mut faults)
+        }
         Job::Show { model } => run_show(alloc, model, &mut input, &mut out, &mut faults),
         Job::Selfrun { turns } => {
             run_selfrun(rt, alloc, turns, &mut input, &mut out, &mut faults)

@@ -1,6 +1,7 @@
 //! Runs of show and script whose input breaks off or is long, or whose output fails. A helper owns one run, and compares how it ended.
 use crate::jobs::memory::{Paper, Pieces, expect_written, interrupted_paper, paper_with};
 use codes3270::Model;
+use host_core::Terminals;
 use jobs3270::{CountedReader, CountedWriter, MOST_BYTES, MOST_READS, run_script, run_show};
 use std::alloc::{AllocError, Global};
 use trials::{Fault, expect_number};
@@ -35,7 +36,7 @@ fn played(alloc: Global, input: Pieces<'_>, room: usize) -> Outcome {
     let mut input = CountedReader::new(input);
     let mut out = paper_with(alloc, room);
     let mut faults = paper_with(alloc, usize::MAX);
-    let status = run_script(alloc, &mut input, &mut out, &mut faults);
+    let status = run_script(alloc, Terminals::Waiting, &mut input, &mut out, &mut faults);
     outcome_of(status, out, faults)
 }
 

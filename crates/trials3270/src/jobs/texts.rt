@@ -186,7 +186,16 @@ fn write_operate<W: Write>(f: &mut Formatter<W>, options: &LiveOptions) -> fmt::
 impl Display for CommandLine<'_> {
     fn fmt<W: Write>(&self, f: &mut Formatter<W>) -> fmt::Result {
         match &self.0 {
-            Ok(Job::Script) => f.write_str("script"),
+            Ok(
+                Job::Script {
+                    terminals: Terminals::Waiting,
+                },
+            ) => f.write_str("script"),
+            Ok(
+                Job::Script {
+                    terminals: Terminals::Any,
+                },
+            ) => f.write_str("script, any terminal"),
             Ok(Job::Show { model }) => write!(f, "show, model {}", model_number(*model)),
             Ok(Job::Selfrun { turns }) => write!(f, "selfrun, {} turns", turns.get()),
             Ok(Job::Host { port, turns }) => {
