@@ -1,27 +1,24 @@
-#!/usr/bin/env python3
-"""Compares what each crate exports with the agreed public surface and docs/DECISIONS.md, and says what is in neither.
+"""What each crate exports is agreed, or listed in docs/DECISIONS.md.
 
-    docs/surface
-
-docs/surface.agreed lists the agreed items: a line `CRATE: ITEM ..`, and further lines of it begin with blanks. DECISIONS.md lists in
+tests/surface.agreed lists the agreed items: a line `CRATE: ITEM ..`, and further lines of it begin with blanks. DECISIONS.md lists in
 the section "The public surface" what differs from them: in its table of crates, the items that a crate has beside the agreed ones.
 
 An item is a function, struct, enum, trait, constant, static or type that the crate's root exports, the module of a `pub mod`, and of
 a type or trait also each public function, constant and variant: `Addr`, `Addr::new`, `Cell::Char`. An item that DECISIONS.md names
-stands there in backquotes. A name without its type, as `forward` behind `Addr::all`, is a function of the type that was named last, or
+is there in backquotes. A name without its type, as `forward` behind `Addr::all`, is a function of the type that was named last, or
 of the crate. A type that it names, and that isn't agreed, comes with all that is below it; an agreed enum whose variants aren't agreed
 comes with these. A crate with the entry `all` has no agreed items. Modules `laws` are left out: the page speaks of them once.
 
-Prints a line for each item that is in neither, FILE:LINE: CRATE ITEM, and for each item that one of the two names and the crate
-doesn't have. Status 0 if there is none.
+A crate is a case. It fails for each item that is in neither, and for each item that one of the two names and the crate doesn't have.
 """
-import pathlib
+import functools
 import re
-import sys
 from collections import defaultdict
+from collections.abc import Iterator
 
-TOP = pathlib.Path(__file__).resolve().parent.parent
-AGREED = TOP / "docs/surface.agreed"
+from harness.case import TOP, BadCase, Case, Difference, Place
+
+AGREED = TOP / "tests/surface.agreed"
 DECISIONS = TOP / "docs/DECISIONS.md"
 SECTION, NEXT = "## The public surface\n", "## Names that stay\n"
 # The head of the table of crates, and what an entry says of a crate without agreed items.
@@ -90,7 +87,7 @@ def exported(crate):
                 # The module may take it from one below it.
                 path = min((path for path in files if it in files[path].items), key=lambda path: path.stem != module, default=None)
                 if path is None:
-                    sys.exit(f"surface: {crate} has no item {it}, which its root exports")
+                    raise BadCase(f"{crate} has no item {it}, which its root exports")
                 add(it, path, files[path].items[it])
                 add_type(it)
     for name, number in files[source / "lib.rt"].items.items():
@@ -112,7 +109,9 @@ def agreed():
             crate, _, line = line.partition(":")
         for word in line.split():
             last = NAME.fullmatch(word)
-            items[crate].add(word if last else sys.exit(f"surface: {AGREED.name}: {word}"))
+            if not last:
+                raise BadCase(f"{word} is no name of an item", Place("tests/surface.agreed", 1))
+            items[crate].add(word)
     return items
 
 
@@ -133,7 +132,7 @@ def named(entry):
     for span in SPAN.findall(entry):
         found = NAME.fullmatch(span)
         if not found:
-            sys.exit(f"surface: {DECISIONS.name}: `{span}` is no name of an item")
+            raise BadCase(f"`{span}` is no name of an item", Place("docs/DECISIONS.md", 1))
         if found[1]:
             of = found[1]
         elif found[2][0].isupper() and not found[2].isupper():
@@ -143,25 +142,24 @@ def named(entry):
             yield f"{of}::{found[2]}"
 
 
-def differences():
+def differences(crate: str) -> Iterator[str]:
+    """Where a crate, the agreed items and DECISIONS.md differ."""
     text = DECISIONS.read_text()
     section = text[text.index(SECTION):text.index(NEXT)]
-    wanted, listed = agreed(), decided(section)
-    libraries = sorted(path.parent.parent.name for path in TOP.glob("crates/*/src/lib.rt"))
-    for crate in libraries:
-        if listed.get(crate, set()) is None:
-            continue
-        items, variants = exported(crate)
-        known = wanted[crate] | listed.get(crate, set())
-        for item, (path, number) in sorted(items.items(), key=lambda it: (str(it[1][0]), it[1][1])):
-            of = item.partition("::")[0]
-            is_new = of in known - wanted[crate]
-            is_open = item in variants and of in wanted[crate] and not variants & {it for it in wanted[crate] if it.startswith(f"{of}::")}
-            if item not in known and not is_new and not is_open:
-                yield f"{path}:{number}: {crate} {item}: not in {AGREED.name}, and not in {DECISIONS.name}"
-        for item in sorted(wanted[crate] - set(items)):
-            if item not in set(named_anywhere(section)):
-                yield f"docs/{AGREED.name}: {crate} {item}: not in the sources, and not in {DECISIONS.name}"
+    wanted, listed = agreed()[crate], decided(section).get(crate, set())
+    if listed is None:
+        return
+    items, variants = exported(crate)
+    known = wanted | listed
+    for item, (path, number) in sorted(items.items(), key=lambda it: (str(it[1][0]), it[1][1])):
+        of = item.partition("::")[0]
+        is_new = of in known - wanted
+        is_open = item in variants and of in wanted and not variants & {it for it in wanted if it.startswith(f"{of}::")}
+        if item not in known and not is_new and not is_open:
+            yield f"{path}:{number}: {item} is in neither"
+    for item in sorted(wanted - set(items)):
+        if item not in set(named_anywhere(section)):
+            yield f"{item} is agreed, and not in the sources, and not in {DECISIONS.name}"
 
 
 def named_anywhere(section):
@@ -171,11 +169,12 @@ def named_anywhere(section):
             yield word
 
 
-def main():
-    found = list(differences())
-    for line in found:
-        print(line)
-    return bool(found)
+def check_crate(crate: str) -> None:
+    if found := list(differences(crate)):
+        raise Difference("the items of surface.agreed and DECISIONS.md", "\n".join(found))
 
 
-sys.exit(main())
+def cases() -> Iterator[Case]:
+    for root in sorted(TOP.glob("crates/*/src/lib.rt")):
+        crate = root.parent.parent.name
+        yield Case(crate, Place(f"crates/{crate}/src/lib.rt", 1), functools.partial(check_crate, crate))

@@ -1,14 +1,15 @@
-#!/usr/bin/env python3
 """Walks through the README and the pages for users as a new user would: runs their commands on a fresh clone, without the proved program.
 
 A command is a line `$ COMMAND` of an indented block, with the lines below it, which it prints; or a whole block without such a line. The
 table STEPS says by a command's beginning what is done with it, or why it isn't run, so that a new one isn't forgotten. `bin/quick` takes
-the program's place, and free ports that of 3270 and 8080. What examples/check and examples/printed compare is left to them; they are run
+the program's place, and free ports that of 3270 and 8080. What the suites examples and printed compare is left to them; they are run
 at the end. Files and jobs that a sentence names have to be there.
 
-The clone has what is committed. Prints nothing, and ends with status 0, if all is as the pages say. It takes two to three minutes,
-mostly of the compiler.
+The clone has what is committed. A page is a case, since its commands build on each other. It takes two to three minutes, mostly of the
+compiler.
 """
+import atexit
+import functools
 import contextlib
 import dataclasses
 import fcntl
@@ -22,12 +23,15 @@ import signal
 import socket
 import struct
 import subprocess
-import sys
 import tempfile
 import termios
 import time
+from collections.abc import Iterator
 
-TOP = pathlib.Path(__file__).resolve().parent.parent
+from harness.case import TOP, Case, Difference, Place, of_function
+from harness.hosts import free_port
+
+LONG = True
 PAGES = ["README.md", "examples/README.md", *(f"docs/{it}.md" for it in ("USING", "OPERATING", "APPLICATIONS", "PROTOCOL"))]
 # Seconds to wait for the compiler, and for anything else.
 COMPILING, PATIENCE = 600, 60
@@ -66,16 +70,20 @@ class Command:
     def prints(self):
         return "\n".join(self.lines[self.length :]).rstrip()
 
-    def fails(self, what):
-        sys.exit(f"{self.page}:{self.line}: {what}")
+    @property
+    def at(self):
+        return Place(self.page, self.line)
+
+    def fails(self, wanted, came):
+        raise Difference(wanted, came, self.at)
 
     def expects(self, what, actual, wanted):
         if actual != wanted:
-            self.fails(f"{what}: {actual!r}, in place of {wanted!r}")
+            self.fails(f"{what}: {wanted!r}", repr(actual))
 
     def expects_in(self, what, actual, wanted):
         if wanted not in actual:
-            self.fails(f"{what} hasn't {wanted!r}:\n{actual}")
+            self.fails(f"{what} has {wanted!r}", actual)
 
 
 def commands(page, text):
@@ -89,12 +97,6 @@ def commands(page, text):
         if inside:
             found[-1].lines.append(line[4:])
     return found
-
-
-def free_port():
-    with socket.socket() as it:
-        it.bind(("127.0.0.1", 0))
-        return str(it.getsockname()[1])
 
 
 def is_listening(port):
@@ -116,7 +118,7 @@ class Walk:
         self.place, self.clone = place, place / "clone"
         self.env = {**os.environ, "XDG_CACHE_HOME": str(place / "cache"), "TMPDIR": str(place)}
         self.env.pop("PANEL3270", None)
-        self.ports = {HOST: free_port(), APPLICATION: free_port()}
+        self.ports = {HOST: str(free_port()), APPLICATION: str(free_port())}
         # What listens at each of these ports.
         self.running = {}
         subprocess.run(["git", "clone", "-q", str(TOP), str(self.clone)], check=True)
@@ -145,7 +147,7 @@ class Walk:
         """A shell's command prints these texts, and its status is 0."""
         out, said, status = self.ran(text, stdin)
         if status:
-            command.fails(f"`{text}` ends with status {status}, in place of 0:\n{out}{said}")
+            command.fails(f"`{text}` ends with status 0", f"status {status}:\n{out}{said}")
         for it in wanted:
             command.expects_in(f"what `{text}` prints", out, it)
 
@@ -165,7 +167,7 @@ class Walk:
         end = time.monotonic() + patience
         while not is_listening(self.ports[port]) or self.here(says) not in log.read_text():
             if run.poll() is not None or time.monotonic() > end:
-                command.fails(f"`{text}` doesn't listen and say {self.here(says)!r} (status {run.poll()}):\n{log.read_text()}")
+                command.fails(f"`{text}` listens and says {self.here(says)!r}", f"status {run.poll()}:\n{log.read_text()}")
             time.sleep(0.05)
 
     def end(self, *ports):
@@ -199,7 +201,7 @@ class Walk:
 
 def is_there(walk, command, path):
     if not (walk.clone / path).exists():
-        command.fails(f"there is no {path}")
+        command.fails(path, "there is no such file")
 
 
 def refuses_first(walk, command):
@@ -332,14 +334,14 @@ def lines_of(name):
         left = iter(walk.read(name).splitlines())
         for line in command.text.splitlines():
             if line not in left:
-                command.fails(f"the line `{line}` isn't in {name}")
+                command.fails(f"the line `{line}` in {name}", "it isn't there")
 
     return are_there
 
 
 WINDOW = "needs x3270 and a window"
-S3270 = "needs s3270: examples/sessions"
-PRINTED = "is output or a request: examples/printed"
+S3270 = "needs s3270: the suite s3270_sessions"
+PRINTED = "is output or a request: the suite printed"
 LOG = "time=2026-11-27T05:41:14Z conn=0 session=5d8c01f3a7be9042-0 peer=127.0.0.1:36532"
 # What a command begins with, and what is done with it, or why it isn't run.
 STEPS = {
@@ -371,10 +373,10 @@ STEPS = {
     "bin/operate ": operates,
     "                             TRANSFER ": PRINTED,
     "                             FIRST NATIONAL BANK": PRINTED,
-    "listening on 127.0.0.1:3270\ntime=": "is the log of s3270: examples/sessions",
+    "listening on 127.0.0.1:3270\ntime=": "is the log of s3270: the suite s3270_sessions",
     "warning: other machines": PRINTED,
-    "[tn3270]\n": "is a text for stunnel: examples/sessions",
-    "printf 'Connect(L:BANK04": "needs s3270 and stunnel: examples/sessions",
+    "[tn3270]\n": "is a text for stunnel: the suite s3270_sessions",
+    "printf 'Connect(L:BANK04": "needs s3270 and stunnel: the suite s3270_sessions",
     "backend hosts": lines_of("examples/haproxy.cfg"),
     # docs/APPLICATIONS.md
     'start = "SIGNON"': panels,
@@ -384,63 +386,83 @@ STEPS = {
     "POST /bank": PRINTED,
     '{"cursor":': PRINTED,
     '{"panel": "MENU"': PRINTED,
-    f"{LOG} event=application-replaced": "is a line of the log: runs/applications",
+    f"{LOG} event=application-replaced": "is a line of the log: the suite applications",
     f"{LOG} event=application-error": PRINTED,
     "connect 0\nsettle\ntype 0 4711\nkey 0 enter": answers_by_script,
 }
 
 
-def step(walk, command):
-    """Does what the table says of a command, and answers the entry. Its files are there, also if it isn't run."""
-    for path in re.findall(r"\bexamples/[\w.-]+", command.text):
-        is_there(walk, command, path)
+def step_of(command):
+    """The beginning of the entry of STEPS for a command; None if its output is compared elsewhere, "" if there is no entry."""
     if command.is_prompted and PROVED in command.lines[0]:
         return None
-    found = next((it for it in STEPS if command.text.startswith(it)), None)
-    if found is None:
-        command.fails(f"STEPS of runs/walk doesn't say what is done with `{command.text.splitlines()[0]}`")
-    if callable(STEPS[found]):
-        STEPS[found](walk, command)
-    return found
+    return next((it for it in STEPS if command.text.startswith(it)), "")
+
+
+def take_step(walk, command):
+    """Does what the table says of a command. Its files are there, also if it isn't run."""
+    for path in re.findall(r"\bexamples/[\w.-]+", command.text):
+        is_there(walk, command, path)
+    begins = step_of(command)
+    if begins == "":
+        command.fails("an entry of STEPS for this command", command.text.splitlines()[0])
+    if begins and callable(STEPS[begins]):
+        STEPS[begins](walk, command)
 
 
 def sentences(walk, page):
     """Files and jobs that the sentences of a page name are there."""
-    jobs = re.findall(r"^  ([a-z]+) ", walk.ran("bin/quick help")[0], re.M)
+    jobs = re.findall(r"^  ([a-z]+) ", walk.ran("bin/quick help", patience=COMPILING)[0], re.M)
     for number, line in enumerate(walk.read(page).splitlines(), 1):
         for first, second in re.findall(r"`([^` ]+) ?([^` ]*)[^`]*`", line):
             command = Command(page, number, [])
-            if re.match(r"(bin|docs|examples|growths|must-fail|runs)/", first):
+            if re.match(r"(bin|bench|docs|examples|tests)/", first):
                 is_there(walk, command, first)
             elif first == "panel3270" and second:
                 command.expects_in("`panel3270 help`", jobs, second)
 
 
-def walk_through(walk):
-    unused = set(STEPS)
-    for page in PAGES:
+# ---- the cases
+
+
+@functools.cache
+def the_walk():
+    """The clone, until the process ends."""
+    folder = tempfile.TemporaryDirectory(prefix="walk-")
+    walk = Walk(pathlib.Path(folder.name))
+    atexit.register(folder.cleanup)
+    atexit.register(walk.end)
+    return walk
+
+
+def walk_through(page):
+    walk = the_walk()
+    try:
         for it in commands(page, walk.read(page)):
-            unused.discard(step(walk, it))
+            take_step(walk, it)
+    finally:
         walk.end()
-        sentences(walk, page)
+    sentences(walk, page)
+
+
+def each_step_is_of_a_page():
+    """A command of a page begins as each entry of STEPS says."""
+    found = {step_of(it) for page in PAGES for it in commands(page, (TOP / page).read_text(encoding="utf-8"))}
+    unused = sorted(set(STEPS) - found)
     if unused:
-        sys.exit(f"runs/walk: no command of the pages begins as in STEPS: {sorted(unused)}")
-    for it in ("examples/check", "examples/printed"):
-        out, said, status = walk.ran(f'PANEL3270="$(bin/quick --which)" {it}', patience=COMPILING)
+        raise Difference("a command of the pages for each entry of STEPS", f"none for {unused}")
+
+
+def the_other_output_is_that_of_quick():
+    """The suites of what the pages print pass with the program of bin/quick, too."""
+    for suite in ("examples:", "printed:"):
+        out, said, status = the_walk().ran(f'PANEL3270="$(bin/quick --which)" tests/run -k "{suite}"', patience=COMPILING)
         if status:
-            sys.exit(f"{it}, with the program of bin/quick:\n{out}{said}")
+            raise Difference(f"tests/run -k {suite} passes with the program of bin/quick", f"{out}{said}")
 
 
-def main():
-    # A walk that is ended ends what it started, too.
-    signal.signal(signal.SIGTERM, lambda *_: sys.exit(128 + signal.SIGTERM))
-    with tempfile.TemporaryDirectory() as place:
-        walk = Walk(pathlib.Path(place))
-        try:
-            walk_through(walk)
-        finally:
-            walk.end()
-
-
-if __name__ == "__main__":
-    main()
+def cases() -> Iterator[Case]:
+    yield of_function(each_step_is_of_a_page)
+    for page in PAGES:
+        yield Case(page, Place(page, 1), functools.partial(walk_through, page))
+    yield of_function(the_other_output_is_that_of_quick)

@@ -1,4 +1,3 @@
-#!/usr/bin/env python3
 """Tries the wrong bodies of crates/*/must-fail/wrong-bodies.md: the prover has to refuse each, by a goal of the contract of the function that it is put into.
 
 A contract is proved function by function, from the contracts of what is called and not from bodies. So the mistakes of a crate are put into a copy of
@@ -17,30 +16,29 @@ tried without the answers of its function, so that the prover looks for values a
 A check proves what the mistakes' functions call, too, and what that calls. So a page names functions that are cut: in the copy they have their contracts, a
 body that calls nothing, and no proof. Only the first round has cuts: what isn't refused then is tried again in the crate as it is.
 
-    must-fail/check [CRATE | CRATE:WORDS ..]
-
-tries those of all crates, or of these; behind a colon stand words of the headings that are wanted. A page has a line `    stays: FUNCTION`, for each cut
+`tests/run -k "wrong_bodies CRATE WORD .."` tries those of a crate whose headings have these words. A page has a line `    stays: FUNCTION`, for each cut
 lines `    cut: FUNCTION`, `    file: src/FILE` and `    body: TEXT`, and for each mistake a heading, a line `    function: FUNCTION`, and pairs
 `    old: TEXT`, `    new: TEXT` behind a line `    file: src/FILE`: each TEXT is one line or a part of it, and the old one stands in that file once. FUNCTION
 is a path below the crate. A line `    beside: the others` says of a mistake in a constant that no function reads it but its own; for `    answers: none` see above.
 
-It checks over the libraries in crates/*/out, which `rt ci` builds, and begins no more checks at once than there are processors (RT_JOBS: so many). The
-status is 0 where each wrong body was refused.
+It checks over the libraries in crates/*/out, which `rt ci` builds. A crate's page is tried in one process.
 """
 from __future__ import annotations
 
+import functools
 import os
 import pathlib
 import re
 import shutil
 import subprocess
-import sys
 import tempfile
 from collections import defaultdict
-from concurrent.futures import ThreadPoolExecutor
+from collections.abc import Iterator
 from dataclasses import dataclass, field
 
-TOP = pathlib.Path(__file__).resolve().parent.parent
+from harness.case import TOP, BadCase, Case, Difference, Place
+
+LONG, BY_FILE, SECONDS = True, True, 7200
 PAGE = "must-fail/wrong-bodies.md"
 # What the name of a second function ends with, that has a second mistake.
 AGAIN = "_again"
@@ -51,6 +49,7 @@ class Mistake:
     """A wrong body: where it stands, and what it says in place of what."""
 
     title: str
+    at: Place
     function: str = ""
     changes: list[tuple[str, str, str]] = field(default_factory=list)
     is_beside: bool = False
@@ -132,12 +131,12 @@ class Verdict:
         return f"{self.word.partition(';')[0]}, but no goal of its contract shows that: {', '.join(named)}" if named else self.word
 
 
-def page_of(crate: str, words: list[str]) -> Page:
-    """A crate's page: those of its mistakes whose headings have some of the words."""
+def page_of(crate: str) -> Page:
+    """A crate's page."""
     page, file, old = Page(crate, "", []), "", ""
-    for line in (TOP / "crates" / crate / PAGE).read_text(encoding="utf-8").splitlines():
+    for number, line in enumerate((TOP / "crates" / crate / PAGE).read_text(encoding="utf-8").splitlines(), 1):
         if line.startswith("## "):
-            page.mistakes.append(Mistake(line[3:]))
+            page.mistakes.append(Mistake(line[3:], Place(f"crates/{crate}/{PAGE}", number)))
         key, _, text = line[4:].partition(": ") if line.startswith("    ") else ("", "", "")
         if key == "stays":
             page.stays = text
@@ -160,10 +159,9 @@ def page_of(crate: str, words: list[str]) -> Page:
     lacking = [it.title for it in page.mistakes if not it.function or not it.changes] + [it.function for it in page.cuts if not it.file]
     kept = {page.stays, *[it.function for it in page.mistakes]} & {it.function for it in page.cuts}
     if kept:
-        sys.exit(f"must-fail/check: {crate}: {', '.join(kept)} can't be cut: it is asked for")
+        raise BadCase(f"{', '.join(kept)} can't be cut: it is asked for", Place(f"crates/{crate}/{PAGE}", 1))
     if lacking or page.stays in ["", *[it.function for it in page.mistakes]] or not page.mistakes:
-        sys.exit(f"must-fail/check: {crate}: {', '.join(lacking) or 'the page'} lacks a line")
-    page.mistakes = [it for it in page.mistakes if any(word in it.title for word in words)]
+        raise BadCase(f"{', '.join(lacking) or 'the page'} lacks a line", Place(f"crates/{crate}/{PAGE}", 1))
     return page
 
 
@@ -254,7 +252,7 @@ def check_words(crate: str, functions: list[str]) -> list[str]:
     for name in ["std", *own[crate]]:
         rlib = TOP / f"crates/{name}/out/rlib/{name}.rlib" if name in own else kit / f"rlibs/{name}.rlib"
         if not rlib.is_dir():
-            sys.exit(f"must-fail/check: the library {name} isn't built: `rt ci` does that")
+            raise BadCase(f"the library {name} isn't built: `rt ci` does that")
         words += ["--extern", f"{name}={rlib}"]
     for name in own:
         words += ["-L", f"dependency={TOP}/crates/{name}/out/rlib"] if name != crate and (TOP / f"crates/{name}/out/rlib").is_dir() else []
@@ -309,58 +307,63 @@ def tried(page: Page, mistakes: list[Mistake], cuts: list[Cut], room: pathlib.Pa
             together[mistake.function + AGAIN] = mistake
     lacking = [it.function for it in cuts if not put_cut(it, room)]
     if lacking:
-        sys.exit(f"must-fail/check: {page.crate}: {', '.join(lacking)}, to be cut, isn't in its file")
+        raise BadCase(f"{', '.join(lacking)}, to be cut, isn't in its file", Place(f"crates/{page.crate}/{PAGE}", 1))
     text = said_of(page.crate, [page.stays, *together], room)
     return together, verdicts(page.crate, text), text
 
 
-def outcome_of(page: Page) -> tuple[int, list[str]]:
-    """Tries a crate's mistakes, in a folder of their own."""
+def faults_of(page: Page) -> dict[Place, str]:
+    """Tries a crate's mistakes, in a folder of their own: what is wrong with those that aren't refused."""
     with tempfile.TemporaryDirectory(prefix=f"rt-edit-{os.getpid()}-") as name:
-        return outcome_in(page, pathlib.Path(name))
+        return faults_in(page, pathlib.Path(name))
 
 
-def outcome_in(page: Page, room: pathlib.Path) -> tuple[int, list[str]]:
-    """Tries a crate's mistakes in a folder, and tells of those that are refused: how many they are, and what is wrong with the others."""
-    left, cuts, refused, faults, at_once = page.mistakes, page.cuts, 0, [], None
+def faults_in(page: Page, room: pathlib.Path) -> dict[Place, str]:
+    """Tries a crate's mistakes in a folder: what is wrong with those that aren't refused."""
+    left, cuts, faults, at_once = page.mistakes, page.cuts, {}, None
     while left:
         together, said, text = tried(page, left[:at_once], cuts, room)
         if not together:
-            return refused, [*faults, f"{page.crate}: {left[0].title}: an old text isn't there once, or is the new one"]
+            return faults | {left[0].at: "an old text isn't there once, or is the new one"} | dict.fromkeys((it.at for it in left[1:]), "not tried")
         if page.stays not in said or not said[page.stays].is_proved():
             lines = "\n".join(it[:200] for it in text.splitlines()[:20])
-            return refused, [*faults, f"{page.crate}: {page.stays} stays as it is, and isn't proved:\n{lines}"]
+            return faults | dict.fromkeys((it.at for it in left), f"{page.stays} stays as it is, and isn't proved:\n{lines}")
         settled = []
         for function, mistake in together.items():
             verdict = said.get(function, Verdict("it wasn't checked"))
-            evidence = verdict.evidence(answered(page.crate, mistake.function))
-            if evidence:
-                print(f"must-fail {page.crate}: {mistake.title}: refused, as it must be: {mistake.function}: {evidence.says} (`{evidence.name}`)", flush=True)
-                refused += 1
+            if verdict.evidence(answered(page.crate, mistake.function)):
                 settled.append(mistake)
             elif verdict.is_proved() or verdict.goals or verdict.unfit or at_once:
-                faults.append(f"{page.crate}: NOT REFUSED: {mistake.title}: {mistake.function}: {verdict.without_evidence()}")
+                faults[mistake.at] = f"{mistake.function}: {verdict.without_evidence()}"
                 settled.append(mistake)
         left = [it for it in left if it not in settled]
         at_once = None if settled or cuts else 1
         cuts = []
-    return refused, faults
+    return faults
 
 
-def main() -> None:
-    wanted = defaultdict(list)
-    for word in sys.argv[1:] or [it for it in uses() if (TOP / "crates" / it / PAGE).exists()]:
-        crate, _, words = word.partition(":")
-        wanted[crate].append(words)
-    pages = sorted((page_of(*it) for it in wanted.items()), key=lambda it: -len(it.mistakes))
-    lanes = int(os.environ.get("RT_JOBS") or len(os.sched_getaffinity(0)))
-    with ThreadPoolExecutor(lanes) as pool:
-        outcomes = list(pool.map(outcome_of, pages))
-    for fault in (it for _, faults in outcomes for it in faults):
-        print(fault)
-    refused, count = sum(it for it, _ in outcomes), sum(len(it.mistakes) for it in pages)
-    print(f"must-fail/check: {refused} of {count} wrong bodies refused, each by a goal of its function's contract")
-    sys.exit(0 if refused == count > 0 else 1)
+# What is wrong with the mistakes that were tried and aren't refused, and all that were tried.
+FAULTS: dict[Place, str] = {}
+TRIED: set[Place] = set()
 
 
-main()
+def prepare(chosen: list[Case]) -> None:
+    """Tries the mistakes of these cases, those of a crate together."""
+    places = {it.at for it in chosen}
+    for crate in sorted({place.file.split("/")[1] for place in places}):
+        page = page_of(crate)
+        page.mistakes = [it for it in page.mistakes if it.at in places]
+        FAULTS.update(faults_of(page))
+    TRIED.update(places)
+
+
+def check_refused(mistake: Mistake) -> None:
+    if mistake.at not in TRIED or mistake.at in FAULTS:
+        raise Difference("refused, by a goal of its function's contract", FAULTS.get(mistake.at, "not tried"))
+
+
+def cases() -> Iterator[Case]:
+    for crate in uses():
+        if (TOP / "crates" / crate / PAGE).exists():
+            for mistake in page_of(crate).mistakes:
+                yield Case(f"{crate}: {mistake.title}", mistake.at, functools.partial(check_refused, mistake))

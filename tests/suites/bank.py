@@ -1,176 +1,22 @@
-#!/usr/bin/env python3
-"""Runs the bank of examples/bank.py behind a host, and says where an operator or the database sees something else than it promises.
-
-Each check is a function below; its first line says what holds. It starts the application with a database of its own, and `serve` with the
-panels of examples/bank-asks.toml; the operator is `panel3270 term`. The expected screens are what these panels have at their rows and
-columns. The runs and their clients are those of `sockets`, and a live terminal is that of `operate`.
-
-The program has to be built. Prints nothing, and ends with status 0, if all hold. It takes less than 20 seconds.
-"""
-import contextlib
+"""Tellers at the bank of examples/bank.py: each screen, and the database afterwards."""
 import datetime
-import importlib.machinery
-import importlib.util
-import json
-import os
 import pathlib
-import select
-import signal
-import socket
-import sqlite3
 import subprocess
 import sys
-import tempfile
 import threading
-import urllib.request
 
-HERE = pathlib.Path(__file__).resolve().parent
-sys.dont_write_bytecode = True
+from harness import hosts, tty
+from harness.bank import (
+    ANN, Application, BOOT, FIRST_BALANCES, JOHN, PANELS, a_bank, balance, balances, bookings, does_to, is_listening, menu,
+    rows_of, screen, sees, sign_on, transfer, works,
+)
+from harness.case import TOP, Checks, expect
 
-
-def module(name):
-    """The script beside this file that has this name, as a module."""
-    loader = importlib.machinery.SourceFileLoader(name, str(HERE / name))
-    it = importlib.util.module_from_spec(importlib.util.spec_from_loader(name, loader))
-    loader.exec_module(it)
-    return it
+check = Checks()
+cases = check.cases
 
 
-sockets, operate = module("sockets"), module("operate")
-sockets.PROGRAM = pathlib.Path(os.environ.get("PANEL3270", sockets.PROGRAM))
-Differs, expect = sockets.Differs, sockets.expect
-
-BANK = HERE.parent / "examples/bank.py"
-PANELS = (HERE.parent / "examples/bank-asks.toml").read_bytes()
-# What an operator does beside typing: a command of `term`, and after a key that sends a wait for the host.
-DOES = {it: f"key {it.lower()}\nwait" for it in ("ENTER", "PF3", "PF9", "CLEAR")}
-DOES |= {it: f"key {it.lower()}" for it in ("TAB", "HOME", "ERASEEOF")}
-DOES["SHOW"] = "show"
-# What a host drew when it started.
-BOOT = "5d8c01f3a7be9042"
-ANN, JOHN = ("4711", "TAB", "SECRET", "ENTER"), ("4712", "TAB", "HIDDEN", "ENTER")
-
-
-# ---- the processes
-
-
-class Application:
-    """The bank's application with a database, until the check is over."""
-
-    def __init__(self, database):
-        words = [sys.executable, BANK, "--database", database, "--port", "0"]
-        self.process = subprocess.Popen(words, stdout=subprocess.PIPE, stderr=subprocess.PIPE, text=True)
-        ready, _, _ = select.select([self.process.stdout], [], [], sockets.PATIENCE)
-        line = self.process.stdout.readline() if ready else ""
-        if not line.startswith("listening on http://127.0.0.1:"):
-            self.__exit__()
-            raise Differs(f"the application prints {line!r}")
-        self.url = line.split()[-1]
-
-    def __enter__(self):
-        return self
-
-    def __exit__(self, *_):
-        self.process.kill()
-        self.said = self.process.communicate()[1]
-
-    def replies(self, question):
-        """The reply to a question that the check asks in the host's place."""
-        with urllib.request.urlopen(self.url, json.dumps(question).encode(), sockets.PATIENCE) as it:
-            return json.load(it)
-
-
-@contextlib.contextmanager
-def a_bank(panels=PANELS):
-    """A new database's name, its application, and a host with these panels."""
-    with tempfile.TemporaryDirectory() as folder:
-        database = os.path.join(folder, "bank.db")
-        with Application(database) as application:
-            with sockets.Server("serve", "--application", application.url, text=panels) as host:
-                yield database, application, host
-                expect("faults of the application in the host's log", "event=application" in host.logged(), False)
-
-
-def works(host, *does):
-    """What a terminal prints whose operator does this: keys, SHOW, and texts to type."""
-    script = "\n".join(["wait", *(DOES.get(it, f"type {it}") for it in does), ""])
-    status, printed, faults = sockets.run(["term", "--port", host.port], script.encode())
-    expect("how a terminal ends", (status, faults), (0, ""))
-    return printed
-
-
-def sees(printed, *screens):
-    """The screens that a terminal printed are these."""
-    lines = printed.splitlines()
-    came = ["\n".join(lines[at : at + 25]) for at in range(0, len(lines), 25)]
-    expect("the number of screens", len(came), len(screens))
-    for number, (it, wanted) in enumerate(zip(came, screens), 1):
-        if it != wanted:
-            raise Differs(f"screen {number}:\n{it}\nin place of\n{wanted}")
-
-
-def rows_of(database, query):
-    with contextlib.closing(sqlite3.connect(database)) as it:
-        return it.execute(query).fetchall()
-
-
-def does_to(database, *commands):
-    with contextlib.closing(sqlite3.connect(database)) as it, it:
-        for command in commands:
-            it.execute(command)
-
-
-def balances(database):
-    return rows_of(database, "SELECT number, cents FROM account ORDER BY number")
-
-
-FIRST_BALANCES = [("1000200030", 125000), ("1000200044", 9900), ("1000200058", 0)]
-
-
-# ---- the screens
-
-
-def screen(cursor, *texts):
-    """What `show` prints of a screen of texts, each with its row and column, and of the cursor's row and column."""
-    rows = [""] * 24
-    for row, column, text in texts:
-        rows[row - 1] = (rows[row - 1].ljust(column - 1) + text).rstrip()
-    return "\n".join([*rows, f"cursor {cursor[0] * 80 + cursor[1] - 81} lock free aid 60"])
-
-
-def sign_on(message="", teller="", cursor=(5, 30)):
-    rows = [(1, 30, "FIRST NATIONAL BANK"), (5, 10, "TELLER NUMBER"), (5, 30, teller), (7, 10, "PASSWORD")]
-    return screen(cursor, *rows, (23, 2, "ENTER SIGN ON   CLEAR START OVER"), (24, 2, message))
-
-
-def menu(message="", name="ANN MILLER", choice=""):
-    rows = [(1, 30, "MENU"), (2, 50, "TELLER"), (2, 58, name), (9, 10, "CHOICE"), (9, 30, choice)]
-    rows += [(5, 10, "1  BALANCE OF AN ACCOUNT"), (6, 10, "2  TRANSFER OF FUNDS"), (7, 10, "3  YOUR LAST BOOKINGS")]
-    return screen((9, 30), *rows, (23, 2, "ENTER CHOOSE   PF3 SIGN OFF"), (24, 2, message))
-
-
-def balance(account="", holder="", amount="", message="", name="ANN MILLER"):
-    rows = [(1, 30, "BALANCE OF AN ACCOUNT"), (2, 50, "TELLER"), (2, 58, name), (5, 10, "ACCOUNT"), (5, 30, account)]
-    rows += [(7, 10, "HOLDER"), (7, 30, holder), (9, 10, "BALANCE"), (9, 30, amount)]
-    return screen((5, 30), *rows, (23, 2, "ENTER LOOK UP   PF3 MENU"), (24, 2, message))
-
-
-def transfer(debit="", credit="", amount="", reference="", message="", cursor=(5, 30), name="ANN MILLER"):
-    rows = [(1, 30, "TRANSFER OF FUNDS"), (2, 50, "TELLER"), (2, 58, name), (5, 10, "FROM ACCOUNT"), (5, 30, debit)]
-    rows += [(7, 10, "TO ACCOUNT"), (7, 30, credit), (9, 10, "AMOUNT"), (9, 30, amount), (11, 10, "REFERENCE"), (11, 30, reference)]
-    return screen(cursor, *rows, (23, 2, "ENTER TRANSFER   PF3 MENU"), (24, 2, message))
-
-
-def bookings(*lines, message="", name="ANN MILLER"):
-    rows = [(1, 30, "YOUR LAST BOOKINGS"), (2, 50, "TELLER"), (2, 58, name)]
-    rows += [(4, 2, "   NO  DATE        FROM        TO                AMOUNT  REFERENCE")]
-    rows += [(row, 2, line) for row, line in enumerate(lines, 5)]
-    return screen((1, 1), *rows, (23, 2, "ENTER LOOK AGAIN   PF3 MENU"), (24, 2, message))
-
-
-# ---- checks
-
-
+@check
 def a_teller_works_at_the_bank():
     """Signs on at the second attempt, looks up a balance, transfers money at the second attempt, lists the bookings, and signs off."""
     with a_bank() as (database, _, host):
@@ -208,6 +54,7 @@ def a_teller_works_at_the_bank():
         expect("a password in the database", b"SECRET" in pathlib.Path(database).read_bytes(), False)
 
 
+@check
 def all_money_can_be_transferred():
     """The whole balance can be transferred, and then nothing is left."""
     with a_bank() as (database, _, host):
@@ -216,6 +63,7 @@ def all_money_can_be_transferred():
         expect("the balances", balances(database), [("1000200030", 125000), ("1000200044", 0), ("1000200058", 9900)])
 
 
+@check
 def the_last_ten_bookings_are_listed():
     """Of eleven bookings the last ten are listed, the last one first; those of another teller aren't."""
     with a_bank() as (database, _, host):
@@ -236,6 +84,7 @@ def the_last_ten_bookings_are_listed():
         sees(works(host, *ANN, "3", "ENTER", "SHOW", "ENTER", "SHOW"), bookings(*lines), bookings(*lines))
 
 
+@check
 def the_next_teller_sees_nothing_of_the_last_one():
     """After sign-off the next teller sees no name, account, amount or booking of the one before, on the same connection and LU."""
     with a_bank() as (_, _, host):
@@ -251,6 +100,7 @@ def the_next_teller_sees_nothing_of_the_last_one():
         sees(works(host, "SHOW", *JOHN, *john), sign_on(), *wanted)
 
 
+@check
 def each_fault_is_a_message():
     """What can't be done is a message on the same panel, with the cursor where it can be corrected, and no money moves."""
     # An inactive key that the host asks about all the same.
@@ -279,6 +129,7 @@ def each_fault_is_a_message():
         expect("the bookings", rows_of(database, "SELECT * FROM booking"), [])
 
 
+@check
 def sign_on_is_refused():
     """An unknown teller, another's password and a password in small letters are refused, all with one message."""
     with a_bank() as (_, _, host):
@@ -287,6 +138,7 @@ def sign_on_is_refused():
         sees(works(host, *does), sign_on("TELLER NUMBER OR PASSWORD IS WRONG", "4713", (7, 30)), refused, refused)
 
 
+@check
 def who_has_not_signed_on_is_led_to_the_first_panel():
     """A session in which nobody signed on is led from every panel to SIGNON, with a message, also after the application was restarted."""
     with a_bank(PANELS.replace(b'start = "SIGNON"', b'start = "MENU"')) as (database, application, host):
@@ -317,30 +169,32 @@ def who_has_not_signed_on_is_led_to_the_first_panel():
             expect("the reply after a start", again.replies(lists).get("panel"), "SIGNON")
 
 
+@check
 def a_host_that_starts_again_has_other_sessions():
     """Who comes first after a restart of the host in the middle of a session gets nothing of it, on the same LU and from any panel."""
     menu_first = PANELS.replace(b'start = "SIGNON"', b'start = "MENU"')
     with a_bank() as (_, application, host):
-        with operate.Operator(host.port) as ann:
+        with tty.Operator(host.port) as ann:
             ann.sees("BANK01")
-            ann.types("4711", operate.TAB, "SECRET", operate.ENTER)
+            ann.types("4711", tty.TAB, "SECRET", tty.ENTER)
             ann.sees("WELCOME, ANN MILLER")
-            ann.types("2", operate.ENTER)
+            ann.types("2", tty.ENTER)
             ann.sees("FROM ACCOUNT")
-            ann.types("1000200030", "1000200044", "10.00", operate.TAB, "GIFT", operate.ENTER)
+            ann.types("1000200030", "1000200044", "10.00", tty.TAB, "GIFT", tty.ENTER)
             ann.sees("BOOKING 1 DONE")
             host.process.kill()
             ann.sees("not connected")
         for key in ("1", "2", "3"):
-            with sockets.Server("serve", "--application", application.url, text=menu_first) as again:
+            with hosts.Server("serve", "--application", application.url, text=menu_first) as again:
                 sees(works(again, "SHOW", key, "ENTER", "SHOW"), menu(name=""), sign_on("SIGN ON FIRST"))
                 expect("its LU", "event=bound lu=BANK01" in again.logged(), True)
-        with sockets.Server("serve", "--application", application.url, text=PANELS) as again:
+        with hosts.Server("serve", "--application", application.url, text=PANELS) as again:
             does = ("SHOW", *JOHN, "SHOW", "3", "ENTER", "SHOW")
             name = "JOHN SMITH"
             sees(works(again, *does), sign_on(), menu("WELCOME, JOHN SMITH", name), bookings(message="NO BOOKINGS", name=name))
 
 
+@check
 def a_form_is_booked_once():
     """A transfer whose reply was lost is asked for again, and isn't done twice; the next form is another transfer."""
     with a_bank() as (database, application, _):
@@ -361,6 +215,7 @@ def a_form_is_booked_once():
         expect("the balances", balances(database), [("1000200030", 123000), ("1000200044", 11900), ("1000200058", 0)])
 
 
+@check
 def tellers_work_at_once():
     """Of transfers between the same accounts by eight tellers at once none is lost, and none is refused as long as there is money."""
     with a_bank() as (database, application, _):
@@ -388,6 +243,7 @@ def tellers_work_at_once():
         expect("the bookings", rows_of(database, count), [(f"BY {number}", 5, 1000) for number in (1, 2, 3, 4, 5, 6, 7, 9)])
 
 
+@check
 def a_database_that_fails_is_a_message():
     """A fault of the database is a message, and nothing of a transfer that fails in its middle is done."""
     with a_bank() as (database, application, host):
@@ -399,6 +255,7 @@ def a_database_that_fails_is_a_message():
     expect("what the application says", application.said, "bank.py: no room\n")
 
 
+@check
 def a_database_that_exists_is_kept():
     """The application doesn't create tellers and accounts in a database that has them."""
     with a_bank() as (database, _, host):
@@ -408,64 +265,21 @@ def a_database_that_exists_is_kept():
             expect("the tables", [rows_of(database, f"SELECT * FROM {table}") for table in ("teller", "account", "booking")], before)
 
 
+@check
 def the_first_application_greets():
     """The application in 15 lines greets who types a name, and is the one that the documents print."""
-    code = (HERE.parent / "examples/greeting.py").read_text()
+    code = (TOP / "examples/greeting.py").read_text()
     printed = "".join(f"    {line}\n" if line else "\n" for line in code.splitlines())
     for page in ("README.md", "docs/APPLICATIONS.md"):
-        expect(f"{page} prints it", printed in (HERE.parent / page).read_text(), True)
-    port = sockets.free_port()
+        expect(f"{page} prints it", printed in (TOP / page).read_text(), True)
+    port = hosts.free_port()
     process = subprocess.Popen([sys.executable, "-c", code.replace("8080", str(port))], stderr=subprocess.DEVNULL)
     try:
-        sockets.until("the application listens", lambda: is_listening(port))
-        panels = (HERE.parent / "examples/greeting.toml").read_bytes()
-        with sockets.Server("serve", "--application", f"http://127.0.0.1:{port}/", text=panels) as host:
+        hosts.until("the application listens", lambda: is_listening(port))
+        panels = (TOP / "examples/greeting.toml").read_bytes()
+        with hosts.Server("serve", "--application", f"http://127.0.0.1:{port}/", text=panels) as host:
             wanted = screen((3, 2), (1, 2, "WHO IS THERE?"), (3, 2, "ADA"), (24, 2, "GOOD MORNING, ADA"))
             sees(works(host, "ADA", "ENTER", "SHOW"), wanted)
     finally:
         process.kill()
         process.wait()
-
-
-def is_listening(port):
-    with contextlib.closing(socket.socket()) as it:
-        return it.connect_ex(("127.0.0.1", port)) == 0
-
-
-CHECKS = [
-    the_first_application_greets,
-    a_teller_works_at_the_bank,
-    all_money_can_be_transferred,
-    the_last_ten_bookings_are_listed,
-    the_next_teller_sees_nothing_of_the_last_one,
-    each_fault_is_a_message,
-    sign_on_is_refused,
-    who_has_not_signed_on_is_led_to_the_first_panel,
-    a_host_that_starts_again_has_other_sessions,
-    a_form_is_booked_once,
-    tellers_work_at_once,
-    a_database_that_fails_is_a_message,
-    a_database_that_exists_is_kept,
-]
-
-
-def main():
-    if not sockets.PROGRAM.exists():
-        sys.exit(f"runs/bank: {sockets.PROGRAM} isn't built")
-    # A run that is ended ends its processes, too.
-    signal.signal(signal.SIGTERM, lambda *_: sys.exit(143))
-    failed = 0
-    for check in CHECKS:
-        if len(sys.argv) > 1 and check.__name__ not in sys.argv[1:]:
-            continue
-        try:
-            check()
-        except (Differs, OSError, subprocess.TimeoutExpired, sqlite3.Error) as fault:
-            failed += 1
-            print(f"{check.__name__}: {fault}", flush=True)
-    if failed:
-        sys.exit(f"runs/bank: of {len(CHECKS)} checks {failed} failed")
-
-
-if __name__ == "__main__":
-    main()

@@ -1,228 +1,24 @@
-#!/usr/bin/env python3
-"""Runs a host whose panels ask an application, and says where it does something else than it promises.
+"""A host whose panels ask an application: what operators see of its replies and failures.
 
-Each check is a function below; its first line says what holds. The application is this script: it takes a request at its own socket, and
-sends what the check is about. In each check a second operator works on while the first one waits. What a client hears is spelt as in
-`sockets`, whose clients and runs these are.
-
-The program has to be built. Prints nothing, and ends with status 0, if all hold. It takes less than a minute.
-"""
+In each check a second operator works on while the first one waits."""
 import contextlib
-import importlib.machinery
-import importlib.util
 import json
-import os
 import pathlib
 import re
-import select
 import socket
-import subprocess
-import sys
 import time
 
-HERE = pathlib.Path(__file__).resolve().parent
-sys.dont_write_bytecode = True
-LOADER = importlib.machinery.SourceFileLoader("sockets", str(HERE / "sockets"))
-sockets = importlib.util.module_from_spec(importlib.util.spec_from_loader("sockets", LOADER))
-LOADER.exec_module(sockets)
-sockets.PROGRAM = pathlib.Path(os.environ.get("PANEL3270", sockets.PROGRAM))
-Differs, expect, until = sockets.Differs, sockets.expect, sockets.until
+from harness import hosts
+from harness.applications import Application, Host, LIMIT, OWN, Operator, PANELS, a_host, reply
+from harness.case import Checks, expect
 
-PANELS = b"""
-start = "WORD"
-lus = ["PNL01", "PNL02"]
+check = Checks()
+cases = check.cases
 
-[[panel]]
-name = "WORD"
-asks = ["enter", "pf1", "pa1"]
-[[panel.text]]
-row = 1
-col = 2
-text = "FIRST PANEL"
-[[panel.field]]
-name = "word"
-row = 3
-col = 8
-length = 8
-[[panel.field]]
-name = "secret"
-row = 5
-col = 8
-length = 8
-hidden = true
-[panel.keys]
-pf3 = "MENU"
-
-[[panel]]
-name = "MENU"
-[[panel.text]]
-row = 1
-col = 2
-text = "SECOND PANEL"
-[[panel.field]]
-name = "choice"
-row = 7
-col = 8
-length = 4
-[[panel.text]]
-row = 9
-col = 8
-show = "seat"
-length = 8
-[panel.keys]
-pf3 = "WORD"
-
-[[panel]]
-name = "WIDE"
-model = 5
-otherwise = "MENU"
-[[panel.field]]
-name = "seat"
-row = 25
-col = 100
-length = 4
-"""
-WORD, SECRET = bytes.fromhex("C2 E7"), bytes.fromhex("C5 C7")
-KEYS = {"enter": b"\x7d", "pf1": b"\xf1", "pf3": b"\xf3"}
 NOT_AVAILABLE, ERROR = "APPLICATION NOT AVAILABLE", "APPLICATION ERROR"
-# The time limit of most checks, in seconds.
-LIMIT = 1
-# With this a host knows what is in a field that it kept and that isn't returned; else it reads the screen (`any-terminal`).
-OWN = "--own-terminals"
 
 
-class Operator(sockets.Client):
-    """An operator, who sees the text of what the host writes."""
-
-    def record(self):
-        """The next record of the host."""
-        while b"\xff\xef" not in self.kept:
-            more = self.more()
-            if not more:
-                raise Differs("a client's connection ended")
-            self.kept = (self.kept + more).replace(sockets.NOP, b"")
-        record, _, self.kept = self.kept.partition(b"\xff\xef")
-        return record
-
-    def sees(self, *texts):
-        """Is written a screen with these texts, and takes it."""
-        shown = self.record().decode("cp037")
-        self.says(b"\x02\x00\x00", self.writes.to_bytes(2, "big"), b"\x00\xff\xef")
-        self.writes += 1
-        for text in texts:
-            expect(f"a screen with {text!r}", text in shown, True)
-        return shown
-
-    def signs_on(self, lu):
-        self.is_asked()
-        self.asks_for(None)
-        self.hears(sockets.device_type(4, lu))
-        self.says(sockets.FUNCTIONS_REQUEST)
-        self.hears(sockets.FUNCTIONS_IS)
-        self.sees("FIRST PANEL")
-        return self
-
-    def presses(self, key, word="", secret=""):
-        """Presses a key, with what is in the fields."""
-        fields = b"".join(b"\x11" + at + text.encode("cp037") for at, text in ((WORD, word), (SECRET, secret)) if text)
-        self.says(b"\x00\x00\x00\x00\x00", KEYS[key], bytes.fromhex("C2 E8"), fields, b"\xff\xef")
-
-    def works(self):
-        """Goes to the other panel and back, without an application, in less than the application's time."""
-        begun = time.monotonic()
-        self.presses("pf3")
-        self.sees("SECOND PANEL")
-        self.presses("pf3")
-        self.sees("FIRST PANEL")
-        expect("the second operator is served", time.monotonic() - begun < 0.5 * LIMIT, True)
-
-
-class Application:
-    """An application at a port of this machine."""
-
-    def __init__(self):
-        self.listener = socket.create_server((sockets.LOCALHOST, 0))
-        self.listener.settimeout(sockets.PATIENCE)
-        self.port = self.listener.getsockname()[1]
-        self.url = f"http://{sockets.LOCALHOST}:{self.port}/bank?branch=7"
-
-    def takes(self):
-        """The next exchange."""
-        return Exchange(self.listener.accept()[0])
-
-    def has_no_other(self):
-        """Nobody else connects for a while."""
-        expect("another exchange", select.select([self.listener], [], [], 0.2)[0], [])
-
-
-class Exchange:
-    """A request that came, and its connection."""
-
-    def __init__(self, connection):
-        self.connection = connection
-        self.connection.settimeout(sockets.PATIENCE)
-        came = b""
-        while b"\r\n\r\n" not in came:
-            came += self.more()
-        self.head, _, body = came.partition(b"\r\n\r\n")
-        length = int(re.search(rb"Content-Length: (\d+)", self.head)[1])
-        while len(body) < length:
-            body += self.more()
-        self.body, self.asked = body, json.loads(body)
-
-    def more(self):
-        more = self.connection.recv(1 << 16)
-        if not more:
-            raise Differs("the host closed before its request's end")
-        return more
-
-    def sends(self, content, status="200 OK"):
-        """Sends a reply, and closes."""
-        with contextlib.suppress(OSError):
-            self.connection.sendall(reply(content, status))
-            self.connection.shutdown(socket.SHUT_WR)
-
-    def is_closed(self):
-        """Hears the host close the connection."""
-        with contextlib.suppress(OSError):
-            expect("the end of an exchange", self.connection.recv(1), b"")
-
-
-def reply(content, status="200 OK"):
-    """A reply with its length."""
-    if not isinstance(content, bytes):
-        content = json.dumps(content).encode()
-    return f"HTTP/1.1 {status}\r\nContent-Length: {len(content)}\r\n\r\n".encode() + content
-
-
-class Host(sockets.Server):
-    """A host with an application and two operators."""
-
-    def __init__(self, url, *words, seconds=LIMIT, **how):
-        super().__init__("serve", "--application", url, "--application-timeout", str(seconds), *words, text=PANELS, **how)
-
-    def operators(self):
-        self.first, self.second = (Operator(self.port).signs_on(lu) for lu in ("PNL01", "PNL02"))
-        return self.first, self.second
-
-    def has_said(self, event, conn=0):
-        """Its log has a line of this event of a connection."""
-        wanted = sockets.event(conn, (self.first, self.second)[conn], event)
-        until(f"its log has {wanted!r}", lambda: wanted in self.events())
-
-    def session(self, conn):
-        """The name of the session that a connection has, by the log's last line on it."""
-        return re.findall(rf" conn={conn} session=(\S+) ", self.logged())[-1]
-
-
-@contextlib.contextmanager
-def a_host(*words):
-    """A host with these words, its application and its two operators."""
-    application = Application()
-    with Host(application.url, *words) as host:
-        yield host, application, *host.operators()
-
-
+@check
 def an_application_is_told_what_is_seen_and_decides():
     """The request has each key; the answer's panel, texts, message and cursor are shown; and another key leads by itself."""
     with a_host() as (host, application, first, second):
@@ -268,6 +64,7 @@ def a_failure_is_told_and_the_key_asks_again(content, status, message, event, ra
         first.sees("ONCE MORE")
 
 
+@check
 def each_wrong_reply_is_an_error():
     """Each reply that says nothing that the host can do is APPLICATION ERROR, and the log says what was wrong."""
     long = b"HTTP/1.1 200 OK\r\n\r\n" + b" " * (1 << 16)
@@ -299,6 +96,7 @@ def each_wrong_reply_is_an_error():
         a_failure_is_told_and_the_key_asks_again(content, "", ERROR, f"application-error reason={event}", raw=True)
 
 
+@check
 def a_reply_that_breaks_off_is_no_application():
     """A connection that is closed before the reply's end, or that fails, is APPLICATION NOT AVAILABLE."""
     for content in (b"", b"HTTP/1.1 200", reply({"message": "X"})[:-1]):
@@ -306,6 +104,7 @@ def a_reply_that_breaks_off_is_no_application():
         a_failure_is_told_and_the_key_asks_again(content, "", NOT_AVAILABLE, event, raw=True)
 
 
+@check
 def where_nothing_listens_the_operator_is_told():
     """It is APPLICATION NOT AVAILABLE at once, and the key asks again."""
     application = Application()
@@ -316,13 +115,14 @@ def where_nothing_listens_the_operator_is_told():
         first.sees(NOT_AVAILABLE)
         host.has_said("application-not-available reason=refused")
         second.works()
-        with socket.create_server((sockets.LOCALHOST, application.port)) as application.listener:
-            application.listener.settimeout(sockets.PATIENCE)
+        with socket.create_server((hosts.LOCALHOST, application.port)) as application.listener:
+            application.listener.settimeout(hosts.PATIENCE)
             first.presses("enter", "LOGAN")
             application.takes().sends({"message": "BACK"})
             first.sees("BACK")
 
 
+@check
 def an_application_that_never_answers_is_not_available():
     """Its time is over after the limit and not before, whether it sends nothing or byte by byte; the others are served meanwhile."""
     for sent in (b"", reply({"message": "SLOW"})[:-1]):
@@ -344,6 +144,7 @@ def an_application_that_never_answers_is_not_available():
             second.works()
 
 
+@check
 def an_operator_who_waits_for_the_application_is_not_idle():
     """An application may take longer than the limit for idle clients; who then presses no key is dropped after the limit."""
     application = Application()
@@ -357,10 +158,11 @@ def an_operator_who_waits_for_the_application_is_not_idle():
             time.sleep(0.2)
         exchange.sends({"message": "AT LAST"})
         first.sees("AT LAST")
-        sockets.in_seconds(0.8, 3, "it is dropped", first.hears_the_end)
+        hosts.in_seconds(0.8, 3, "it is dropped", first.hears_the_end)
         host.has_said("idle turns=1")
 
 
+@check
 def a_reply_may_come_byte_by_byte():
     """It is read however it comes, with its length, in chunks, or up to the end of the connection."""
     content = b'{"message": "SLOWLY"}'
@@ -379,6 +181,7 @@ def a_reply_may_come_byte_by_byte():
             first.sees("SLOWLY")
 
 
+@check
 def a_reply_of_the_longest_length_is_read():
     """One of 65,536 bytes is read, and one of a byte more is APPLICATION ERROR."""
     for more, seen in ((0, "WHOLE"), (1, ERROR)):
@@ -398,6 +201,7 @@ def a_reply_of_the_longest_length_is_read():
                 host.has_said("application-error reason=too-long")
 
 
+@check
 def a_second_reply_is_dropped():
     """Of two replies on one connection the first one counts."""
     with a_host(OWN) as (_, application, first, second):
@@ -413,6 +217,7 @@ def a_second_reply_is_dropped():
         first.sees("THREE")
 
 
+@check
 def a_reply_to_one_who_left_is_dropped():
     """It reaches nobody, not even the next operator on the same number, and the log says so."""
     with a_host() as (host, application, first, second):
@@ -432,6 +237,7 @@ def a_reply_to_one_who_left_is_dropped():
         expect("the late reply", "LATE" in third.sees("MINE"), False)
 
 
+@check
 def a_long_text_is_cut():
     """A text longer than its field is cut, as is a message longer than the row; characters beyond ASCII are shown."""
     with a_host() as (_, application, first, second):
@@ -447,6 +253,7 @@ def a_long_text_is_cut():
         first.sees()
 
 
+@check
 def characters_that_code_page_037_lacks_are_shown_plainly():
     """Each is replaced, in the message and in fields; the log has one line for the reply, without its text."""
     with a_host(OWN) as (host, application, first, second):
@@ -480,6 +287,7 @@ def characters_that_code_page_037_lacks_are_shown_plainly():
         expect("a hidden text in its log", "SESAME" in host.logged() or "OPEN" in host.logged(), False)
 
 
+@check
 def a_wide_panel_is_answered_alike_for_all_terminals():
     """Its fields are those of the reply's cursor, and keep their texts while its `otherwise` is shown, whose fields don't."""
     with a_host() as (host, application, first, second):
@@ -495,9 +303,10 @@ def a_wide_panel_is_answered_alike_for_all_terminals():
         expect("a fault in its log", "application-error" in host.logged(), False)
 
 
+@check
 def all_operators_are_asked_for_at_once():
     """64 operators wait at once, each with one exchange, and each gets the answer to its own question."""
-    lus = [f"LU{number:02}" for number in range(sockets.MOST_CONNECTIONS)]
+    lus = [f"LU{number:02}" for number in range(hosts.MOST_CONNECTIONS)]
     application = Application()
     with Server64(application.url, lus) as host:
         operators = [Operator(host.port).signs_on(lu) for lu in lus]
@@ -511,7 +320,7 @@ def all_operators_are_asked_for_at_once():
             operator.sees(f"LU{number:02}W{number:02}")
 
 
-class Server64(sockets.Server):
+class Server64(hosts.Server):
     """A host of 64 LUs, with an application."""
 
     def __init__(self, url, lus):
@@ -519,6 +328,7 @@ class Server64(sockets.Server):
         super().__init__("serve", "--application", url, "--application-timeout", "60", text=text)
 
 
+@check
 def no_reply_grows_the_memory_of_the_host():
     """The host's memory doesn't grow by replies of seven kinds, by one that never comes, nor by operators who leave."""
     long = b'{"message": "X"}'.ljust(60000)
@@ -545,7 +355,7 @@ def no_reply_grows_the_memory_of_the_host():
                 late = application.takes()
                 second.leaves()
                 left += 1
-                until("the host drops a reply", lambda: host.logged().count("application-reply-dropped") == left)
+                hosts.until("the host drops a reply", lambda: host.logged().count("application-reply-dropped") == left)
                 late.sends({"message": "LATE"})
                 second = Operator(host.port).signs_on("PNL02")
             sizes.append(int(re.search(r"VmRSS:\s+(\d+) kB", status.read_text())[1]))
@@ -553,6 +363,7 @@ def no_reply_grows_the_memory_of_the_host():
         expect(f"its memory grows by less than 256 KiB: {sizes}", sizes[2] - sizes[0] < 256, True)
 
 
+@check
 def without_an_application_panels_that_ask_are_refused():
     """serve and host name the first panel that asks, and its first key, Enter before PA keys and PF keys, and don't listen."""
     first = PANELS.replace(b'["enter", "pf1", "pa1"]', b'["pf12", "pf9", "pa3"]')
@@ -560,16 +371,17 @@ def without_an_application_panels_that_ask_are_refused():
     for text, panel, key in ((PANELS, "WORD", "enter"), (first, "WORD", "pa3"), (second, "MENU", "pf24")):
         asks = f"panel {panel} asks the application about {key}"
         for words, advice in ((["serve"], "give --application URL"), (["host"], "host has no application: use serve --application URL")):
-            with socket.create_server((sockets.LOCALHOST, 0)) as taken:
-                told = sockets.run([*words, "--port", taken.getsockname()[1]], text)
+            with socket.create_server((hosts.LOCALHOST, 0)) as taken:
+                told = hosts.run([*words, "--port", taken.getsockname()[1]], text)
             expect(f"{words[0]} with {key}", told, (2, "", f"{asks}; {advice}\n"))
-    told = sockets.run(["serve", "--listen", "0.0.0.0", "--quiet", "--port", sockets.free_port()], PANELS)
+    told = hosts.run(["serve", "--listen", "0.0.0.0", "--quiet", "--port", hosts.free_port()], PANELS)
     expect("a quiet serve", told, (2, "", "panel WORD asks the application about enter; give --application URL\n"))
     for job in ("script", "selfrun"):
-        told = sockets.run([job], PANELS + b"%%\nconnect 0\nsettle\nkey 0 enter\nsettle\nanswer 0 MENU\nsettle\nstatus 0\n")
+        told = hosts.run([job], PANELS + b"%%\nconnect 0\nsettle\nkey 0 enter\nsettle\nanswer 0 MENU\nsettle\nstatus 0\n")
         expect(job, told, (0, "bound PNL01\n", ""))
 
 
+@check
 def a_url_that_is_none_is_refused():
     """Another machine, another scheme, a user, a fragment, or no URL at all ends the program, as does a time that is none."""
     for url, why in (
@@ -579,50 +391,9 @@ def a_url_that_is_none_is_refused():
         ("http://127.0.0.1/#here", "the URL has a fragment, behind #"),
         ("bank", "not a URL"),
     ):
-        told = sockets.run(["serve", "--port", sockets.free_port(), "--application", url], PANELS)
+        told = hosts.run(["serve", "--port", hosts.free_port(), "--application", url], PANELS)
         expect(url, told, (2, "", f"--application: {why}\n"))
     for seconds in ("0", "3601", "x"):
-        told = sockets.run(["serve", "--port", 5000, "--application-timeout", seconds], PANELS)
+        told = hosts.run(["serve", "--port", 5000, "--application-timeout", seconds], PANELS)
         wanted = f"error: invalid value '{seconds}' for '--application-timeout'\nFor more information, try 'panel3270 help serve'.\n"
         expect(seconds, told, (2, "", wanted))
-
-
-CHECKS = [
-    an_application_is_told_what_is_seen_and_decides,
-    each_wrong_reply_is_an_error,
-    a_reply_that_breaks_off_is_no_application,
-    where_nothing_listens_the_operator_is_told,
-    an_application_that_never_answers_is_not_available,
-    an_operator_who_waits_for_the_application_is_not_idle,
-    a_reply_may_come_byte_by_byte,
-    a_reply_of_the_longest_length_is_read,
-    a_second_reply_is_dropped,
-    a_reply_to_one_who_left_is_dropped,
-    a_long_text_is_cut,
-    characters_that_code_page_037_lacks_are_shown_plainly,
-    a_wide_panel_is_answered_alike_for_all_terminals,
-    all_operators_are_asked_for_at_once,
-    no_reply_grows_the_memory_of_the_host,
-    without_an_application_panels_that_ask_are_refused,
-    a_url_that_is_none_is_refused,
-]
-
-
-def main():
-    if not sockets.PROGRAM.exists():
-        sys.exit(f"runs/applications: {sockets.PROGRAM} isn't built")
-    failed = 0
-    for check in CHECKS:
-        if len(sys.argv) > 1 and check.__name__ not in sys.argv[1:]:
-            continue
-        try:
-            check()
-        except (Differs, OSError, subprocess.TimeoutExpired) as fault:
-            failed += 1
-            print(f"{check.__name__}: {fault}", flush=True)
-    if failed:
-        sys.exit(f"runs/applications: of {len(CHECKS)} checks {failed} failed")
-
-
-if __name__ == "__main__":
-    main()
