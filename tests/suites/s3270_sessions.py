@@ -102,18 +102,18 @@ def ran(command: str, port: int, folder: pathlib.Path) -> tuple[str, int]:
     return DATE.sub(lambda it: "TODAY" if it[0] in days else it[0], done.stdout.decode()), done.returncode
 
 
-def write_files(session: Session, folder: pathlib.Path) -> None:
-    """Writes the files that a document writes before a session."""
+def write_files(session: Session, port: int, folder: pathlib.Path) -> None:
+    """Writes the files that a document writes before a session, for the host at a port."""
     for it in sessions():
         if it.at.file == session.at.file and it.at.line < session.at.line and it.command.startswith("cat > "):
-            subprocess.run(["sh", "-c", it.command], cwd=folder, check=True, timeout=60)
+            ran(it.command, port, folder)
 
 
 def check_at(session: Session, host: hosts.Server) -> None:
     """Raises a Difference if a session at a host isn't as the document prints it."""
     with tempfile.TemporaryDirectory() as name:
         folder = pathlib.Path(name)
-        write_files(session, folder)
+        write_files(session, host.port, folder)
         with encrypted(session.command, host.port, folder) if session.word == TLS else contextlib.nullcontext(session.command) as command:
             came = ran(command, host.port, folder)
     text, status = documents.printed(session.prints)
