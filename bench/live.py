@@ -1,7 +1,7 @@
 #!/usr/bin/env python3
 """Measures the operator's live terminal on a tty of its own: bytes written, the time from a key to its cell, and an idle one's processor.
 
-    examples/live.py PROGRAM
+    bench/live.py PROGRAM
 
 starts a host with the bank's panels and bin/operate, types, and prints a line for each figure. docs/PERFORMANCE.md has them.
 """
@@ -93,7 +93,7 @@ def measure(tty, script):
 
 def main():
     program, port = sys.argv[1], free_port()
-    words = [program, "serve", "--quiet", "--port", str(port), "--panels", str(HERE / "bank.toml")]
+    words = [program, "serve", "--quiet", "--port", str(port), "--panels", str(HERE.parent / "examples/bank.toml")]
     host = subprocess.Popen(words, stdin=subprocess.DEVNULL)
     time.sleep(0.5)
     tty, slave = pty.openpty()
