@@ -42,12 +42,20 @@ fn put_file(answer: &mut String, file: &Option<FileName<'_>>) -> Result<(), Allo
 
 fn put_limits(answer: &mut String, limits: &TimeLimits) -> Result<(), AllocError> {
     let (negotiate, keepalive) = (limits.negotiate.get(), limits.keepalive.get());
-    write!(answer, "limits {negotiate} {keepalive} {}\n", limits.idle.get())
+    write!(
+        answer,
+        "limits {negotiate} {keepalive} {}\n",
+        limits.idle.get()
+    )
 }
 
 fn put_service(answer: &mut String, service: &Service) -> Result<(), AllocError> {
     let (port, terminals, quiet) = (service.port.get(), service.terminals, service.quiet);
-    write!(answer, "serve {} {port} {terminals:?} {quiet}\n", service.listen)?;
+    write!(
+        answer,
+        "serve {} {port} {terminals:?} {quiet}\n",
+        service.listen
+    )?;
     put_limits(answer, &service.limits)?;
     match service.metrics {
         Some(metrics) => write!(answer, "metrics {}\n", metrics.get()),
@@ -67,7 +75,12 @@ fn put_application(
 }
 
 fn put_live(answer: &mut String, options: &LiveOptions) -> Result<(), AllocError> {
-    write!(answer, "operate {} {:?}\n", options.port.get(), options.model)?;
+    write!(
+        answer,
+        "operate {} {:?}\n",
+        options.port.get(),
+        options.model
+    )?;
     put_lu(answer, &options.lu)?;
     match options.tty {
         Some(tty) => write!(answer, "tty {} {}\n", tty.rows, tty.columns),
@@ -188,7 +201,12 @@ fn put_terminal(answer: &mut String, line: &str) -> Result<(), AllocError> {
 }
 
 /// Puts what a text asks for as a line of this kind. Whether there is such a kind.
-fn put_line(alloc: Global, answer: &mut String, kind: &str, text: &str) -> Result<bool, AllocError> {
+fn put_line(
+    alloc: Global,
+    answer: &mut String,
+    kind: &str,
+    text: &str,
+) -> Result<bool, AllocError> {
     match kind {
         "words" => put_split(alloc, answer, text)?,
         "script" => put_script(alloc, answer, text)?,

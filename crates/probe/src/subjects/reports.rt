@@ -20,7 +20,12 @@ pub(crate) struct Reports {
 
 fn put_report(alloc: Global, answer: &mut String, text: &str) -> Result<(), AllocError> {
     let report = check(alloc, text)?;
-    write!(answer, "faults {} agrees {}\n", report.faults(), report.agrees)?;
+    write!(
+        answer,
+        "faults {} agrees {}\n",
+        report.faults(),
+        report.agrees
+    )?;
     put_text(answer, report.page(alloc, "text")?.as_str())
 }
 

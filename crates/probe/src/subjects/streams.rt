@@ -14,7 +14,9 @@ use crate::line::{Words, text_of};
 use crate::subject::Subject;
 use codes3270::Model;
 use host_core::Terminals;
-use jobs3270::{CountedReader, CountedWriter, OperatorSession, Wire, operate, run_script, run_show};
+use jobs3270::{
+    CountedReader, CountedWriter, OperatorSession, Wire, operate, run_script, run_show,
+};
 use std::alloc::{AllocError, Global};
 use std::io::{self, ErrorKind, Read, Write};
 use tn3270e_msg::Lu;
@@ -175,7 +177,12 @@ fn put_status(
 }
 
 impl Streams {
-    fn put_run(&self, is_show: bool, line: &mut Words<'_>, answer: &mut String) -> Result<(), Fault> {
+    fn put_run(
+        &self,
+        is_show: bool,
+        line: &mut Words<'_>,
+        answer: &mut String,
+    ) -> Result<(), Fault> {
         let fails = line.number::<u8>()? == 1;
         let (room, interruptions) = (line.number()?, line.number()?);
         let input = reads_of(self.alloc, line, fails)?;
@@ -183,7 +190,12 @@ impl Streams {
         let mut faults = Paper::new(self.alloc, usize::MAX, interruptions);
         put_status(self.alloc, is_show, answer, input, &mut out, &mut faults)?;
         put_named(self.alloc, answer, "out", out.into_inner().text.as_slice())?;
-        put_named(self.alloc, answer, "faults", faults.into_inner().text.as_slice())?;
+        put_named(
+            self.alloc,
+            answer,
+            "faults",
+            faults.into_inner().text.as_slice(),
+        )?;
         Ok(())
     }
 
@@ -197,7 +209,14 @@ impl Streams {
         };
         let mut out = Paper::new(self.alloc, room, 0);
         let lu = Lu::read(b"PNL01");
-        match operate(self.alloc, Model::M2, lu, text_of(script.as_slice())?, &mut wire, &mut out) {
+        match operate(
+            self.alloc,
+            Model::M2,
+            lu,
+            text_of(script.as_slice())?,
+            &mut wire,
+            &mut out,
+        ) {
             Ok(()) => answer.push_str("done\n")?,
             Err(fault) => write!(answer, "{fault}\n")?,
         }
@@ -241,7 +260,8 @@ fn session_of(alloc: Global, sides: Sides) -> Option<Session> {
         reads: Reads::new(sides.came, Some(ErrorKind::WouldBlock)),
         sent: Vec::new(alloc),
     };
-    let Ok(mut session) = Session::new(alloc, Model::M2, keys, Paper::new(alloc, usize::MAX, 0)) else {
+    let Ok(mut session) = Session::new(alloc, Model::M2, keys, Paper::new(alloc, usize::MAX, 0))
+    else {
         return None;
     };
     match session.connect(pipe, None) {
