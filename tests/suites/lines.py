@@ -63,7 +63,7 @@ JOBS: dict[str, Callable[..., str]] = {
     "check": lambda more: f"check{of_file(more)}",
     "serve": serve,
     "term": term,
-    "operate": lambda port, name, more: f"operate, {term(port, name, more)}{behind(more, 'tty', ', {} rows of {}')}",
+    "operate": lambda port, name, more: f"operate, {term(port, name, more)}{behind(more, 'rows', ', {} rows of ')}{more.get('columns', '')}",
     "help": lambda topic, more: f"help of {TOPICS[int(topic)]}",
 }
 

@@ -9,6 +9,8 @@ cases = check.cases
 ALL = 2**64 - 1
 # What the program reads of its input (docs/USING.md, "Limits").
 MOST_BYTES, MOST_READS = 1_048_576, 65_536
+# The most bytes of a read.
+CHUNK = 4096
 
 
 def pieces(data: bytes, size: int) -> list[str]:
@@ -46,8 +48,9 @@ def input_that_breaks_off_is_refused() -> None:
 @check
 def input_is_read_up_to_its_limits_of_bytes_and_reads() -> None:
     """A byte more than may be read isn't; and of one byte a read, the last read that is allowed finds the end."""
-    expect("the status with all bytes", run("show", [f"20*{MOST_BYTES}"])[0], 0)
-    expect("one byte more", run("show", [f"20*{MOST_BYTES + 1}"]), UNREAD)
+    blanks = [f"20*{CHUNK}"] * (MOST_BYTES // CHUNK)
+    expect("the status with all bytes", run("show", blanks)[0], 0)
+    expect("one byte more", run("show", [*blanks, "20"]), UNREAD)
     expect("the status with a read too many", run("show", ["20"] * MOST_READS)[0], 1)
     expect("the status with all reads", run("show", ["20"] * (MOST_READS - 1))[0], 0)
 
@@ -101,7 +104,7 @@ def screen(row: str, cursor: int) -> str:
 
 def term(script: str, reads: list[str], fails: bool = False, room: int = ALL, sends: int = ALL) -> tuple[str, str, bytes]:
     """How a terminal's script ends, what it prints, and what it sends."""
-    end, out, sent = outcome(f"term {script.encode().hex()} {int(fails)} {room} {sends} {' '.join(reads)}".rstrip())
+    end, out, sent = outcome(f"term {int(fails)} {room} {sends} {script.encode().hex()} {' '.join(reads)}".rstrip())
     return end, out.decode(), sent
 
 

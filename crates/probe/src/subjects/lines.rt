@@ -10,12 +10,9 @@ use crate::answer::put_named;
 use crate::fault::Fault;
 use crate::line::{Words, text_of};
 use crate::subject::Subject;
-use jobs3270::{
-    ApplicationChoice, FileName, Job, LiveOptions, ScriptCommand, Service, TerminalCommand,
-    TimeLimits, WordFault, typed_text, words,
-};
+use jobs3270::{Job, ScriptCommand, Service, TerminalCommand, WordFault, typed_text, words};
 use std::alloc::{AllocError, Global};
-use tn3270e_msg::Lu;
+use std::fmt::Display;
 use world3270::Event;
 
 /// Calls of jobs3270 that read lines.
@@ -26,27 +23,16 @@ pub(crate) struct Lines {
 
 // ---- command lines
 
-fn put_lu(answer: &mut String, lu: &Option<Lu>) -> Result<(), AllocError> {
-    match lu {
-        Some(lu) => write!(answer, "lu {lu}\n"),
+/// Puts a line with a value, if there is one.
+fn put_some<D: Display + Drop>(
+    answer: &mut String,
+    name: &str,
+    value: Option<D>,
+) -> Result<(), AllocError> {
+    match value {
+        Some(value) => write!(answer, "{name} {value}\n"),
         None => Ok(()),
     }
-}
-
-fn put_file(answer: &mut String, file: &Option<FileName<'_>>) -> Result<(), AllocError> {
-    match file {
-        Some(file) => write!(answer, "file {}\n", file.as_str()),
-        None => Ok(()),
-    }
-}
-
-fn put_limits(answer: &mut String, limits: &TimeLimits) -> Result<(), AllocError> {
-    let (negotiate, keepalive) = (limits.negotiate.get(), limits.keepalive.get());
-    write!(
-        answer,
-        "limits {negotiate} {keepalive} {}\n",
-        limits.idle.get()
-    )
 }
 
 fn put_service(answer: &mut String, service: &Service) -> Result<(), AllocError> {
@@ -56,35 +42,28 @@ fn put_service(answer: &mut String, service: &Service) -> Result<(), AllocError>
         "serve {} {port} {terminals:?} {quiet}\n",
         service.listen
     )?;
-    put_limits(answer, &service.limits)?;
-    match service.metrics {
-        Some(metrics) => write!(answer, "metrics {}\n", metrics.get()),
-        None => Ok(()),
-    }
-}
-
-fn put_application(
-    answer: &mut String,
-    application: &ApplicationChoice<'_>,
-) -> Result<(), AllocError> {
-    write!(answer, "reply {}\n", application.reply_time.get())?;
-    match &application.url {
-        Some(url) => write!(answer, "url {}\n", url.as_str()),
-        None => Ok(()),
-    }
-}
-
-fn put_live(answer: &mut String, options: &LiveOptions) -> Result<(), AllocError> {
+    let (negotiate, idle) = (service.limits.negotiate.get(), service.limits.idle.get());
     write!(
         answer,
-        "operate {} {:?}\n",
-        options.port.get(),
-        options.model
+        "limits {negotiate} {} {idle}\n",
+        service.limits.keepalive.get()
     )?;
-    put_lu(answer, &options.lu)?;
-    match options.tty {
-        Some(tty) => write!(answer, "tty {} {}\n", tty.rows, tty.columns),
-        None => Ok(()),
+    put_some(answer, "metrics", service.metrics.map(|port| port.get()))
+}
+
+fn put_job(answer: &mut String, job: &Job<'_>) -> Result<(), AllocError> {
+    match job {
+        Job::Script { terminals } => write!(answer, "script {terminals:?}\n"),
+        Job::Show { model } => write!(answer, "show {model:?}\n"),
+        Job::Selfrun { turns } => write!(answer, "selfrun {}\n", turns.get()),
+        Job::Host { port, turns } => write!(answer, "host {} {}\n", port.get(), turns.get()),
+        Job::Check { file } => {
+            answer.push_str("check\n")?;
+            put_some(answer, "file", file.as_ref().map(|file| file.as_str()))
+        }
+        Job::Help(topic) => write!(answer, "help {}\n", *topic as u8),
+        Job::Version => answer.push_str("version\n"),
+        _ => put_end(answer, job),
     }
 }
 
@@ -97,49 +76,43 @@ fn put_end(answer: &mut String, job: &Job<'_>) -> Result<(), AllocError> {
             application,
         } => {
             put_service(answer, service)?;
-            put_application(answer, application)?;
-            put_file(answer, panels)
+            write!(answer, "reply {}\n", application.reply_time.get())?;
+            put_some(
+                answer,
+                "url",
+                application.url.as_ref().map(|url| url.as_str()),
+            )?;
+            put_some(answer, "file", panels.as_ref().map(|file| file.as_str()))
         }
         Job::Term { port, lu, model } => {
             write!(answer, "term {} {model:?}\n", port.get())?;
-            put_lu(answer, lu)
+            put_some(answer, "lu", *lu)
         }
-        Job::Operate(options) => put_live(answer, options),
+        Job::Operate(options) => {
+            write!(
+                answer,
+                "operate {} {:?}\n",
+                options.port.get(),
+                options.model
+            )?;
+            put_some(answer, "lu", options.lu)?;
+            put_some(answer, "rows", options.tty.map(|tty| tty.rows))?;
+            put_some(answer, "columns", options.tty.map(|tty| tty.columns))
+        }
         _ => answer.push_str("another job\n"),
     }
 }
 
-fn put_job(answer: &mut String, job: &Job<'_>) -> Result<(), AllocError> {
-    match job {
-        Job::Script { terminals } => write!(answer, "script {terminals:?}\n"),
-        Job::Show { model } => write!(answer, "show {model:?}\n"),
-        Job::Selfrun { turns } => write!(answer, "selfrun {}\n", turns.get()),
-        Job::Host { port, turns } => write!(answer, "host {} {}\n", port.get(), turns.get()),
-        Job::Check { file } => {
-            answer.push_str("check\n")?;
-            put_file(answer, file)
-        }
-        Job::Help(topic) => write!(answer, "help {}\n", *topic as u8),
-        Job::Version => answer.push_str("version\n"),
-        _ => put_end(answer, job),
-    }
-}
-
-/// Puts the job of some words.
-fn put_words(alloc: Global, answer: &mut String, given: &[String]) -> Result<(), AllocError> {
-    match words(alloc, given) {
-        Ok(job) => put_job(answer, &job),
-        Err(WordFault::Refused) => answer.push_str("refused\n"),
-        Err(WordFault::Memory) => answer.push_str("no memory\n"),
-    }
-}
-
-fn put_split(alloc: Global, answer: &mut String, text: &str) -> Result<(), AllocError> {
+fn put_words(alloc: Global, answer: &mut String, text: &str) -> Result<(), AllocError> {
     let mut given = Vec::new(alloc);
     for word in text.split_whitespace() {
         given.push(String::from_str(alloc, word)?)?;
     }
-    put_words(alloc, answer, given.as_slice())
+    match words(alloc, given.as_slice()) {
+        Ok(job) => put_job(answer, &job),
+        Err(WordFault::Refused) => answer.push_str("refused\n"),
+        Err(WordFault::Memory) => answer.push_str("no memory\n"),
+    }
 }
 
 // ---- lines of scripts
@@ -165,7 +138,7 @@ fn put_terminal_event(answer: &mut String, event: &Event) -> Result<(), AllocErr
     match event {
         Event::Connect(terminal, lu) => {
             write!(answer, "connect {terminal}\n")?;
-            put_lu(answer, lu)
+            put_some(answer, "lu", *lu)
         }
         Event::Key(terminal, key) => write!(answer, "key {terminal} {key}\n"),
         Event::TermSees(terminal) => write!(answer, "termsees {terminal}\n"),
@@ -208,7 +181,7 @@ fn put_line(
     text: &str,
 ) -> Result<bool, AllocError> {
     match kind {
-        "words" => put_split(alloc, answer, text)?,
+        "words" => put_words(alloc, answer, text)?,
         "script" => put_script(alloc, answer, text)?,
         "terminal" => put_terminal(answer, text)?,
         "typed" => write!(answer, "{}\n", typed_text(text))?,

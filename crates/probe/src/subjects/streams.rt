@@ -1,12 +1,11 @@
-//! Runs of jobs over streams in memory. A READ is a word of bytes, which a read gives, or several if its buffer is smaller. Behind the
-//! last one reads find the end, or fail if FAILS is 1. A stream that is written has ROOM for this number of bytes, and fails at the
-//! write that has none; its first INTERRUPTIONS writes are interrupted.
+//! Runs of jobs over streams in memory. A READ is a word of at most 4,096 bytes, which a read gives; behind the last one reads find the
+//! end, or fail if FAILS is 1. What is written has ROOM for this number of bytes; its first INTERRUPTIONS writes are interrupted.
 //!
 //! ```text
-//! show FAILS ROOM INTERRUPTIONS READ ..           run_show, of model 2
-//! script FAILS ROOM INTERRUPTIONS READ ..         run_script
-//! term SCRIPT FAILS ROOM SENDS READ ..            operate, of model 2, which asks for PNL01; SENDS is the room of the connection
-//! live CAME TYPED CAME TYPED ..                   turns of an OperatorSession; a read without bytes finds nothing
+//! show FAILS ROOM INTERRUPTIONS READ ..       run_show, of model 2
+//! script FAILS ROOM INTERRUPTIONS READ ..     run_script
+//! term FAILS ROOM SENDS SCRIPT READ ..        operate, of model 2, for PNL01; SENDS is the room of the connection
+//! live CAME TYPED CAME TYPED ..               turns of an OperatorSession; a read without bytes finds nothing
 //! ```
 use crate::answer::put_named;
 use crate::fault::Fault;
@@ -27,55 +26,41 @@ pub(crate) struct Streams {
     pub(crate) alloc: Global,
 }
 
-// ---- streams
-
-/// Gives its pieces, one a read, or a part if the buffer is smaller.
+/// A stream: what its reads give, and what it was written.
 #[derive(Drop)]
-struct Reads {
+struct Stream {
     pieces: Vec<Vec<u8>>,
     next: usize,
-    /// How many bytes of the next piece were given.
-    given: usize,
-    /// How a read fails that has no bytes to give; none finds the end.
+    /// How a read fails that has no bytes to give; without it, it finds the end.
     fails: Option<ErrorKind>,
+    text: Vec<u8>,
+    room: usize,
+    interruptions: u32,
 }
 
-impl Reads {
-    fn new(pieces: Vec<Vec<u8>>, fails: Option<ErrorKind>) -> Reads {
-        Reads {
-            pieces,
+impl Stream {
+    fn new(alloc: Global, room: usize, interruptions: u32, fails: Option<ErrorKind>) -> Stream {
+        Stream {
+            pieces: Vec::new(alloc),
             next: 0,
-            given: 0,
             fails,
-        }
-    }
-
-    fn rest(&self) -> &[u8] {
-        match self.pieces.get(self.next) {
-            Some(piece) => piece.as_slice().get(self.given..).unwrap_or(&[]),
-            None => &[],
-        }
-    }
-
-    /// Goes behind bytes of which `left` are left in the piece.
-    fn advance(&mut self, count: usize, left: usize) {
-        if left == 0 {
-            self.next = self.next.saturating_add(1);
-            self.given = 0;
-        } else {
-            self.given = self.given.saturating_add(count);
+            text: Vec::new(alloc),
+            room,
+            interruptions,
         }
     }
 }
 
-impl Read for Reads {
+impl Read for Stream {
     fn read(&mut self, buffer: &mut [u8]) -> io::Result<usize> {
-        let rest = self.rest();
-        let count = rest.len().min(buffer.len());
-        let (front, behind) = rest.split_at(count);
+        let piece = match self.pieces.get(self.next) {
+            Some(piece) => piece.as_slice(),
+            None => &[],
+        };
+        let count = piece.len().min(buffer.len());
+        let (front, _) = piece.split_at(count);
         buffer[..count].copy_from_slice(front);
-        let left = behind.len();
-        self.advance(count, left);
+        self.next = self.next.saturating_add(1);
         match self.fails {
             Some(kind) if count == 0 => Err(io::Error::from(kind)),
             _ => Ok(count),
@@ -83,25 +68,7 @@ impl Read for Reads {
     }
 }
 
-/// Takes bytes as long as it has room for whole writes. Its first writes are interrupted.
-#[derive(Drop)]
-struct Paper {
-    text: Vec<u8>,
-    room: usize,
-    interruptions: u32,
-}
-
-impl Paper {
-    fn new(alloc: Global, room: usize, interruptions: u32) -> CountedWriter<Paper> {
-        CountedWriter::new(Paper {
-            text: Vec::new(alloc),
-            room,
-            interruptions,
-        })
-    }
-}
-
-impl Write for Paper {
+impl Write for Stream {
     fn write(&mut self, bytes: &[u8]) -> io::Result<usize> {
         if self.interruptions > 0 {
             self.interruptions -= 1;
@@ -120,157 +87,82 @@ impl Write for Paper {
     }
 }
 
-/// A connection: what is read, and what was written.
-#[derive(Drop)]
-struct Pipe {
-    reads: Reads,
-    sent: Vec<u8>,
-}
-
-impl Read for Pipe {
-    fn read(&mut self, buffer: &mut [u8]) -> io::Result<usize> {
-        self.reads.read(buffer)
-    }
-}
-
-impl Write for Pipe {
-    fn write(&mut self, bytes: &[u8]) -> io::Result<usize> {
-        self.sent.extend_from_slice(bytes)?;
-        Ok(bytes.len())
-    }
-
-    fn flush(&mut self) -> io::Result<()> {
-        Ok(())
-    }
-}
-
-// ---- runs
-
-/// The reads of the words that are left.
-fn reads_of(alloc: Global, line: &mut Words<'_>, fails: bool) -> Result<Reads, Fault> {
-    let mut pieces = Vec::new(alloc);
+/// A stream whose reads give the words that are left.
+fn input(alloc: Global, line: &mut Words<'_>, fails: bool) -> Result<CountedReader<Stream>, Fault> {
+    let mut stream = Stream::new(alloc, 0, 0, fails.then_some(ErrorKind::BrokenPipe));
     for _ in 0..u32::MAX {
         if line.is_empty() {
             break;
         }
-        pieces.push(line.bytes(alloc)?)?;
+        stream.pieces.push(line.bytes(alloc)?)?;
     }
-    Ok(Reads::new(pieces, fails.then_some(ErrorKind::BrokenPipe)))
+    Ok(CountedReader::new(stream))
 }
 
-/// Runs show or script over a reader and two writers, and puts its status.
-fn put_status(
+fn output(alloc: Global, room: usize, interruptions: u32) -> CountedWriter<Stream> {
+    CountedWriter::new(Stream::new(alloc, room, interruptions, None))
+}
+
+/// Puts what two streams were written.
+fn put_texts(
+    alloc: Global,
+    out: CountedWriter<Stream>,
+    other: CountedWriter<Stream>,
+    answer: &mut String,
+) -> Result<(), AllocError> {
+    put_named(alloc, answer, "out", out.into_inner().text.as_slice())?;
+    put_named(alloc, answer, "other", other.into_inner().text.as_slice())
+}
+
+fn put_run(
     alloc: Global,
     is_show: bool,
+    line: &mut Words<'_>,
     answer: &mut String,
-    input: Reads,
-    out: &mut CountedWriter<Paper>,
-    faults: &mut CountedWriter<Paper>,
-) -> Result<(), AllocError> {
-    let mut input = CountedReader::new(input);
+) -> Result<(), Fault> {
+    let fails = line.number::<u8>()? == 1;
+    let (room, interruptions) = (line.number()?, line.number()?);
+    let mut input = input(alloc, line, fails)?;
+    let mut out = output(alloc, room, interruptions);
+    let mut faults = output(alloc, usize::MAX, interruptions);
     let status = if is_show {
-        run_show(alloc, Model::M2, &mut input, out, faults)
+        run_show(alloc, Model::M2, &mut input, &mut out, &mut faults)
     } else {
-        run_script(alloc, Terminals::Waiting, &mut input, out, faults)
+        run_script(alloc, Terminals::Waiting, &mut input, &mut out, &mut faults)
     };
-    write!(answer, "status {status}\n")
+    write!(answer, "status {status}\n")?;
+    put_texts(alloc, out, faults, answer)?;
+    Ok(())
 }
 
-impl Streams {
-    fn put_run(
-        &self,
-        is_show: bool,
-        line: &mut Words<'_>,
-        answer: &mut String,
-    ) -> Result<(), Fault> {
-        let fails = line.number::<u8>()? == 1;
-        let (room, interruptions) = (line.number()?, line.number()?);
-        let input = reads_of(self.alloc, line, fails)?;
-        let mut out = Paper::new(self.alloc, room, interruptions);
-        let mut faults = Paper::new(self.alloc, usize::MAX, interruptions);
-        put_status(self.alloc, is_show, answer, input, &mut out, &mut faults)?;
-        put_named(self.alloc, answer, "out", out.into_inner().text.as_slice())?;
-        put_named(
-            self.alloc,
-            answer,
-            "faults",
-            faults.into_inner().text.as_slice(),
-        )?;
-        Ok(())
-    }
-
-    fn put_term(&self, line: &mut Words<'_>, answer: &mut String) -> Result<(), Fault> {
-        let script = line.bytes(self.alloc)?;
-        let fails = line.number::<u8>()? == 1;
-        let (room, sends) = (line.number()?, line.number()?);
-        let mut wire = Wire {
-            down: CountedReader::new(reads_of(self.alloc, line, fails)?),
-            up: Paper::new(self.alloc, sends, 0),
-        };
-        let mut out = Paper::new(self.alloc, room, 0);
-        let lu = Lu::read(b"PNL01");
-        match operate(
-            self.alloc,
-            Model::M2,
-            lu,
-            text_of(script.as_slice())?,
-            &mut wire,
-            &mut out,
-        ) {
-            Ok(()) => answer.push_str("done\n")?,
-            Err(fault) => write!(answer, "{fault}\n")?,
-        }
-        let Wire { up, .. } = wire;
-        put_named(self.alloc, answer, "out", out.into_inner().text.as_slice())?;
-        put_named(self.alloc, answer, "sent", up.into_inner().text.as_slice())?;
-        Ok(())
-    }
-}
-
-// ---- a live terminal
-
-type Session = OperatorSession<Pipe, CountedReader<Reads>, CountedWriter<Paper>>;
-
-/// The pieces of both sides of a session.
-#[derive(Drop)]
-struct Sides {
-    came: Vec<Vec<u8>>,
-    typed: Vec<Vec<u8>>,
-}
-
-fn sides_of(alloc: Global, line: &mut Words<'_>) -> Result<Sides, Fault> {
-    let mut sides = Sides {
-        came: Vec::new(alloc),
-        typed: Vec::new(alloc),
+fn put_term(alloc: Global, line: &mut Words<'_>, answer: &mut String) -> Result<(), Fault> {
+    let fails = line.number::<u8>()? == 1;
+    let (room, sends) = (line.number()?, line.number()?);
+    let script = line.bytes(alloc)?;
+    let mut wire = Wire {
+        down: input(alloc, line, fails)?,
+        up: output(alloc, sends, 0),
     };
-    for _ in 0..u32::MAX {
-        if line.is_empty() {
-            break;
-        }
-        sides.came.push(line.bytes(alloc)?)?;
-        sides.typed.push(line.bytes(alloc)?)?;
+    let mut out = output(alloc, room, 0);
+    let lu = Lu::read(b"PNL01");
+    match operate(
+        alloc,
+        Model::M2,
+        lu,
+        text_of(script.as_slice())?,
+        &mut wire,
+        &mut out,
+    ) {
+        Ok(()) => answer.push_str("done\n")?,
+        Err(fault) => write!(answer, "{fault}\n")?,
     }
-    Ok(sides)
+    put_texts(alloc, out, wire.up, answer)?;
+    Ok(())
 }
 
-/// A session with its connection; none if there is no memory.
-fn session_of(alloc: Global, sides: Sides) -> Option<Session> {
-    let keys = CountedReader::new(Reads::new(sides.typed, None));
-    let pipe = Pipe {
-        reads: Reads::new(sides.came, Some(ErrorKind::WouldBlock)),
-        sent: Vec::new(alloc),
-    };
-    let Ok(mut session) = Session::new(alloc, Model::M2, keys, Paper::new(alloc, usize::MAX, 0))
-    else {
-        return None;
-    };
-    match session.connect(pipe, None) {
-        Ok(()) => Some(session),
-        Err(_) => None,
-    }
-}
+type Session = OperatorSession<Stream, CountedReader<Stream>, CountedWriter<Stream>>;
 
-/// Takes turns, and puts the fault that ends them.
+/// Takes a turn for each piece, and puts what the operator asks of the program, or the fault.
 fn put_turns(
     alloc: Global,
     session: &mut Session,
@@ -285,35 +177,48 @@ fn put_turns(
     write!(answer, "asked {}\n", session.take_asked() as u8)
 }
 
-fn put_session(alloc: Global, session: Session, answer: &mut String) -> Result<(), AllocError> {
-    let (pipe, tty) = session.into_parts();
-    put_named(alloc, answer, "written", tty.into_inner().text.as_slice())?;
-    match pipe {
-        Some(pipe) => put_named(alloc, answer, "sent", pipe.sent.as_slice()),
-        None => answer.push_str("no connection\n"),
+/// Puts what becomes of a session with this connection and these keys; nothing if there is no memory.
+fn put_session(
+    alloc: Global,
+    pipe: Stream,
+    keys: Stream,
+    answer: &mut String,
+) -> Result<(), AllocError> {
+    let turns = pipe.pieces.len();
+    let tty = output(alloc, usize::MAX, 0);
+    let Ok(mut session) = Session::new(alloc, Model::M2, CountedReader::new(keys), tty) else {
+        return Ok(());
+    };
+    if session.connect(pipe, None).is_err() {
+        return Ok(());
+    }
+    put_turns(alloc, &mut session, turns, answer)?;
+    match session.into_parts() {
+        (Some(pipe), tty) => put_texts(alloc, tty, CountedWriter::new(pipe), answer),
+        (None, _) => answer.push_str("no connection\n"),
     }
 }
 
 fn put_live(alloc: Global, line: &mut Words<'_>, answer: &mut String) -> Result<(), Fault> {
-    let sides = sides_of(alloc, line)?;
-    let turns = sides.came.len();
-    match session_of(alloc, sides) {
-        Some(session) => {
-            let mut session = session;
-            put_turns(alloc, &mut session, turns, answer)?;
-            put_session(alloc, session, answer)?;
+    let mut pipe = Stream::new(alloc, usize::MAX, 0, Some(ErrorKind::WouldBlock));
+    let mut keys = Stream::new(alloc, 0, 0, None);
+    for _ in 0..u32::MAX {
+        if line.is_empty() {
+            break;
         }
-        None => answer.push_str("no session\n")?,
+        pipe.pieces.push(line.bytes(alloc)?)?;
+        keys.pieces.push(line.bytes(alloc)?)?;
     }
+    put_session(alloc, pipe, keys, answer)?;
     Ok(())
 }
 
 impl Subject for Streams {
     fn take(&mut self, line: &mut Words<'_>, answer: &mut String) -> Result<(), Fault> {
         match line.word()? {
-            "show" => self.put_run(true, line, answer),
-            "script" => self.put_run(false, line, answer),
-            "term" => self.put_term(line, answer),
+            "show" => put_run(self.alloc, true, line, answer),
+            "script" => put_run(self.alloc, false, line, answer),
+            "term" => put_term(self.alloc, line, answer),
             "live" => put_live(self.alloc, line, answer),
             _ => Err(Fault::Needs("show, script, term or live")),
         }
