@@ -1,5 +1,6 @@
 //! The words, numbers and bytes of a line.
 use crate::fault::Fault;
+use codes3270::Model;
 use hex::FromHexError;
 use std::alloc::{AllocError, Global};
 use std::str::FromStr;
@@ -51,6 +52,25 @@ impl<'a> Words<'a> {
         match word.parse::<T>() {
             Ok(number) => Ok(number),
             Err(_) => Err(Fault::Needs("a number in range")),
+        }
+    }
+
+    /// The one byte of the next word, in hexadecimal.
+    pub(crate) fn byte(&mut self, alloc: Global) -> Result<u8, Fault> {
+        match self.bytes(alloc)?.as_slice() {
+            [byte] => Ok(*byte),
+            _ => Err(Fault::Needs("one byte")),
+        }
+    }
+
+    /// The next word as the number of a model.
+    pub(crate) fn model(&mut self) -> Result<Model, Fault> {
+        match self.word()? {
+            "2" => Ok(Model::M2),
+            "3" => Ok(Model::M3),
+            "4" => Ok(Model::M4),
+            "5" => Ok(Model::M5),
+            _ => Err(Fault::Needs("a model, 2 to 5")),
         }
     }
 
