@@ -7,7 +7,8 @@
 //! data BYTES              one `push_data`: how many bytes it takes
 //! reset
 //! out ROOM BYTES          the vector that the calls below append to has this room, and these bytes
-//! record BYTES            `put_record`, and then the vector and its room
+//! room                    its capacity
+//! record BYTES            `put_record`, and then the vector
 //! option VERB BYTE        `put_option`
 //! sub BYTES               `put_sub`
 //! parts BYTES BYTES ..    `put_sub_parts`
@@ -155,10 +156,10 @@ impl Subject for Wire {
             }
             "reset" => self.decoder.reset(),
             "out" => self.renew_out(line)?,
+            "room" => writeln!(answer, "{}", self.out.capacity())?,
             word => {
                 write!(answer, "{:?} ", self.append(word, line)?)?;
                 put_named(self.alloc, answer, "out", self.out.as_slice())?;
-                writeln!(answer, "room {}", self.out.capacity())?;
             }
         }
         Ok(())
