@@ -41,7 +41,7 @@ def row_of(line: Line) -> tuple[str, str]:
     command, _, wanted = line.text.partition(" = ")
     if not (command and wanted):
         raise line.bad("needs COMMAND = ANSWER")
-    return spelt(line, command), spelt(line, wanted)
+    return spelt(line, command), "; ".join(spelt(line, part) for part in wanted.split("; "))
 
 
 def check_row(probe: Probe, line: Line, reads: Reads) -> None:

@@ -12,7 +12,7 @@
 //! ```
 //!
 //! An ITEM is `record BYTES`, `sub BYTES`, `other BYTE`, or `VERB BYTE`.
-use crate::answer::{put_bytes, put_named};
+use crate::answer::put_bytes;
 use crate::fault::Fault;
 use crate::line::Words;
 use crate::subject::Subject;
@@ -92,7 +92,8 @@ impl Talks {
         self.host = HostTalk::new();
         let mut out = Vec::new(self.alloc);
         HostTalk::put_offer(&mut out)?;
-        put_named(self.alloc, answer, "sends", out.as_slice())
+        put_bytes(self.alloc, answer, out.as_slice())?;
+        answer.push('\n')
     }
 
     fn put_host_reply(&self, reply: &Reply, answer: &mut String) -> Result<(), AllocError> {
