@@ -1,11 +1,12 @@
 """Tables of commands of the probe and their answers, `COMMAND = ANSWER` a line.
 
-The lines of an answer are joined by `; `; an answer without lines is `()`. On both sides a word with a quote, `*` or `+` stands for bytes: the pieces between `+`, each
-pairs of hexadecimal digits, PAIRS*N, or "TEXT". In a file of rows each line is a case. In a file of blocks a case is a line `case NAME`
-and the rows below it, which one probe answers in order.
+The lines of an answer are joined by `; `; an answer without lines is `()`. On both sides a word with a quote, `*` or `+` stands for bytes:
+the pieces between `+`, each pairs of hexadecimal digits, PAIRS*N, or "TEXT". In a file of rows each line is a case. In a file of blocks a
+case is a line `case NAME` and the rows below it, which one probe answers in order.
 """
 import functools
 import pathlib
+import re
 from collections.abc import Callable, Iterator
 
 from harness.case import Case, same
@@ -26,9 +27,18 @@ def hexadecimal(data: bytes) -> str:
 def spelt(line: Line, text: str) -> str:
     """Words of a line, with those that stand for bytes in hexadecimal digits."""
     try:
-        return " ".join(hexadecimal(bytes_of(word)) if set(word) & set('"*+') else word for word in text.split(" "))
+        return re.sub(r'[^\s(),;]*["*+][^\s(),;]*', lambda word: hexadecimal(bytes_of(word[0])), text)
     except ValueError as error:
         raise line.bad(str(error)) from None
+
+
+def named(answer: str) -> str:
+    """An answer with the names of LUs in place of their letters, and with other lists of bytes in hexadecimal digits."""
+    def listed(numbers: str) -> bytes:
+        return bytes(map(int, numbers.split(", "))) if numbers else b""
+
+    answer = re.sub(r"Lu \{ letters: \[([\d, ]*)\], size: (\d+) \}", lambda lu: listed(lu[1])[: int(lu[2])].decode(), answer)
+    return re.sub(r"\[([\d, ]*)\]", lambda found: hexadecimal(listed(found[1])), answer)
 
 
 def bytes_of(word: str) -> bytes:
@@ -41,7 +51,7 @@ def row_of(line: Line) -> tuple[str, str]:
     command, _, wanted = line.text.partition(" = ")
     if not (command and wanted):
         raise line.bad("needs COMMAND = ANSWER")
-    return spelt(line, command), "; ".join(spelt(line, part) for part in wanted.split("; "))
+    return spelt(line, command), spelt(line, wanted)
 
 
 def check_row(probe: Probe, line: Line, reads: Reads) -> None:

@@ -52,8 +52,8 @@ def of_bytes(command: str, answer) -> Iterator[tuple[str, str]]:
     return ((f"{command} {byte:02X}", answer(byte)) for byte in range(256))
 
 
-def words(*parts: tuple[object, str]) -> str:
-    return "".join(f" {word}" for is_so, word in parts if is_so)
+def truths(*parts: object) -> str:
+    return "".join(f" {str(bool(part)).lower()}" for part in parts)
 
 
 def each_six_bit_value_has_its_code() -> None:
@@ -98,22 +98,21 @@ def attribute(byte: int) -> str:
     display, protected, numeric = DISPLAYS[byte >> 2 & 3], byte & 0x20, byte & 0x10
     without = byte & 0x3C
     codes = f"{GRAPHIC[without | byte & 1]:02X} {GRAPHIC[without]:02X} {GRAPHIC[without | 1]:02X} {display}"
-    skips, bright, hidden = protected and numeric, display == "Bright", display == "Hidden"
-    return codes + words((protected, "protected"), (numeric, "numeric"), (skips, "autoskip"), (bright, "bright"), (hidden, "hidden"), (byte & 1, "mdt"))
+    return codes + truths(protected, numeric, protected and numeric, display == "Bright", display == "Hidden", byte & 1)
 
 
 def each_byte_is_read_as_an_attribute() -> None:
     check(of_bytes("attr", attribute))
-    check(of_bytes("cell", lambda byte: f"{GRAPHIC[byte & 0x3D]:02X}" + words((not byte & 0x20, "unprotected"))))
+    check(of_bytes("cell", lambda byte: f"{GRAPHIC[byte & 0x3D]:02X}" + truths(False, not byte & 0x20)))
 
 
 def each_byte_is_read_as_a_write_control_character() -> None:
-    check(of_bytes("wcc", lambda byte: f"{GRAPHIC[byte & 7]:02X}" + words((byte & 4, "alarm"), (byte & 2, "restore"), (byte & 1, "reset"))))
+    check(of_bytes("wcc", lambda byte: f"{GRAPHIC[byte & 7]:02X}" + truths(byte & 4, byte & 2, byte & 1)))
 
 
 def key(byte: int) -> str:
     name = KEYS.get(byte)
-    return f"{name} {byte:02X}" + words((name == "Clear" or name[:2] == "PA", "short")) if name else "none"
+    return f"{name} {byte:02X}" + truths(name == "Clear" or name[:2] == "PA") if name else "none"
 
 
 def each_byte_is_read_as_an_attention_identifier() -> None:

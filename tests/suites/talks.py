@@ -1,11 +1,10 @@
 """The talks of TN3270E: the stories of tests/cases/talks.blocks, and each item in each state, as RFC 1647, section 7, and our profile have it."""
 import functools
-import re
 from collections.abc import Iterator
 
 from harness.case import CASES, Case, Place, same
 from harness.probe import Probe
-from harness.tables import blocks, hexadecimal
+from harness.tables import blocks, hexadecimal, named
 
 TYPE, OFFER = hexadecimal(b"IBM-3278-2"), "280307000204"
 # Messages, by what they are.
@@ -77,14 +76,6 @@ TERMINAL = {
     }),
     "Agreed(A)": (["takes sub 28030402"], {}),
 }
-
-
-def named(answer: str) -> str:
-    """An answer with the names of LUs in place of their letters."""
-    def name(found: re.Match[str]) -> str:
-        return bytes(map(int, found[1].split(", ")))[: int(found[2])].decode()
-
-    return re.sub(r"Lu \{ letters: \[([\d, ]+)\], size: (\d+) \}", name, answer)
 
 
 def answers(state: str, meanings: dict[str, str], items: dict[str, str | None]) -> Iterator[tuple[str, str]]:

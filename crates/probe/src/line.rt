@@ -81,6 +81,14 @@ impl<'a> Words<'a> {
         Ok(bytes)
     }
 
+    /// The bytes of the next word, if there is one.
+    pub(crate) fn bytes_if_any(&mut self, alloc: Global) -> Result<Option<Vec<u8>>, Fault> {
+        if self.rest.is_empty() {
+            return Ok(None);
+        }
+        Ok(Some(self.bytes(alloc)?))
+    }
+
     /// The bytes of all words that are left, at least one.
     pub(crate) fn all_bytes(&mut self, alloc: Global) -> Result<Vec<u8>, Fault> {
         let mut bytes = Vec::new(alloc);

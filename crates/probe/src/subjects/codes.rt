@@ -7,10 +7,10 @@
 //! address MODEL NUMBER    one of them
 //! read MODEL BYTES        each two bytes as an address
 //! walk MODEL NUMBER N     from an address: the next one, N cells on, N cells back, and the cells up to the last
-//! attr BYTE               an attribute, its code, its code without and with MDT, and what is true of it
-//! cell BYTE               what is true of a cell with this attribute, and of one with this character
-//! wcc BYTE                a WCC, its code, and what is true of it
-//! aid BYTE                a key, and its code
+//! attr BYTE               a code without other bits, without MDT and with it; display, protected, numeric, autoskip, bright, hidden, MDT
+//! cell BYTE               a cell with this attribute, and one with this character: attribute, is_character, is_unprotected_attribute
+//! wcc BYTE                a code without other bits; alarm, restore, reset
+//! aid BYTE                a key, its code, is_short
 //! pf NUMBER, pa NUMBER    likewise
 //! storable BYTE           whether a cell can hold it
 //! latin BYTE              the character of a code, as a number
@@ -29,16 +29,6 @@ use std::alloc::{AllocError, Global};
 #[derive(Drop)]
 pub(crate) struct Codes {
     pub(crate) alloc: Global,
-}
-
-/// Puts each word that is true.
-fn put_true(answer: &mut String, words: &[(bool, &str)]) -> Result<(), AllocError> {
-    for (is_true, word) in words {
-        if *is_true {
-            write!(answer, " {word}")?;
-        }
-    }
-    answer.push('\n')
 }
 
 fn put_size(answer: &mut String, size: Size) -> Result<(), AllocError> {
@@ -99,18 +89,10 @@ fn put_attr(answer: &mut String, attr: Attr) -> Result<(), AllocError> {
     let without = attr_code(attr.with_mdt(false));
     let with = attr_code(attr.with_mdt(true));
     write!(answer, "{:02X} {without:02X} {with:02X}", attr_code(attr))?;
-    write!(answer, " {:?}", attr.display)?;
-    put_true(
-        answer,
-        &[
-            (attr.protected(), "protected"),
-            (attr.numeric(), "numeric"),
-            (attr.autoskip(), "autoskip"),
-            (attr.bright(), "bright"),
-            (attr.hidden(), "hidden"),
-            (attr.mdt(), "mdt"),
-        ],
-    )
+    write!(answer, " {:?} {}", attr.display, attr.protected())?;
+    write!(answer, " {} {}", attr.numeric(), attr.autoskip())?;
+    write!(answer, " {} {}", attr.bright(), attr.hidden())?;
+    writeln!(answer, " {}", attr.mdt())
 }
 
 fn put_cell(answer: &mut String, cell: Cell) -> Result<(), AllocError> {
@@ -118,25 +100,13 @@ fn put_cell(answer: &mut String, cell: Cell) -> Result<(), AllocError> {
         Some(attr) => write!(answer, "{:02X}", attr_code(attr))?,
         None => answer.push('-')?,
     }
-    put_true(
-        answer,
-        &[
-            (cell.is_character(), "character"),
-            (cell.is_unprotected_attribute(), "unprotected"),
-        ],
-    )
+    let is_unprotected = cell.is_unprotected_attribute();
+    writeln!(answer, " {} {is_unprotected}", cell.is_character())
 }
 
 fn put_wcc(answer: &mut String, wcc: Wcc) -> Result<(), AllocError> {
-    write!(answer, "{:02X}", wcc.byte())?;
-    put_true(
-        answer,
-        &[
-            (wcc.alarm(), "alarm"),
-            (wcc.restore(), "restore"),
-            (wcc.reset(), "reset"),
-        ],
-    )
+    write!(answer, "{:02X} {}", wcc.byte(), wcc.alarm())?;
+    writeln!(answer, " {} {}", wcc.restore(), wcc.reset())
 }
 
 fn put_aid(answer: &mut String, aid: Option<Aid>) -> Result<(), AllocError> {
@@ -148,8 +118,7 @@ fn put_aid(answer: &mut String, aid: Option<Aid>) -> Result<(), AllocError> {
         Aid::Pa(key) => write!(answer, "PA{}", key.get())?,
         _ => write!(answer, "{aid:?}")?,
     }
-    write!(answer, " {:02X}", aid_byte(aid))?;
-    put_true(answer, &[(aid.is_short(), "short")])
+    writeln!(answer, " {:02X} {}", aid_byte(aid), aid.is_short())
 }
 
 fn put_code(answer: &mut String, number: u32) -> Result<(), AllocError> {

@@ -18,8 +18,8 @@ use crate::subject::Subject;
 use std::alloc::{AllocError, Global};
 use tn3270e_msg::{
     ALWAYS_RESPONSE, Cause, Device, ERROR_RESPONSE, HEADER_LENGTH, Header, Lu, NEGATIVE,
-    NO_RESPONSE, Name, POSITIVE, RECORD_LIMIT, REPLY_ROOM, Reason, SubMessage, header_bytes,
-    next_seq, put_sub_message, read_header, read_sub,
+    NO_RESPONSE, POSITIVE, RECORD_LIMIT, REPLY_ROOM, Reason, SubMessage, header_bytes, next_seq,
+    put_sub_message, read_header, read_sub,
 };
 
 #[derive(Drop)]
@@ -56,21 +56,6 @@ fn put_reason(answer: &mut String, reason: Reason) -> Result<(), AllocError> {
     writeln!(answer, "{} {reason}", reason.name().unwrap_or("-"))
 }
 
-/// Puts a word, and some bytes, each behind a blank.
-fn put_parts(
-    alloc: Global,
-    answer: &mut String,
-    word: &str,
-    parts: &[&[u8]],
-) -> Result<(), AllocError> {
-    answer.push_str(word)?;
-    for part in parts {
-        answer.push(' ')?;
-        put_bytes(alloc, answer, part)?;
-    }
-    answer.push('\n')
-}
-
 impl Messages {
     fn put_header(
         &self,
@@ -78,49 +63,20 @@ impl Messages {
         body: &[u8],
         answer: &mut String,
     ) -> Result<(), AllocError> {
-        write!(answer, "{:?} {} ", header.kind, header.request)?;
-        write!(answer, "{} {}", header.flag, header.seq)?;
-        put_parts(self.alloc, answer, "", &[&header_bytes(header), body])
-    }
-
-    fn put_message(&self, message: SubMessage<'_>, answer: &mut String) -> Result<(), AllocError> {
-        let alloc = self.alloc;
-        match message {
-            SubMessage::SendType => answer.push_str("SendType\n"),
-            SubMessage::TypeRequest { device, name } => match name {
-                None => put_parts(alloc, answer, "TypeRequest", &[device]),
-                Some(Name::Connect(name)) => {
-                    put_parts(alloc, answer, "TypeRequest Connect", &[device, name])
-                }
-                Some(Name::Associate(name)) => {
-                    put_parts(alloc, answer, "TypeRequest Associate", &[device, name])
-                }
-            },
-            SubMessage::TypeIs { device, name } => {
-                put_parts(alloc, answer, "TypeIs", &[device, name])
-            }
-            SubMessage::TypeReject(Reason(code)) => {
-                put_parts(alloc, answer, "TypeReject", &[&[code]])
-            }
-            SubMessage::FunRequest(list) => put_parts(alloc, answer, "FunRequest", &[list]),
-            SubMessage::FunIs(list) => put_parts(alloc, answer, "FunIs", &[list]),
-        }
+        writeln!(answer, "{header:?}")?;
+        put_named(self.alloc, answer, "bytes", &header_bytes(header))?;
+        put_named(self.alloc, answer, "body", body)
     }
 
     fn put_sub(&self, message: &SubMessage<'_>, answer: &mut String) -> Result<(), AllocError> {
-        self.put_message(*message, answer)?;
+        writeln!(answer, "{message:?}")?;
         let mut out = Vec::new(self.alloc);
         put_sub_message(&mut out, message)?;
-        put_named(self.alloc, answer, "spelt", out.as_slice())
+        put_named(self.alloc, answer, "bytes", out.as_slice())
     }
 }
 
 impl Messages {
-    fn put_lu(&self, lu: Lu, answer: &mut String) -> Result<(), AllocError> {
-        put_bytes(self.alloc, answer, lu.as_bytes())?;
-        writeln!(answer, " {lu}")
-    }
-
     fn put_device(
         &self,
         device: Device,
@@ -142,7 +98,10 @@ impl Messages {
                 Err(fault) => writeln!(answer, "{fault}")?,
             },
             "lu" => match Lu::read(bytes) {
-                Some(lu) => self.put_lu(lu, answer)?,
+                Some(lu) => {
+                    put_named(self.alloc, answer, "bytes", lu.as_bytes())?;
+                    writeln!(answer, "{lu}")?;
+                }
                 None => answer.push_str("none\n")?,
             },
             "device" => match Device::read(bytes) {

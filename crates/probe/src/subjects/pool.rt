@@ -43,21 +43,6 @@ fn ask(
     Ok(())
 }
 
-fn take_ask(
-    alloc: Global,
-    pool: &mut Pool,
-    line: &mut Words<'_>,
-    answer: &mut String,
-) -> Result<(), Fault> {
-    let conn = line.number()?;
-    let name = line.rest();
-    if name.is_empty() {
-        return ask(pool, conn, None, answer);
-    }
-    let name = Words::new(name).bytes(alloc)?;
-    ask(pool, conn, Some(name.as_slice()), answer)
-}
-
 fn take_on(
     alloc: Global,
     pool: &mut Pool,
@@ -66,7 +51,13 @@ fn take_on(
     answer: &mut String,
 ) -> Result<(), Fault> {
     match word {
-        "ask" => take_ask(alloc, pool, line, answer)?,
+        "ask" => {
+            let conn = line.number()?;
+            match line.bytes_if_any(alloc)? {
+                Some(name) => ask(pool, conn, Some(name.as_slice()), answer)?,
+                None => ask(pool, conn, None, answer)?,
+            }
+        }
         "held" => match pool.lu_held_by(line.number()?) {
             Some(lu) => writeln!(answer, "{lu}")?,
             None => answer.push_str("none\n")?,

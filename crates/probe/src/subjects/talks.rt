@@ -120,13 +120,11 @@ impl Talks {
 
     fn renew_terminal(&mut self, line: &mut Words<'_>) -> Result<(), Fault> {
         let model = line.model()?;
-        let name = line.rest();
-        self.terminal = if name.is_empty() {
-            TermTalk::new(model, None)
-        } else {
-            let name = Words::new(name).bytes(self.alloc)?;
-            TermTalk::new(model, Some(lu_of(name.as_slice())?))
+        let wanted = match line.bytes_if_any(self.alloc)? {
+            Some(name) => Some(lu_of(name.as_slice())?),
+            None => None,
         };
+        self.terminal = TermTalk::new(model, wanted);
         Ok(())
     }
 
