@@ -1,5 +1,6 @@
 //! The words, numbers and bytes of a line.
 use crate::fault::Fault;
+use codes3270::Model;
 use hex::FromHexError;
 use std::alloc::{AllocError, Global};
 use std::str::{self, FromStr};
@@ -59,11 +60,38 @@ impl<'a> Words<'a> {
         }
     }
 
+    /// The one byte of the next word, in hexadecimal.
+    pub(crate) fn byte(&mut self, alloc: Global) -> Result<u8, Fault> {
+        match self.bytes(alloc)?.as_slice() {
+            [byte] => Ok(*byte),
+            _ => Err(Fault::Needs("one byte")),
+        }
+    }
+
+    /// The next word as the number of a model.
+    pub(crate) fn model(&mut self) -> Result<Model, Fault> {
+        match self.word()? {
+            "2" => Ok(Model::M2),
+            "3" => Ok(Model::M3),
+            "4" => Ok(Model::M4),
+            "5" => Ok(Model::M5),
+            _ => Err(Fault::Needs("a model, 2 to 5")),
+        }
+    }
+
     /// The bytes of the next word.
     pub(crate) fn bytes(&mut self, alloc: Global) -> Result<Vec<u8>, Fault> {
         let mut bytes = Vec::new(alloc);
         put_word(alloc, &mut bytes, self.word()?)?;
         Ok(bytes)
+    }
+
+    /// The bytes of the next word, if there is one.
+    pub(crate) fn bytes_if_any(&mut self, alloc: Global) -> Result<Option<Vec<u8>>, Fault> {
+        if self.rest.is_empty() {
+            return Ok(None);
+        }
+        Ok(Some(self.bytes(alloc)?))
     }
 
     /// The bytes of all words that are left, at least one.
