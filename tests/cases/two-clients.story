@@ -81,13 +81,13 @@ client 00 00 00 00 01 7D C2 6A 11 C2 E7 C1 D5 D5 11 C3 F7 C4 F7 FF EF
 host 00 00 02 00 02 F1 C3 11 40 C1 C8 C5 D3 D3 D6 00 1D F0 C1 D5 D5 11 C2 60 00 00 00 00 00 11 C2 E6 00 00 00 00 00 00 00 00 00 00 11 C3 F0 00 00 00 00 00 11 C3 F6 00 00 00 00 00 00 11 5C F1 00 00 00 00 00 00 00 00 00 00 00 00 00 00 11 40 40 13 FF EF
 client 02 00 00 00 02 00 FF EF
 
-# How many bytes a read gives and a write takes at most; whether every second read and write gives or takes nothing; and how many reads,
+# How many bytes a read gives, and a write takes, at most; whether every second read and write gives or takes nothing; and how many reads,
 # writes and bytes of the first client that makes.
-pace whole: 18446744073709551615 no 9 6 94
-pace whole, with pauses: 18446744073709551615 yes 17 11 94
-pace in sevens: 7 no 48 34 94
-pace byte by byte: 1 no 310 221 94
-pace byte by byte, with pauses: 1 yes 619 441 94
+pace whole: 18446744073709551615 18446744073709551615 no 9 6 94
+pace whole, with pauses: 18446744073709551615 18446744073709551615 yes 17 11 94
+pace in sevens: 7 7 no 48 34 94
+pace byte by byte: 1 1 no 310 221 94
+pace byte by byte, with pauses: 1 1 yes 619 441 94
 
 # Where a connection ends or fails, at the first pace: at each of its reads or writes, or after each of its client's bytes.
 trouble read ends

@@ -393,19 +393,25 @@ def dialogues() -> Iterator[Dialogue]:
     return (dataclasses.replace(it, body=list(reader.whole(it))) for it in reader.dialogues)
 
 
+def hold_once(probe: Probe, dialogue: Dialogue, holding: int) -> int:
+    """Holds a dialogue with this cut or delivery. How often it is to be held."""
+    subject = {"terminal": Terminal, "host": Host}[dialogue.subject](probe, holding)
+    for line in dialogue.body:
+        subject.do(line)
+    return subject.cuts
+
+
 def hold(probe: Callable[[str], Probe], dialogue: Dialogue) -> None:
     """Holds a dialogue as often as its subject wants: once for each cut, or delivery."""
     if not dialogue.body:
         raise BadCase("has no lines", dialogue.head.at)
     holding, holdings = 1, 1
     while holding <= holdings:
-        subject = {"terminal": Terminal, "host": Host}[dialogue.subject](probe(dialogue.subject), holding)
         try:
-            for line in dialogue.body:
-                subject.do(line)
+            holdings = hold_once(probe(dialogue.subject), dialogue, holding)
         except Difference as found:
             raise Difference(found.wanted, f"{found.came} (holding {holding})" if holding > 1 else found.came, found.at) from None
-        holding, holdings = holding + 1, subject.cuts
+        holding += 1
 
 
 def cases() -> Iterator[Case]:

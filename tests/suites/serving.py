@@ -7,7 +7,7 @@ the same LU. A file has these lines:
 
     | TEXT                                        a line of the panel text
     host BYTES, client BYTES                      the story, line by line; the second client's LU is PNL02 in place of PNL01
-    pace NAME: PIECE PAUSES READS WRITES BYTES    a case: how bytes cross, and what that makes of the first client
+    pace NAME: READS WRITES PAUSES N N N             a case: how bytes cross, and the first client's reads, writes and bytes then
     trouble PLACE WAY                             cases: a connection ends or fails at each read, write, or byte
 """
 import dataclasses
@@ -42,7 +42,7 @@ class Script:
                 self.panels.append(line.text)
             case "host" | "client":
                 self.story.append((word, line.data(words)))
-            case "pace" if len(words.partition(": ")[2].split()) == 5:
+            case "pace" if len(words.partition(": ")[2].split()) == 6:
                 name, _, numbers = words.partition(": ")
                 self.paces.append((line, name, numbers.split()))
             case "trouble" if words in ("read ends", "read fails", "write fails", "byte ends", "byte fails"):
@@ -173,7 +173,7 @@ class Suite:
 
     def __init__(self, script: Script) -> None:
         self.script = script
-        self.pace = " ".join(script.paces[0][2][:2])
+        self.pace = " ".join(script.paces[0][2][:3])
         self.alone = functools.cache(lambda conn: Alone(script, conn, self.pace))
 
     @functools.cached_property
@@ -182,9 +182,9 @@ class Suite:
 
     def tell(self, numbers: list[str]) -> None:
         """Both stories without trouble."""
-        self.fixture.begin(" ".join(numbers[:2]))
+        self.fixture.begin(" ".join(numbers[:3]))
         self.fixture.tell_both()
-        same([*numbers[2:], "0"], self.fixture.counts(0))
+        same([*numbers[3:], "0"], self.fixture.counts(0))
         same("0", self.fixture.counts(1)[3])
 
     def break_off(self, struck: int, trouble: str) -> None:
@@ -204,7 +204,7 @@ def cases_of(suite: Suite) -> Iterator[Case]:
     script = suite.script
     for line, name, numbers in script.paces:
         yield Case(f"told {name}", line.at, functools.partial(suite.tell, numbers))
-    counts = dict(zip(("read", "write", "byte"), map(int, script.paces[0][2][2:])))
+    counts = dict(zip(("read", "write", "byte"), map(int, script.paces[0][2][3:])))
     for conn in (0, 1):
         for line, place, way in script.troubles:
             for number in range(1, counts[place] + 1):

@@ -27,7 +27,7 @@ impl Four {
     pub(crate) fn new(
         alloc: Global,
         terminals: Terminals,
-        panels: &mut String,
+        panels: &str,
     ) -> Result<Box<Four>, Fault> {
         let (panels, pool) = read_parts(alloc, panels)?;
         let world = World::serving(alloc, terminals, panels, pool, &MODELS)?;

@@ -2,7 +2,7 @@
 //!
 //! ```text
 //! | TEXT              a line of the panel text
-//! serve [any]         a host begins to serve these panels, to terminals that wait or to any
+//! serve [any]         a host begins to serve these panels, to terminals that wait or to any: done, or memory
 //! restart             it restarts
 //! open C              begins a connection: done, or memory
 //! feed C BYTES        how many bytes were taken, and what stopped it: going, memory, or closed CAUSE
@@ -33,8 +33,8 @@ use crate::subjects::links::{Memory, is_link_word};
 use crate::subjects::seen::{model_number, put_belief, put_byte, put_fed};
 use codes3270::aid_byte;
 use host_core::{
-    Acted, Answer, Host, MOST_CONNECTIONS, MessageText, PanelSet, Phase, Pool, Question, Rejection,
-    Served, Terminals, Ticket, Turn, Values, serve_turn,
+    Acted, Answer, Host, MOST_CONNECTIONS, MessageText, PanelFault, PanelSet, Phase, Pool,
+    PoolFault, Question, Rejection, Served, Terminals, Ticket, Turn, Values, serve_turn,
 };
 use std::alloc::{AllocError, Global};
 use tn3270e_msg::{Fed, Stop};
@@ -64,16 +64,35 @@ pub(crate) fn add_line(panels: &mut String, line: &str) -> Result<(), AllocError
     panels.push('\n')
 }
 
-/// The panels of a text, and the pool of the LUs that they name. The text is taken.
-pub(crate) fn read_parts(alloc: Global, panels: &mut String) -> Result<(PanelSet, Pool), Fault> {
-    let read = PanelSet::read(alloc, panels.as_str());
-    panels.clear();
-    let Ok(panels) = read else {
-        return Err(Fault::Needs("a text of panels"));
-    };
-    match Pool::read(alloc, panels.lus()) {
-        Ok(pool) => Ok((panels, pool)),
+fn read_panels(alloc: Global, text: &str) -> Result<PanelSet, Fault> {
+    match PanelSet::read(alloc, text) {
+        Ok(panels) => Ok(panels),
+        Err(PanelFault::Memory) => Err(Fault::NoMemory(AllocError)),
+        Err(_) => Err(Fault::Needs("a text of panels")),
+    }
+}
+
+fn read_pool(alloc: Global, names: &[String]) -> Result<Pool, Fault> {
+    match Pool::read(alloc, names) {
+        Ok(pool) => Ok(pool),
+        Err(PoolFault::Memory) => Err(Fault::NoMemory(AllocError)),
         Err(_) => Err(Fault::Needs("names of LUs")),
+    }
+}
+
+/// The panels of a text, and the pool of the LUs that they name.
+pub(crate) fn read_parts(alloc: Global, text: &str) -> Result<(PanelSet, Pool), Fault> {
+    let panels = read_panels(alloc, text)?;
+    let pool = read_pool(alloc, panels.lus())?;
+    Ok((panels, pool))
+}
+
+/// Puts whether something was made: done, or memory.
+pub(crate) fn put_made(answer: &mut String, made: Result<(), Fault>) -> Result<(), Fault> {
+    match made {
+        Ok(()) => Ok(answer.push_str("done\n")?),
+        Err(Fault::NoMemory(_)) => Ok(answer.push_str("memory\n")?),
+        Err(fault) => Err(fault),
     }
 }
 
@@ -262,6 +281,16 @@ fn read_answer(alloc: Global, line: &mut Words<'_>) -> Result<Answer, Fault> {
 }
 
 impl Serving {
+    fn new(alloc: Global, terminals: &str, text: &str) -> Result<Serving, Fault> {
+        let terminals = terminals_of(terminals)?;
+        let (panels, pool) = read_parts(alloc, text)?;
+        Ok(Serving {
+            alloc,
+            host: Host::serving(alloc, terminals, panels, pool)?,
+            links: Memory::new(alloc),
+        })
+    }
+
     fn open(&mut self, conn: usize) -> &'static str
         requires { conn < most_connections }
     {
@@ -417,14 +446,11 @@ impl Hosts {
         }
     }
 
+    /// A host begins to serve the panels of the text, which is taken.
     fn serve(&mut self, terminals: &str) -> Result<(), Fault> {
-        let terminals = terminals_of(terminals)?;
-        let (panels, pool) = read_parts(self.alloc, &mut self.panels)?;
-        self.serving = Some(Serving {
-            alloc: self.alloc,
-            host: Host::serving(self.alloc, terminals, panels, pool)?,
-            links: Memory::new(self.alloc),
-        });
+        let serving = Serving::new(self.alloc, terminals, self.panels.as_str())?;
+        self.serving = Some(serving);
+        self.panels.clear();
         Ok(())
     }
 }
@@ -433,7 +459,7 @@ impl Subject for Hosts {
     fn take(&mut self, line: &mut Words<'_>, answer: &mut String) -> Result<(), Fault> {
         match line.word()? {
             "|" => Ok(add_line(&mut self.panels, line.rest())?),
-            "serve" => self.serve(line.rest()),
+            "serve" => put_made(answer, self.serve(line.rest())),
             word => match &mut self.serving {
                 Some(serving) => serving.take(word, line, answer),
                 None => Err(Fault::Needs("a host that serves")),

@@ -1,8 +1,8 @@
 //! Connections in memory, on which bytes come as they are said, and which end or fail at a read, a write, or a byte.
 //!
 //! ```text
-//! plug PIECE PAUSES    two new clients, 0 and 1: a read gives, and a write takes, PIECE bytes at most; PAUSES is yes if every second
-//!                      read, and every second write, gives or takes nothing
+//! plug READS WRITES PAUSES    two new clients, 0 and 1: a read gives READS bytes at most, and a write takes WRITES; PAUSES is yes if
+//!                      every second read, and every second write, gives or takes nothing
 //! fresh C              a new client C
 //! trouble C PLACE N WAY    C ends or fails (WAY ends, fails) at its Nth read or write, or after its Nth byte (PLACE read, write, byte)
 //! say C BYTES          C says these, after what it said before
@@ -46,7 +46,9 @@ struct Trouble {
 /// How bytes cross.
 #[derive(Clone, Copy)]
 struct Pace {
-    piece: usize,
+    /// How many bytes a read gives, and a write takes, at most.
+    reads: usize,
+    writes: usize,
     pauses: bool,
 }
 
@@ -98,7 +100,7 @@ impl Client {
             Place::Byte => self.trouble.number.saturating_sub(self.read),
             Place::Read | Place::Write | Place::Nowhere => usize::MAX,
         };
-        room.min(self.said.len()).min(self.pace.piece).min(most)
+        room.min(self.said.len()).min(self.pace.reads).min(most)
     }
 
     /// Puts the next bytes into the buffer, and answers how many.
@@ -146,7 +148,7 @@ impl Client {
         if self.pace.pauses && self.writes % 2 == 0 {
             return LinkWrite::NotNow;
         }
-        let count = bytes.len().min(self.pace.piece);
+        let count = bytes.len().min(self.pace.writes);
         match self.heard.extend_from_slice(&bytes[..count]) {
             Ok(()) => LinkWrite::Took(count),
             Err(_) => LinkWrite::NotNow,
@@ -227,7 +229,8 @@ impl Links for Memory {
 
 fn read_pace(line: &mut Words<'_>) -> Result<Pace, Fault> {
     Ok(Pace {
-        piece: line.number()?,
+        reads: line.number()?,
+        writes: line.number()?,
         pauses: line.word()? == "yes",
     })
 }
@@ -253,7 +256,8 @@ impl Memory {
     /// Two clients that have nothing to say.
     pub(crate) fn new(alloc: Global) -> Memory {
         let pace = Pace {
-            piece: usize::MAX,
+            reads: usize::MAX,
+            writes: usize::MAX,
             pauses: false,
         };
         Memory {

@@ -46,24 +46,11 @@ pub(crate) fn model_numbered(number: u8) -> Result<Model, Fault> {
     }
 }
 
-/// The LU with a name; none if there is no name.
-pub(crate) fn read_lu(name: &str) -> Result<Option<Lu>, Fault> {
-    match Lu::read(name.as_bytes()) {
-        Some(lu) => Ok(Some(lu)),
-        None if name.is_empty() => Ok(None),
-        None => Err(Fault::Needs("an LU's name")),
+fn connect(terminal: &mut Terminal, name: &str) -> Result<(), Fault> {
+    let wanted = Lu::read(name.as_bytes());
+    if wanted.is_none() && !name.is_empty() {
+        return Err(Fault::Needs("an LU's name"));
     }
-}
-
-/// The key with a name.
-pub(crate) fn key_named(name: &str) -> Result<Key, Fault> {
-    match Key::named(name) {
-        Some(key) => Ok(key),
-        None => Err(Fault::Needs("a key")),
-    }
-}
-
-fn connect(terminal: &mut Terminal, wanted: Option<Lu>) -> Result<(), Fault> {
     match terminal.phase() {
         TermPhase::Idle => {
             terminal.connected(wanted);
@@ -103,6 +90,14 @@ fn press(terminal: &mut Terminal, key: Key, answer: &mut String) -> Result<(), A
             answer.push('\n')
         }
         Err(_) => answer.push_str("memory\n"),
+    }
+}
+
+/// Presses the key with a name.
+fn press_named(terminal: &mut Terminal, name: &str, answer: &mut String) -> Result<(), Fault> {
+    match Key::named(name) {
+        Some(key) => Ok(press(terminal, key, answer)?),
+        None => Err(Fault::Needs("a key")),
     }
 }
 
@@ -182,13 +177,16 @@ fn take_on(
     answer: &mut String,
 ) -> Result<(), Fault> {
     match word {
-        "connected" => connect(terminal, read_lu(line.rest())?)?,
-        "feed" => put_fed(answer, terminal.feed(line.all_bytes(alloc)?.as_slice()))?,
-        "each" => put_fed(
-            answer,
-            feed_each(terminal, line.all_bytes(alloc)?.as_slice()),
-        )?,
-        "key" => press(terminal, key_named(line.word()?)?, answer)?,
+        "connected" => connect(terminal, line.rest())?,
+        "feed" => {
+            let bytes = line.all_bytes(alloc)?;
+            put_fed(answer, terminal.feed(bytes.as_slice()))?
+        }
+        "each" => {
+            let bytes = line.all_bytes(alloc)?;
+            put_fed(answer, feed_each(terminal, bytes.as_slice()))?
+        }
+        "key" => press_named(terminal, line.word()?, answer)?,
         "type" => type_text(terminal, line.rest(), answer)?,
         "sent" => send(terminal, line.number()?)?,
         "restart" => terminal.restart(),

@@ -2,7 +2,7 @@
 //!
 //! ```text
 //! | TEXT              a line of the panel text
-//! new [any]           a world whose host serves these panels, to terminals that wait or to any
+//! new [any]           a world whose host serves these panels, to terminals that wait or to any: done, or memory
 //! EVENT               an event happens: done, refused N, skipped, part N, or memory. The events:
 //!                     connect T [LU], key T NAME, char T CHARACTER, up C N, down C N, act C, note C BYTES, keepalive C, lose C,
 //!                     hostsees C, termsees T, restartterm T, restarthost
@@ -23,12 +23,15 @@ use crate::fault::Fault;
 use crate::line::Words;
 use crate::subject::Subject;
 use crate::subjects::four::{Four, TERMINALS};
-use crate::subjects::host::{add_line, put_connection, put_state, read_conn, terminals_of};
+use crate::subjects::host::{
+    add_line, put_connection, put_made, put_state, read_conn, terminals_of,
+};
 use crate::subjects::seen::put_cells;
-use crate::subjects::terminal::{key_named, put_page, put_terminal, read_lu};
+use crate::subjects::terminal::{put_page, put_terminal};
 use host_core::{Host, MOST_CONNECTIONS, Phase};
 use keyboard::Key;
 use std::alloc::{AllocError, Global};
+use tn3270e_msg::Lu;
 use world3270::{Event, NoteText, Stepped};
 
 /// A panel text, a world, and a list of events.
@@ -40,17 +43,34 @@ pub(crate) struct Worlds {
     events: Vec<Event>,
 }
 
-fn read_note(alloc: Global, line: &mut Words<'_>) -> Result<NoteText, Fault> {
-    match NoteText::new(line.bytes(alloc)?.as_slice()) {
-        Some(text) => Ok(text),
+fn read_note(conn: usize, codes: &[u8]) -> Result<Event, Fault> {
+    match NoteText::new(codes) {
+        Some(text) => Ok(Event::Note(conn, text)),
         None => Err(Fault::Needs("a text for a note")),
     }
 }
 
-fn read_character(text: &str) -> Result<Key, Fault> {
+fn read_key(terminal: usize, name: &str) -> Result<Event, Fault> {
+    match Key::named(name) {
+        Some(key) => Ok(Event::Key(terminal, key)),
+        None => Err(Fault::Needs("a key")),
+    }
+}
+
+fn read_character(terminal: usize, text: &str) -> Result<Event, Fault> {
     match text.chars().next() {
-        Some(letter) => Ok(Key::Char(letter)),
+        Some(letter) => Ok(Event::Key(terminal, Key::Char(letter))),
         None => Err(Fault::Needs("a character")),
+    }
+}
+
+fn read_connect(terminal: usize, name: &str) -> Result<Event, Fault> {
+    if name.is_empty() {
+        return Ok(Event::Connect(terminal, None));
+    }
+    match Lu::read(name.as_bytes()) {
+        Some(lu) => Ok(Event::Connect(terminal, Some(lu))),
+        None => Err(Fault::Needs("an LU's name")),
     }
 }
 
@@ -58,13 +78,13 @@ fn read_character(text: &str) -> Result<Key, Fault> {
 fn read_event_at(alloc: Global, word: &str, line: &mut Words<'_>) -> Result<Event, Fault> {
     let at = line.number::<usize>()?;
     match word {
-        "connect" => Ok(Event::Connect(at, read_lu(line.rest())?)),
-        "key" => Ok(Event::Key(at, key_named(line.word()?)?)),
-        "char" => Ok(Event::Key(at, read_character(line.rest())?)),
+        "connect" => read_connect(at, line.rest()),
+        "key" => read_key(at, line.word()?),
+        "char" => read_character(at, line.rest()),
         "up" => Ok(Event::Up(at, line.number()?)),
         "down" => Ok(Event::Down(at, line.number()?)),
         "act" => Ok(Event::Act(at)),
-        "note" => Ok(Event::Note(at, read_note(alloc, line)?)),
+        "note" => read_note(at, line.bytes(alloc)?.as_slice()),
         "keepalive" => Ok(Event::KeepAlive(at)),
         "lose" => Ok(Event::Lose(at)),
         "hostsees" => Ok(Event::HostSees(at)),
@@ -217,7 +237,8 @@ impl Worlds {
     fn begin(&mut self, terminals: &str) -> Result<(), Fault> {
         let terminals = terminals_of(terminals)?;
         self.events.clear();
-        self.world = Some(Four::new(self.alloc, terminals, &mut self.panels)?);
+        self.world = Some(Four::new(self.alloc, terminals, self.panels.as_str())?);
+        self.panels.clear();
         Ok(())
     }
 
@@ -266,7 +287,7 @@ impl Subject for Worlds {
         let word = line.word()?;
         match word {
             "|" => return Ok(add_line(&mut self.panels, line.rest())?),
-            "new" => return self.begin(line.rest()),
+            "new" => return put_made(answer, self.begin(line.rest())),
             "list" => return self.list(line),
             _ => {}
         }
