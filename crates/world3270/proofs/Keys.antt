@@ -1,7 +1,8 @@
 -- What keys do to a connection, at each moment.
-use Rattle.std.proofs.Common.{◌≡◌, ◌<◌, ◌||◌, ℕ, zero, suc, Bool, true, false, Result, Ok, Err, List, [], ◌∷◌, ◌++◌, append-nil, length, replicate, refl, ap, sym, subst, ◌∙◌, IsOkAnd, IfOk}
+use Rattle.std.proofs.Common.{◌≡◌, ◌<◌, ◌||◌, ℕ, zero, suc, Bool, true, false, Result, Ok, Err, List, [], ◌∷◌, ◌++◌, append-nil, length, replicate, arith, refl, ap, sym, subst, ◌∙◌, IsOkAnd, IfOk}
 use Rattle.std.specs.Prelude.{is_some}
 use Rattle.std.specs.List.{list_all}
+use Rattle.std.proofs.lemmas.List.{length-replicate}
 use Rattle.std.proofs.lemmas.List.Elements.{All-nil}
 use Rattle.codes3270.specs.Aid.{is_short_aid}
 use Rattle.codes3270.specs.Size.{Shape, cells_in}
@@ -15,9 +16,9 @@ use Rattle.datastream.specs.InboundText.{InboundParts}
 use Rattle.datastream.specs.Screen.{Screen, is_char}
 use Rattle.datastream.specs.declared.inbound_part.Form.TheVariants.{Modified}
 use Rattle.keyboard.specs.Edits.{typed, with_deleted, with_field_erased}
-use Rattle.keyboard.specs.Keys.{Outcome, edited, lock_after, at_lock, pressed}
+use Rattle.keyboard.specs.Keys.{Outcome, edited as edit_or_refusal, lock_after, at_lock, pressed}
 use Rattle.keyboard.specs.Leaves.{erases, Keeps, KeepsSent}
-use Rattle.keyboard.specs.State.{Keyboard}
+use Rattle.keyboard.specs.State.{Keyboard, freed}
 use Rattle.keyboard.specs.declared.key.Key.{Key}
 use Rattle.keyboard.specs.declared.key.Key.TheVariants.{Char, Tab, BackTab, NewLine, Home, CursorUp, CursorDown, CursorLeft, CursorRight, Backspace, Insert, Delete, EraseEof, EraseInput, Reset, Enter, Pf, Pa, Clear}
 use Rattle.keyboard.specs.declared.key.Lock.{Lock}
@@ -42,6 +43,7 @@ use Rattle.world3270.specs.Link.{Link, sent, term_stepped}
 use Rattle.world3270.specs.Moments.{Serving, Moment, UnderWay, IsAt, turn_at, pending_at, served_down, served_up}
 use Rattle.world3270.specs.TurnReasons.{IsCleared, IsOpenBy}
 use Rattle.host_core.specs.declared.unheard.Unheard.{Unheard}
+use Rattle.world3270.specs.Rules.{after_sending, data_by, edited, shows, with_aid}
 use Rattle.world3270.specs.Stages.{Scene, scene_of, once_taken, FactsAreExact, IfRelies, Operates, Sees, IsPressed, WillSee, Fact, Kept, Sizes, ShownAt}
 use Rattle.world3270.specs.Terminal.{Display, is_bound, bound_to, data_of, erases_if, outcome_of, key_came}
 use Rattle.world3270.specs.View.{View, view_of}
@@ -110,7 +112,7 @@ lock_stays Protected lock h e = absurd (cc)
 lock_stays NotNumeric lock h e = absurd (cc)
 lock_stays NoRoom lock h e = absurd (cc)
 
-edits : (r : Result Screen Refusal) (keyboard : Keyboard) (screen : Screen) → (keyboard.lock ≡ Wait → ⊥) → Acts (edited r keyboard screen)
+edits : (r : Result Screen Refusal) (keyboard : Keyboard) (screen : Screen) → (keyboard.lock ≡ Wait → ⊥) → Acts (edit_or_refusal r keyboard screen)
 edits (Ok new) keyboard screen h = h
 edits (Err why) keyboard screen h = lock_stays why keyboard.lock h
 
@@ -256,9 +258,9 @@ will_see given unheard erased shape size shadow left screen aid is whole exact k
     is_long : is_short_aid screen.aid ≡ false → IsLong parts.form parts.aid
     is_long long = subst (λ f. IsLong f parts.aid) (sym (key_form size screen)) (ap is_short_aid (key_aid size screen) ∙ long)
 
--- ---- by what the key is answered
+-- ---- what the operator does at a moment at which he types
 
-module _ (given : Given) (app : Application) (link : Link) (key : Key) (k : Kept app (view_of link)) (lu : List ℕ) (from : Serving) (shadow : Shadow)
+module _ (given : Given) (app : Application) (link : Link) (k : Kept app (view_of link)) (lu : List ℕ) (from : Serving) (shadow : Shadow)
     (at : IsAt (view_of link) k.wanted (Moment.Serves lu from)) (same : link.term.display.shape ≡ link.host.shape) (f : Operates shadow (scene_of (view_of link))) where
   abbrev v : View
   v = view_of link
@@ -270,7 +272,6 @@ module _ (given : Given) (app : Application) (link : Link) (key : Key) (k : Kept
     term_talk = at.term_talk;
     turn = at.turn;
     pending = at.pending;
-    not_cleared = at.not_cleared;
     goes_down = at.goes_down;
     goes_up = subst (UnderWay v.lost (sent v.lost v.up [])) (append-nil (served_up from)) (more v.lost v.up (served_up from) [] at.goes_up);
   }
@@ -283,7 +284,6 @@ module _ (given : Given) (app : Application) (link : Link) (key : Key) (k : Kept
     term_talk = at.term_talk;
     turn = at.turn ∙ sym turn;
     pending = at.pending ∙ sym pending;
-    not_cleared = at.not_cleared;
     goes_down = subst (UnderWay v.lost v.down) (sym down) at.goes_down;
     goes_up = subst (UnderWay v.lost (sent v.lost v.up (ToHost.Data parts ∷ []))) up (more v.lost v.up (served_up from) (ToHost.Data parts ∷ []) at.goes_up);
   }
@@ -292,21 +292,21 @@ module _ (given : Given) (app : Application) (link : Link) (key : Key) (k : Kept
   scene_now screen lock erased = scene_of (seen_as v v.up screen lock erased)
 
   -- what a moment has of an operator who types, and of a key that was pressed
-  record Typing : Type 0 where
-    to : InboundParts → Serving
-    stay : (screen : Screen) (lock : Lock) (erased : Bool) → Operates shadow (scene_now screen lock erased) → Fact k.wanted (scene_now screen lock erased) (Moment.Serves lu from)
-    press : (parts : InboundParts) (screen : Screen) (lock : Lock) (erased : Bool) → IsPressed (scene_now screen lock erased) parts → WillSee (scene_now screen lock erased) shadow parts → TakesNotes v.host.shape screen.cells
+  pub record Typing : Type 0 where
+    pub to : InboundParts → Serving
+    pub stay : (screen : Screen) (lock : Lock) (erased : Bool) → Operates shadow (scene_now screen lock erased) → Fact k.wanted (scene_now screen lock erased) (Moment.Serves lu from)
+    pub press : (parts : InboundParts) (screen : Screen) (lock : Lock) (erased : Bool) → IsPressed (scene_now screen lock erased) parts → WillSee (scene_now screen lock erased) shadow parts → TakesNotes v.host.shape screen.cells
         → Fact k.wanted (scene_now screen lock erased) (Moment.Serves lu (to parts))
-    at_to : (parts : InboundParts) (screen : Screen) (lock : Lock) (erased : Bool) → IsAt (seen_as v (sent v.lost v.up (ToHost.Data parts ∷ [])) screen lock erased) k.wanted (Moment.Serves lu (to parts))
-    shown : (screen : Screen) → ShownAt app v.host v.before_restored v.last_restored screen (Moment.Serves lu from)
-    shown_to : (parts : InboundParts) (screen : Screen) → ShownAt app v.host v.before_restored v.last_restored screen (Moment.Serves lu (to parts))
+    pub at_to : (parts : InboundParts) (screen : Screen) (lock : Lock) (erased : Bool) → IsAt (seen_as v (sent v.lost v.up (ToHost.Data parts ∷ [])) screen lock erased) k.wanted (Moment.Serves lu (to parts))
+    pub shown : (screen : Screen) → ShownAt app v.waits v.host v.before_restored v.last_restored screen (Moment.Serves lu from)
+    pub shown_to : (parts : InboundParts) (screen : Screen) → ShownAt app v.waits v.host v.before_restored v.last_restored screen (Moment.Serves lu (to parts))
 
   -- what was noted, on the screen of this size
   noted_here : NotedSince (message_place v.shape) v.last_restored.cells f.shown.cells
   noted_here = subst (λ (s : Shape). NotedSince (message_place s) v.last_restored.cells f.shown.cells) (sym same) f.noted
 
   -- a key that sends nothing
-  stays : Typing → (screen : Screen) (lock : Lock) (erased : Bool) → length screen.cells ≡ cells_in v.shape → screen.cursor < cells_in v.shape → (lock ≡ Wait → ⊥) → Held erased f.shown.cells screen.cells
+  pub stays : Typing → (screen : Screen) (lock : Lock) (erased : Bool) → length screen.cells ≡ cells_in v.shape → screen.cursor < cells_in v.shape → (lock ≡ Wait → ⊥) → Held erased f.shown.cells screen.cells
       → Kept app (seen_as v (sent v.lost v.up []) screen lock erased)
   stays typing screen lock erased whole cursor free held = record {
     whole = whole;
@@ -323,7 +323,7 @@ module _ (given : Given) (app : Application) (link : Link) (key : Key) (k : Kept
   }
 
   -- a key that sends
-  sends : Typing → (screen : Screen) (lock : Lock) (erased : Bool) (aid : Aid) → length screen.cells ≡ cells_in v.shape → screen.cursor < cells_in v.shape → lock ≡ Wait → screen.aid ≡ aid → (aid ≡ NoAid → ⊥)
+  pub sends : Typing → (screen : Screen) (lock : Lock) (erased : Bool) (aid : Aid) → length screen.cells ≡ cells_in v.shape → screen.cursor < cells_in v.shape → lock ≡ Wait → screen.aid ≡ aid → (aid ≡ NoAid → ⊥)
       → KeepsSent erased aid f.shown.cells screen.cells → Kept app (seen_as v (sent v.lost v.up (ToHost.Data (modified_data Modified v.shape screen) ∷ [])) screen lock erased)
   sends typing screen lock erased aid whole cursor waits is some keeps =
       let parts : InboundParts = modified_data Modified v.shape screen in
@@ -346,88 +346,180 @@ module _ (given : Given) (app : Application) (link : Link) (key : Key) (k : Kept
         shown = typing.shown_to parts screen;
       }
 
+-- ---- the moments at which he types
+
+-- the terminal has the turn, and takes keys
+pub record TypingNow (given : Given) (app : Application) (link : Link) (k : Kept app (view_of link)) : Type 0 where
+  pub lu : List ℕ
+  pub from : Serving
+  pub shadow : Shadow
+  pub at : IsAt (view_of link) k.wanted (Moment.Serves lu from)
+  pub same : link.term.display.shape ≡ link.host.shape
+  pub operates : Operates shadow (scene_of (view_of link))
+  pub typing : Typing given app link k lu from shadow at same operates
+
+pub types_now : (given : Given) (app : Application) (link : Link) (k : Kept app (view_of link)) → (link.term.display.keyboard.lock ≡ Wait → ⊥) → TypingNow given app link k
+types_now given app link k free = by_moment k.moment k.sizes k.at k.fact k.shown
+  where
+    by_serving : (lu : List ℕ) (serving : Serving) → Sizes app (view_of link) (Moment.Serves lu serving) → IsAt (view_of link) k.wanted (Moment.Serves lu serving) → Fact k.wanted (scene_of (view_of link)) (Moment.Serves lu serving)
+        → ShownAt app link.term.waits link.host link.term.display.before_restored link.term.display.last_restored link.term.display.screen (Moment.Serves lu serving) → TypingNow given app link k
+    by_serving lu (Serving.Answering kind number command) s at f shown =
+        let shadow : Shadow = once_taken link.host.shape command link.host.shadow in
+        record { lu = lu; from = Serving.Answering kind number command; shadow = shadow; at = at; same = s.same refl; operates = f; typing = record {
+          to = λ parts. Serving.KeyBehind kind number command parts;
+          stay = λ screen lock erased operates. operates;
+          press = λ parts screen lock erased pressed sees takes. (pressed, sees, takes, f.exact);
+          at_to = λ parts screen lock erased. sends_at given app link k lu (Serving.Answering kind number command) shadow at (s.same refl) f (Serving.KeyBehind kind number command parts) parts screen lock erased refl refl refl refl;
+          shown = λ screen. shown;
+          shown_to = λ parts screen. shown;
+        } }
+    by_serving lu Serving.Operating s at f shown =
+        record { lu = lu; from = Serving.Operating; shadow = link.host.shadow; at = at; same = s.same refl; operates = f; typing = record {
+          to = λ parts. Serving.KeyAlone parts;
+          stay = λ screen lock erased operates. operates;
+          press = λ parts screen lock erased pressed sees takes. (pressed, sees, takes);
+          at_to = λ parts screen lock erased. sends_at given app link k lu Serving.Operating link.host.shadow at (s.same refl) f (Serving.KeyAlone parts) parts screen lock erased refl refl refl refl;
+          shown = λ screen. shown;
+          shown_to = λ parts screen. shown;
+        } }
+    by_serving lu (Serving.Noting number command) s at f shown =
+        record { lu = lu; from = Serving.Noting number command; shadow = link.host.shadow; at = at; same = s.same refl; operates = f.0; typing = record {
+          to = λ parts. Serving.KeyNoted number command parts;
+          stay = λ screen lock erased operates. (operates, f.1);
+          press = λ parts screen lock erased pressed sees takes. (pressed, sees, record { note = f.1; takes = takes });
+          at_to = λ parts screen lock erased. sends_at given app link k lu (Serving.Noting number command) link.host.shadow at (s.same refl) f.0 (Serving.KeyNoted number command parts) parts screen lock erased refl refl refl refl;
+          shown = λ screen. shown;
+          shown_to = λ parts screen. shown;
+        } }
+    by_serving lu Serving.Deciding s at f shown = absurd (free f.lock)
+    by_serving lu (Serving.Reading number) s at f shown = absurd (free f.decides.lock)
+    by_serving lu (Serving.Reported number parts) s at f shown = absurd (free f.lock)
+    by_serving lu (Serving.NotedLate number command) s at f shown = absurd (free f.0.lock)
+    by_serving lu (Serving.AnsweredLate number command) s at f shown = absurd (free f.lock)
+    by_serving lu (Serving.Painting number command wants over) s at f shown = absurd (free f.lock)
+    by_serving lu (Serving.KeyAlone parts) s at f shown = absurd (free f.0.lock)
+    by_serving lu (Serving.KeyBehind kind number command parts) s at f shown = absurd (free f.0.lock)
+    by_serving lu (Serving.KeyNoted number command parts) s at f shown = absurd (free f.0.lock)
+    by_serving lu (Serving.KeyBefore number command parts) s at f shown = absurd (free f.0.lock)
+
+    by_moment : (moment : Moment) → Sizes app (view_of link) moment → IsAt (view_of link) k.wanted moment → Fact k.wanted (scene_of (view_of link)) moment
+        → ShownAt app link.term.waits link.host link.term.display.before_restored link.term.display.last_restored link.term.display.screen moment → TypingNow given app link k
+    by_moment (Moment.Talks talking) s at f shown = absurd (free f.0.lock)
+    by_moment (Moment.Begins lu number command wants over) s at f shown = absurd (free f.lock)
+    by_moment (Moment.Serves lu serving) s at f shown = by_serving lu serving s at f shown
+
+-- ---- by what a key is answered
+
+module _ (given : Given) (app : Application) (link : Link) (key : Key) (k : Kept app (view_of link)) (now : TypingNow given app link k) where
+  abbrev here : View
+  here = view_of link
+
+  abbrev left : List Cell
+  left = now.operates.shown.cells
+
   -- the connection with what was said, by the answer
   abbrev said : Outcome → Pressed → View
   said outcome answer =
-      seen_as v (sent v.lost v.up (data_of (is_bound link.term) answer v.shape outcome.screen)) outcome.screen outcome.keyboard.lock (v.erased || erases_if answer key)
+      seen_as here (sent here.lost here.up (data_of (is_bound link.term) answer here.shape outcome.screen)) outcome.screen outcome.keyboard.lock (here.erased || erases_if answer key)
 
   bound : is_bound link.term ≡ true
-  bound = ap (λ (t : Term). is_some (bound_to t.talk.state)) at.term_talk
+  bound = ap (λ state. is_some (bound_to state)) now.at.term_talk
 
-  by_answer : Typing → (outcome : Outcome) (answer : Pressed) → length outcome.screen.cells ≡ cells_in v.shape → outcome.screen.cursor < cells_in v.shape → ActsBy answer outcome
-      → Keeps v.erased key answer f.shown.cells outcome.screen.cells → Kept app (said outcome answer)
-  by_answer typing outcome Done whole cursor a keeps =
-      subst (λ says. Kept app (seen_as v (sent v.lost v.up says) outcome.screen outcome.keyboard.lock (v.erased || erases key))) (sym (quiet_done (is_bound link.term) v.shape outcome.screen))
-      (stays typing outcome.screen outcome.keyboard.lock (v.erased || erases key) whole cursor a keeps)
-  by_answer typing outcome (Refused why) whole cursor a keeps =
-      subst (λ says. Kept app (seen_as v (sent v.lost v.up says) outcome.screen outcome.keyboard.lock (v.erased || false))) (sym (quiet_refused (is_bound link.term) why v.shape outcome.screen))
-      (stays typing outcome.screen outcome.keyboard.lock (v.erased || false) whole cursor a (subst (λ b. Held b f.shown.cells outcome.screen.cells) (sym (or_false v.erased)) keeps))
-  by_answer typing outcome (Send aid) whole cursor a keeps =
-      subst (λ b. Kept app (seen_as v (sent v.lost v.up (data_of b (Send aid) v.shape outcome.screen)) outcome.screen outcome.keyboard.lock (v.erased || false))) (sym bound)
-      (sends typing outcome.screen outcome.keyboard.lock (v.erased || false) aid whole cursor a.0 a.1 a.2 (subst (λ b. KeepsSent b aid f.shown.cells outcome.screen.cells) (sym (or_false v.erased)) keeps))
+  stay : (screen : Screen) (lock : Lock) (erased : Bool) → length screen.cells ≡ cells_in here.shape → screen.cursor < cells_in here.shape → (lock ≡ Wait → ⊥) → Held erased left screen.cells
+      → Kept app (seen_as here (sent here.lost here.up []) screen lock erased)
+  stay screen lock erased whole cursor free held = stays given app link k now.lu now.from now.shadow now.at now.same now.operates now.typing screen lock erased whole cursor free held
 
-  types : Typing → Kept app (view_of (key_view key link))
-  types typing =
+  by_answer : (outcome : Outcome) (answer : Pressed) → length outcome.screen.cells ≡ cells_in here.shape → outcome.screen.cursor < cells_in here.shape → ActsBy answer outcome
+      → Keeps here.erased key answer left outcome.screen.cells → Kept app (said outcome answer)
+  by_answer outcome Done whole cursor a keeps =
+      subst (λ says. Kept app (seen_as here (sent here.lost here.up says) outcome.screen outcome.keyboard.lock (here.erased || erases key))) (sym (quiet_done (is_bound link.term) here.shape outcome.screen))
+      (stay outcome.screen outcome.keyboard.lock (here.erased || erases key) whole cursor a keeps)
+  by_answer outcome (Refused why) whole cursor a keeps =
+      subst (λ says. Kept app (seen_as here (sent here.lost here.up says) outcome.screen outcome.keyboard.lock (here.erased || false))) (sym (quiet_refused (is_bound link.term) why here.shape outcome.screen))
+      (stay outcome.screen outcome.keyboard.lock (here.erased || false) whole cursor a (subst (λ b. Held b left outcome.screen.cells) (sym (or_false here.erased)) keeps))
+  by_answer outcome (Send aid) whole cursor a keeps =
+      subst (λ b. Kept app (seen_as here (sent here.lost here.up (data_of b (Send aid) here.shape outcome.screen)) outcome.screen outcome.keyboard.lock (here.erased || false))) (sym bound)
+      (sends given app link k now.lu now.from now.shadow now.at now.same now.operates now.typing outcome.screen outcome.keyboard.lock (here.erased || false) aid whole cursor a.0 a.1 a.2
+      (subst (λ b. KeepsSent b aid left outcome.screen.cells) (sym (or_false here.erased)) keeps))
+
+  types : Kept app (view_of (key_view key link))
+  types =
       let display : Display = link.term.display in
       let outcome : Outcome = outcome_of key display in
       let columns : ℕ = display.shape.columns in
       let on : display.screen.cursor < length display.screen.cells = subst (λ n. display.screen.cursor < n) (sym k.whole) k.cursor in
       let stayed = given.keys.on_screen columns key display.keyboard display.screen on in
-      by_answer typing outcome outcome.answer (stayed.0 ∙ k.whole) (subst (λ n. outcome.screen.cursor < n) k.whole stayed.1)
-      (acts columns key display.keyboard display.screen f.lock)
-      (given.keys.keep display.erased f.shown.cells columns key display.keyboard display.screen on f.held)
+      by_answer outcome outcome.answer (stayed.0 ∙ k.whole) (subst (λ n. outcome.screen.cursor < n) k.whole stayed.1)
+      (acts columns key display.keyboard display.screen now.operates.lock)
+      (given.keys.keep display.erased left columns key display.keyboard display.screen on now.operates.held)
 
 -- ---- any key, at any moment
 
 pub keys : Given → (app : Application) (link : Link) (key : Key) → Kept app (view_of link) → Kept app (view_of (key_view key link))
-keys given app link key k = by_moment k.moment k.sizes k.at k.fact k.shown
+keys given app link key k = by_lock link.term.display.keyboard.lock refl
   where
-    wait : link.term.display.keyboard.lock ≡ Wait → Kept app (view_of (key_view key link))
-    wait e = subst (Kept app) (sym (key_waits key link e)) k
+    types_at : (lock : Lock) → link.term.display.keyboard.lock ≡ lock → (lock ≡ Wait → ⊥) → Kept app (view_of (key_view key link))
+    types_at lock is free = types given app link key k (types_now given app link k (λ waits. free (sym is ∙ waits)))
 
-    by_serving : (lu : List ℕ) (serving : Serving) → Sizes app (view_of link) (Moment.Serves lu serving) → IsAt (view_of link) k.wanted (Moment.Serves lu serving) → Fact k.wanted (scene_of (view_of link)) (Moment.Serves lu serving)
-        → ShownAt app link.host link.term.display.before_restored link.term.display.last_restored link.term.display.screen (Moment.Serves lu serving) → Kept app (view_of (key_view key link))
-    by_serving lu (Serving.Answering kind number command) s at f shown =
-        let shadow : Shadow = once_taken link.host.shape command link.host.shadow in
-        types given app link key k lu (Serving.Answering kind number command) shadow at (s.same refl) f (record {
-          to = λ parts. Serving.KeyBehind kind number command parts;
-          stay = λ screen lock erased operates. operates;
-          press = λ parts screen lock erased pressed sees takes. (pressed, sees, takes, f.exact);
-          at_to = λ parts screen lock erased. sends_at given app link key k lu (Serving.Answering kind number command) shadow at (s.same refl) f (Serving.KeyBehind kind number command parts) parts screen lock erased refl refl refl refl;
-          shown = λ screen. shown;
-          shown_to = λ parts screen. shown;
-        })
-    by_serving lu Serving.Operating s at f shown =
-        types given app link key k lu Serving.Operating link.host.shadow at (s.same refl) f (record {
-          to = λ parts. Serving.KeyAlone parts;
-          stay = λ screen lock erased operates. operates;
-          press = λ parts screen lock erased pressed sees takes. (pressed, sees, takes);
-          at_to = λ parts screen lock erased. sends_at given app link key k lu Serving.Operating link.host.shadow at (s.same refl) f (Serving.KeyAlone parts) parts screen lock erased refl refl refl refl;
-          shown = λ screen. shown;
-          shown_to = λ parts screen. shown;
-        })
-    by_serving lu (Serving.Noting number command) s at f shown =
-        types given app link key k lu (Serving.Noting number command) link.host.shadow at (s.same refl) f.0 (record {
-          to = λ parts. Serving.KeyNoted number command parts;
-          stay = λ screen lock erased operates. (operates, f.1);
-          press = λ parts screen lock erased pressed sees takes. (pressed, sees, record { note = f.1; takes = takes });
-          at_to = λ parts screen lock erased. sends_at given app link key k lu (Serving.Noting number command) link.host.shadow at (s.same refl) f.0 (Serving.KeyNoted number command parts) parts screen lock erased refl refl refl refl;
-          shown = λ screen. shown;
-          shown_to = λ parts screen. shown;
-        })
-    by_serving lu Serving.Deciding s at f shown = wait f.lock
-    by_serving lu (Serving.Reading number) s at f shown = wait f.decides.lock
-    by_serving lu (Serving.Reported number parts) s at f shown = wait f.0.decides.lock
-    by_serving lu (Serving.NotedLate number command) s at f shown = wait f.0.lock
-    by_serving lu (Serving.AnsweredLate number command) s at f shown = wait f.lock
-    by_serving lu (Serving.Painting number command wants over) s at f shown = wait f.lock
-    by_serving lu (Serving.KeyAlone parts) s at f shown = wait f.0.lock
-    by_serving lu (Serving.KeyBehind kind number command parts) s at f shown = wait f.0.lock
-    by_serving lu (Serving.KeyNoted number command parts) s at f shown = wait f.0.lock
-    by_serving lu (Serving.KeyBefore number command parts) s at f shown = wait f.0.lock
+    by_lock : (lock : Lock) → link.term.display.keyboard.lock ≡ lock → Kept app (view_of (key_view key link))
+    by_lock Wait is = subst (Kept app) (sym (key_waits key link is)) k
+    by_lock Free is = types_at Free is (λ waits. absurd (cc))
+    by_lock Error is = types_at Error is (λ waits. absurd (cc))
 
-    by_moment : (moment : Moment) → Sizes app (view_of link) moment → IsAt (view_of link) k.wanted moment → Fact k.wanted (scene_of (view_of link)) moment → ShownAt app link.host link.term.display.before_restored link.term.display.last_restored link.term.display.screen moment
-        → Kept app (view_of (key_view key link))
-    by_moment (Moment.Talks talking) s at f shown = wait f.0.lock
-    by_moment (Moment.Begins lu number command wants over) s at f shown = wait f.lock
-    by_moment (Moment.Serves lu serving) s at f shown = by_serving lu serving s at f shown
+-- ---- whatever the operator does, as the rules say
+
+-- the connection once input was edited, at a terminal that takes keys
+abbrev pub edited_link : List Cell → ℕ → Bool → Link → Link
+edited_link cells cursor erases link = term_stepped (shows (freed link.term.display.keyboard) (edited cells cursor erases link.term.display) [] link.term) link.down link
+
+-- and once a key was pressed that sends; the terminal waits then
+abbrev pub sent_link : Aid → Link → Link
+sent_link aid link = term_stepped (shows (record link.term.display.keyboard { lock = Wait }) (after_sending aid link.term.display) (data_by aid link.term) link.term) link.down link
+
+pub edits_kept : Given → (app : Application) (link : Link) (cells : List Cell) (cursor : ℕ) (erases : Bool) → Kept app (view_of link) → (link.term.display.keyboard.lock ≡ Wait → ⊥)
+    → Held erases link.term.display.screen.cells cells → cursor < length cells → Kept app (view_of (edited_link cells cursor erases link))
+edits_kept given app link cells cursor erases k free held on =
+    let now : TypingNow given app link k = types_now given app link k free in
+    let whole : length cells ≡ cells_in link.term.display.shape = held.same_length ∙ k.whole in
+    stay given app link Reset k now (record link.term.display.screen { cells = cells; cursor = cursor }) Free (link.term.display.erased || erases) whole (subst (λ n. cursor < n) whole on) (λ waits. absurd (cc))
+    (given.keys.composes link.term.display.erased erases now.operates.shown.cells link.term.display.screen.cells cells now.operates.held held)
+
+-- what a key that sends leaves of the screen
+pub with_aid-whole : (aid : Aid) (screen : Screen) → length (with_aid aid screen).cells ≡ length screen.cells
+with_aid-whole NoAid screen = refl
+with_aid-whole EnterAid screen = refl
+with_aid-whole (PfAid key) screen = refl
+with_aid-whole (PaAid key) screen = refl
+with_aid-whole ClearAid screen = length-replicate (length screen.cells) (CharCell 0)
+
+pub with_aid-aid : (aid : Aid) (screen : Screen) → (with_aid aid screen).aid ≡ aid
+with_aid-aid NoAid screen = refl
+with_aid-aid EnterAid screen = refl
+with_aid-aid (PfAid key) screen = refl
+with_aid-aid (PaAid key) screen = refl
+with_aid-aid ClearAid screen = refl
+
+pub with_aid-cursor : (aid : Aid) (screen : Screen) (size : ℕ) → screen.cursor < size → (with_aid aid screen).cursor < size
+with_aid-cursor NoAid screen size on = on
+with_aid-cursor EnterAid screen size on = on
+with_aid-cursor (PfAid key) screen size on = on
+with_aid-cursor (PaAid key) screen size on = on
+with_aid-cursor ClearAid screen size on = omega (arith, on)
+
+with_aid-keeps : (erased : Bool) (was : List Cell) (aid : Aid) (screen : Screen) → (aid ≡ NoAid → ⊥) → Held erased was screen.cells → KeepsSent erased aid was (with_aid aid screen).cells
+with_aid-keeps erased was NoAid screen some held = absurd (some refl)
+with_aid-keeps erased was EnterAid screen some held = held
+with_aid-keeps erased was (PfAid key) screen some held = held
+with_aid-keeps erased was (PaAid key) screen some held = held
+with_aid-keeps erased was ClearAid screen some held = ap (λ (n : ℕ). replicate n (CharCell 0)) held.same_length
+
+pub sends_kept : Given → (app : Application) (link : Link) (aid : Aid) → Kept app (view_of link) → (link.term.display.keyboard.lock ≡ Wait → ⊥) → (aid ≡ NoAid → ⊥) → Kept app (view_of (sent_link aid link))
+sends_kept given app link aid k free some =
+    let now : TypingNow given app link k = types_now given app link k free in
+    let here : View = view_of link in
+    let screen : Screen = with_aid aid link.term.display.screen in
+    let bound : is_bound link.term ≡ true = ap (λ state. is_some (bound_to state)) now.at.term_talk in
+    subst (λ b. Kept app (seen_as here (sent here.lost here.up (data_of b (Send aid) here.shape screen)) screen Wait here.erased)) (sym bound)
+    (sends given app link k now.lu now.from now.shadow now.at now.same now.operates now.typing screen Wait here.erased aid (with_aid-whole aid link.term.display.screen ∙ k.whole)
+    (with_aid-cursor aid link.term.display.screen (cells_in here.shape) k.cursor) refl (with_aid-aid aid link.term.display.screen) some
+    (with_aid-keeps here.erased now.operates.shown.cells aid link.term.display.screen some now.operates.held))

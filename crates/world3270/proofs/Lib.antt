@@ -1,4 +1,5 @@
 pub mod Queues
+pub mod TalkStates
 pub mod OneOfMany
 pub mod Sent
 pub mod Unreturned
@@ -10,6 +11,15 @@ pub mod Up
 pub mod Acting
 pub mod Answered
 pub mod Keys
+pub mod SecondKeys
+pub mod HeardTurns
+pub mod NotesHeld
+pub mod Simulation
+pub mod SimulatedKeys
+pub mod SimulatedHost
+pub mod ComesDown
+pub mod SimulatedDown
+pub mod EveryTerminal
 pub mod KeyMoves
 pub mod Worlds
 pub mod Headline
@@ -43,6 +53,9 @@ pub mod Everywhere
 pub mod Numbers
 pub mod OnScreen
 pub mod ShownFields
+pub mod ReadsInput
+pub mod StillKept
+pub mod Waits
 pub mod ShownPanels
 pub mod ShownSince
 pub mod Sendable

@@ -56,3 +56,4 @@ pub mod Known
 pub mod Unbroken
 pub mod ShownSince
 pub mod ProtocolErrors
+pub mod EveryTerminal

@@ -2,6 +2,7 @@
 //! other crates use them; no program calls them, and the root doesn't export them.
 ghost use Rattle.world3270.specs.Always.{Always, AlwaysOf, HeadlineHolds, NobodyRefuses};
 ghost use Rattle.world3270.specs.Asked.{AskedIsSeen, AskedIsSeenOverBytes, FieldsAreSeen, ScreensAreAsLeft};
+ghost use Rattle.world3270.specs.EveryTerminal.{EveryTerminal};
 ghost use Rattle.world3270.specs.Example.{TheRunsEndSo};
 ghost use Rattle.world3270.specs.Forms.{FormsAreAwaited};
 ghost use Rattle.world3270.specs.Given.{Given};
@@ -373,4 +374,23 @@ pub fn our_keys_keep_the_rules()
     keys_keep_what_was_left();
     kept_since_the_write();
     sent_keys_wait();
+}
+
+/// Law: every terminal. On a connection of a host that serves any terminal, from its agreement on an LU on, if
+/// the terminal applies each write that it answers positively, whole and in order, and answers Read
+/// Buffer with the whole screen; if its operator changes unprotected cells, their MDT and the cursor
+/// alone, any change turning MDT on, or Erase Input, which nulls them and turns it off; if a key that
+/// sends sends its AID with exactly the modified fields; and if it is bound to the LU that the host
+/// granted, with a blank screen: then, after any moves in any order, it is bound to that LU; whenever
+/// the host decides, the headline's parts hold of what the host was told, which is the screen as
+/// it was when the first key since the last paint was pressed; what the host believes of attributes and of protected
+/// characters is so of the screen as it is now; each open question is about what the host was told; once a
+/// paint is answered the screen that it left shows the panel, whatever was typed before it came; and
+/// neither end has closed. It may type, and press keys, while a 3278 would wait, but not Clear: that
+/// is left out. So is a write that it answers negatively.
+pub fn every_terminal()
+    ensures { EveryTerminal }
+{
+    what_is_given();
+    painted_fields_are_there();
 }
