@@ -29,6 +29,7 @@ pub mod ExampleGiven
 pub mod RunsOfEntries
 pub mod RunsOfReads
 pub mod RunsOfRestarts
+pub mod RunsOfRules
 pub mod RunsOfNotes
 pub mod RunsOfTargets
 pub mod RunsOfQuestions
@@ -41,6 +42,7 @@ pub mod StandsScreens
 pub mod StandsSizes
 pub mod StandsComing
 pub mod Places
+pub mod OtherTerminals
 pub mod Others
 pub mod Skipped
 pub mod History

@@ -20,6 +20,7 @@ pub mod Stages
 pub mod ExampleApplication
 pub mod ExampleScreens
 pub mod ExampleEnds
+pub mod ExampleRules
 pub mod ExampleRuns
 pub mod ExampleReads
 pub mod ExampleRestarts

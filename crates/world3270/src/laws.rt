@@ -13,7 +13,7 @@ ghost use Rattle.world3270.specs.Losses.{LostTakesNothing};
 ghost use Rattle.world3270.specs.Numbers.{NumbersFit};
 ghost use Rattle.world3270.specs.TurnReasons.{ActsOnTheKey, KnowsTheCleared, LeavesNothingOpen};
 ghost use Rattle.world3270.specs.OneOutcome.{EventsAreOne, RunsAreOne, StepsAreOne};
-ghost use Rattle.world3270.specs.RuleLaws.{ImpatientKeysOperate, KeysOperate};
+ghost use Rattle.world3270.specs.RuleLaws.{TerminalsKeepTheRules};
 ghost use Rattle.world3270.specs.Places.{EndsAgree, UpIsHeld, HoldersAreHere, LinksStay, HoldersStay, PoolIsSound};
 ghost use Rattle.world3270.specs.Refines.{BeginIsReached, HeadlineIsSeen, RunsGoOn, SkipsAreThose, StepsGoOn};
 ghost use Rattle.world3270.specs.TrackedTerminals.{HistoryFollows};
@@ -230,7 +230,9 @@ pub fn a_lost_connection_takes_nothing()
 /// host that restarts; notes, two of which cross a key; a PF key and Clear that lead on; an
 /// application that is asked, and answers twice; what a loss leaves under way. The second panel has
 /// more rows than the first, so the size of the screen changes on the way there and back. When the
-/// host decides it knows what was typed.
+/// host decides it knows what was typed. And runs of one connection: of a terminal whose Reset ends
+/// the wait, with a host that serves any terminal, and with one that relies on the wait, whose panel
+/// keeps what was typed in it; of four terminals that break one rule each; and of one that keeps all.
 pub fn the_runs_end_so()
     ensures { TheRunsEndSo }
 {}
@@ -364,12 +366,11 @@ pub fn one_machine()
     term_core::laws::one_machine();
 }
 
-/// Law: the terminal keeps the rules that are asked of any terminal. Each key edits input, or sends
-/// what it displays; and so does each key at a terminal that is the same but for its Reset, which
-/// ends the wait for the host.
-pub fn our_keys_keep_the_rules()
-    ensures ours { KeysOperate }
-    ensures impatient { ImpatientKeysOperate }
+/// Law: these terminals keep the rules that are asked of any terminal: ours, whose keys edit input or
+/// send what it displays; one that is the same but for its Reset, which ends the wait for the host;
+/// one that stores any character in a numeric field; and one at which a text is pasted into a field.
+pub fn terminals_keep_the_rules()
+    ensures { TerminalsKeepTheRules }
 {
     keys_keep_what_was_left();
     kept_since_the_write();
