@@ -59,7 +59,9 @@ pub mod ReadsInput
 pub mod StillKept
 pub mod Waits
 pub mod ShownPanels
+pub mod Undecided
 pub mod ShownSince
+pub mod ScreensFound
 pub mod Sendable
 pub mod Slots
 pub mod Steps

@@ -56,5 +56,6 @@ pub mod OneOutcome
 pub mod Known
 pub mod Unbroken
 pub mod ShownSince
+pub mod ScreensFound
 pub mod ProtocolErrors
 pub mod EveryTerminal

@@ -20,6 +20,7 @@ ghost use Rattle.world3270.specs.TrackedTerminals.{HistoryFollows};
 ghost use Rattle.world3270.specs.Sendable.{AlwaysTyped, DataCanBeSpelt, PaintsAreScreens, PaintsAreSpelt, ScreensAreSendable, ScreensHaveASize, ValuesAreTexts};
 ghost use Rattle.world3270.specs.Shown.{FieldsAreShown, PanelIsShown, PanelIsShownOverBytes};
 ghost use Rattle.world3270.specs.ShownFields.{OtherTextsAreNot};
+ghost use Rattle.world3270.specs.ScreensFound.{DecisionsAreShownOverBytes, OtherTextsAreNotShown, PaintsFindTheScreen};
 ghost use Rattle.world3270.specs.ShownSince.{AnswersAreShownOverBytes, StepsKeepPanels, WaitingKeepsTheScreen};
 ghost use Rattle.world3270.specs.Sizes.{AllSizesAgree};
 ghost use Rattle.world3270.specs.Skipped.{SkippedChangesNothing};
@@ -331,14 +332,20 @@ pub fn bytes_follow_messages()
 /// Law: what is shown on a connection changes by the host's decisions there alone. An event by which
 /// it decides nothing there leaves the connection's panel, values and message. And so what an
 /// application answered is shown until the host decides again: once the paint is answered, panel,
-/// values, message and the field for the cursor are those of the answer. And a key that is pressed
-/// while the keyboard waits for the host changes no screen: what a paint finds is what the key before
-/// it sent, but for notes.
+/// values, message and the field for the cursor are those of the answer. A key that is pressed while
+/// the keyboard waits for the host changes no screen; and a paint finds the screen that the terminal
+/// had when the host decided to show the panel. So a field that is kept has the text that the
+/// operator then had in it; a screen with another text in a field doesn't show the decision.
 pub fn what_is_shown_stays()
     ensures steps { StepsKeepPanels }
     ensures answers { AnswersAreShownOverBytes }
     ensures waiting { WaitingKeepsTheScreen }
+    ensures found { AlwaysOf PaintsFindTheScreen }
+    ensures decisions { DecisionsAreShownOverBytes }
+    ensures others { OtherTextsAreNotShown }
 {
+    what_is_given();
+    panels_are_shown();
     bytes_follow_messages();
     what_is_answered_is_shown();
 }
