@@ -62,6 +62,7 @@ pub mod ShownPanels
 pub mod Undecided
 pub mod ShownSince
 pub mod ScreensFound
+pub mod ScreensStay
 pub mod Sendable
 pub mod Slots
 pub mod Steps

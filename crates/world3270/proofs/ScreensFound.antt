@@ -63,7 +63,7 @@ use Rattle.world3270.proofs.Worlds.{new_good, run_good}
 -- ---- what is under way
 
 -- talk alone goes down
-abbrev AreTalk : List ToTerminal → Type 0
+abbrev pub AreTalk : List ToTerminal → Type 0
 AreTalk [] = ⊤
 AreTalk (ToTerminal.TalksDown saying ∷ rest) = AreTalk rest
 AreTalk (ToTerminal.Paint number wanted over ∷ rest) = ⊥
@@ -87,13 +87,13 @@ HaveNoPaint (ToTerminal.ReadBuffer number ∷ rest) = HaveNoPaint rest
 HaveNoPaint (ToTerminal.Note number command ∷ rest) = HaveNoPaint rest
 
 -- talk alone comes up
-abbrev AreTalkUp : List ToHost → Type 0
+abbrev pub AreTalkUp : List ToHost → Type 0
 AreTalkUp [] = ⊤
 AreTalkUp (ToHost.TalksUp saying ∷ rest) = AreTalkUp rest
 AreTalkUp (ToHost.Data parts ∷ rest) = ⊥
 AreTalkUp (ToHost.Response number verdict ∷ rest) = ⊥
 
-all_talk : (talk : List Saying) → AreTalk (map ToTerminal.TalksDown talk)
+pub all_talk : (talk : List Saying) → AreTalk (map ToTerminal.TalksDown talk)
 all_talk [] = tt
 all_talk (saying ∷ talk) = all_talk talk
 
@@ -161,7 +161,7 @@ up_front (ToHost.Data parts ∷ rest) more are = absurd are
 up_front (ToHost.Response number verdict ∷ rest) more are = absurd are
 
 -- what is sent goes on its way, or vanishes
-if_sent : {X : Type 0} (P : List X → Type 0) (lost : Bool) (queue messages : List X) → P queue → P (queue ++ messages) → P (sent lost queue messages)
+pub if_sent : {X : Type 0} (P : List X → Type 0) (lost : Bool) (queue messages : List X) → P queue → P (queue ++ messages) → P (sent lost queue messages)
 if_sent P true queue messages was now = was
 if_sent P false queue messages was now = now
 
@@ -274,7 +274,7 @@ module _ (was : Screen) where
       by_test true = Finds.taken before (if_sent HaveNoPaint link.lost link.down ((noted_as text link.host).message ∷ []) none (none_more link.down ((noted_as text link.host).message ∷ []) none tt))
       by_test false = Finds.taken before none
 
-note_stays : (text : List ℕ) (link : Link) → (host_sent (noted text link.host) link).term_here ≡ link.term_here
+pub note_stays : (text : List ℕ) (link : Link) → (host_sent (noted text link.host) link).term_here ≡ link.term_here
 note_stays text link = by_test (may_note link.host.turn link.host.pending (is_agreed link.host.talk.state))
   where
     by_test : (b : Bool) → (host_sent (if b then Some (noted_as text link.host) else None) link).term_here ≡ link.term_here
@@ -298,12 +298,12 @@ keeps_finding was = record {
 -- ---- as the host decides
 
 -- the keyboard waits, and only talk is under way
-record IsQuiet (lock : Lock) (down : List ToTerminal) (up : List ToHost) : Type 0 where
-  waits : lock ≡ Wait
-  goes_down : AreTalk down
-  goes_up : AreTalkUp up
+pub record IsQuiet (lock : Lock) (down : List ToTerminal) (up : List ToHost) : Type 0 where
+  pub waits : lock ≡ Wait
+  pub goes_down : AreTalk down
+  pub goes_up : AreTalkUp up
 
-talk_is_quiet : (model : Model) (wanted : Option (List ℕ)) (talking : Talking) (lock : Lock) → lock ≡ Wait → IsQuiet lock (talk_down model talking) (talk_up model wanted talking)
+pub talk_is_quiet : (model : Model) (wanted : Option (List ℕ)) (talking : Talking) (lock : Lock) → lock ≡ Wait → IsQuiet lock (talk_down model talking) (talk_up model wanted talking)
 talk_is_quiet model wanted Talking.Offering lock is = record { waits = is; goes_down = tt; goes_up = tt }
 talk_is_quiet model wanted Talking.Accepting lock is = record { waits = is; goes_down = tt; goes_up = tt }
 talk_is_quiet model wanted Talking.AskingType lock is = record { waits = is; goes_down = tt; goes_up = tt }

@@ -6,8 +6,9 @@ use Rattle.panels.specs.Screen.{field_content}
 use Rattle.panels.specs.declared.panel.Field.{Field as PanelField}
 use Rattle.telnet_wire.specs.Reading.{Rest}
 use Rattle.host_core.specs.Application.{Application, application_of}
-use Rattle.host_core.specs.Session.{Conn}
+use Rattle.host_core.specs.Session.{Conn, Pending}
 use Rattle.host_core.specs.State.{Service, service_at}
+use Rattle.host_core.specs.declared.turn.Turn.TheVariants as whose
 use Rattle.world3270.specs.ByteSteps.{Steps}
 use Rattle.world3270.specs.ByteWorld.{ByteWorld}
 use Rattle.world3270.specs.Happens.{happens, run}
@@ -51,6 +52,27 @@ PaintsFindTheScreen app world = (number : ℕ) (event : MessageEvent) (events : 
     → is_painting (now.link number).host.pending ≡ false → (seen_link (now.link number)).terminal ≡ Some terminal
     → (was : TerminalSeen) × ((seen_link (world.link number)).terminal ≡ Some was) × IsFound was terminal
 
+-- the same terminal, with the same screen
+pub record IsStill (was terminal : TerminalSeen) : Type 0 where
+  pub same_terminal : terminal.number ≡ was.number
+  pub same_screen : terminal.screen ≡ was.screen
+
+-- a note waits for its answer
+abbrev pub is_noting : Pending → Bool
+is_noting Pending.Nothing = false
+is_noting (Pending.Writing number command) = false
+is_noting (Pending.Reading number) = false
+is_noting (Pending.Noting number command) = true
+
+-- The host holds the turn on a connection, and no note waits for its answer there. While the host decides nothing, the screen stays: so a
+-- question is answered on the screen that it was asked about, and what the host reads is on the screen until it decides.
+abbrev pub TurnsKeepTheScreen : Application → World → Type 0
+TurnsKeepTheScreen app world = (number : ℕ) (events : List MessageEvent) (terminal : TerminalSeen) →
+    let now = run app events world in
+    (world.link number).host.turn ≡ whose.Host → is_noting (world.link number).host.pending ≡ false → HostRestsOver app number events world
+    → (seen_link (now.link number)).terminal ≡ Some terminal
+    → (was : TerminalSeen) × ((seen_link (world.link number)).terminal ≡ Some was) × IsStill was terminal
+
 -- ---- of a world over bytes
 
 -- what is seen of a terminal once a decision is shown: its screen shows the panel, over the screen that it had when the host decided
@@ -71,6 +93,14 @@ DecisionsAreShown world = (number : ℕ) (event : Event) (events : List Event) (
 -- It is so of each world over bytes.
 abbrev pub DecisionsAreShownOverBytes : Type 0
 DecisionsAreShownOverBytes = (world : ByteWorld) → DecisionsAreShown world
+
+-- In each world over bytes the screen stays as long as the host has the turn, with no note under way, and decides nothing.
+abbrev pub TurnsKeepTheScreenOverBytes : Type 0
+TurnsKeepTheScreenOverBytes = (number : ℕ) (events : List Event) (before world : ByteWorld) (rest : Rest) (conn : Conn) (terminal : TerminalSeen)
+    → IsReached before → AreReal events → HostRests number events before world
+    → service_at number before.host ≡ Service.Open rest conn → conn.turn ≡ whose.Host → is_noting conn.pending ≡ false
+    → (seen_connection number world).terminal ≡ Some terminal
+    → (was : TerminalSeen) × ((seen_connection number before).terminal ≡ Some was) × IsStill was terminal
 
 -- A terminal whose screen has another text in one of the fields, neither the value or fill nor what the operator had in it, doesn't show the
 -- decision.

@@ -20,7 +20,7 @@ ghost use Rattle.world3270.specs.TrackedTerminals.{HistoryFollows};
 ghost use Rattle.world3270.specs.Sendable.{AlwaysTyped, DataCanBeSpelt, PaintsAreScreens, PaintsAreSpelt, ScreensAreSendable, ScreensHaveASize, ValuesAreTexts};
 ghost use Rattle.world3270.specs.Shown.{FieldsAreShown, PanelIsShown, PanelIsShownOverBytes};
 ghost use Rattle.world3270.specs.ShownFields.{OtherTextsAreNot};
-ghost use Rattle.world3270.specs.ScreensFound.{DecisionsAreShownOverBytes, OtherTextsAreNotShown, PaintsFindTheScreen};
+ghost use Rattle.world3270.specs.ScreensFound.{DecisionsAreShownOverBytes, OtherTextsAreNotShown, PaintsFindTheScreen, TurnsKeepTheScreen, TurnsKeepTheScreenOverBytes};
 ghost use Rattle.world3270.specs.ShownSince.{AnswersAreShownOverBytes, StepsKeepPanels, WaitingKeepsTheScreen};
 ghost use Rattle.world3270.specs.Sizes.{AllSizesAgree};
 ghost use Rattle.world3270.specs.Skipped.{SkippedChangesNothing};
@@ -333,13 +333,16 @@ pub fn bytes_follow_messages()
 /// it decides nothing there leaves the connection's panel, values and message. And so what an
 /// application answered is shown until the host decides again: once the paint is answered, panel,
 /// values, message and the field for the cursor are those of the answer. A key that is pressed while
-/// the keyboard waits for the host changes no screen; and a paint finds the screen that the terminal
-/// had when the host decided to show the panel. So a field that is kept has the text that the
-/// operator then had in it; a screen with another text in a field doesn't show the decision.
+/// the keyboard waits for the host changes no screen. While the host has the turn, with no note under
+/// way, a screen stays until the host decides; and a paint finds the screen that the terminal had when
+/// the host decided to show the panel. So a field that is kept has the text that the operator then had
+/// in it; a screen with another text in a field doesn't show the decision.
 pub fn what_is_shown_stays()
     ensures steps { StepsKeepPanels }
     ensures answers { AnswersAreShownOverBytes }
     ensures waiting { WaitingKeepsTheScreen }
+    ensures turns { AlwaysOf TurnsKeepTheScreen }
+    ensures turns_over_bytes { TurnsKeepTheScreenOverBytes }
     ensures found { AlwaysOf PaintsFindTheScreen }
     ensures decisions { DecisionsAreShownOverBytes }
     ensures others { OtherTextsAreNotShown }

@@ -1,4 +1,5 @@
 use Rattle.world3270.proofs.ScreensFound.{decisions_are_shown, others_are_not_shown, paints_find}
+use Rattle.world3270.proofs.ScreensStay.{turns_keep, turns_keep_over_bytes}
 use Rattle.world3270.proofs.ShownSince.{answers_are_shown, steps_keep, waiting_keeps}
 use Rattle.world3270.proofs.laws.what_is_shown_stays.Goals as goal
 
@@ -22,3 +23,10 @@ returns-clause-decisions c =
 
 pub returns-clause-others : goal.returns-clause-others
 returns-clause-others c = others_are_not_shown c.what_is_answered_is_shown.ensures.others
+
+pub returns-clause-turns : goal.returns-clause-turns
+returns-clause-turns c = turns_keep c.what_is_given.ensures
+
+pub returns-clause-turns_over_bytes : goal.returns-clause-turns_over_bytes
+returns-clause-turns_over_bytes c =
+    turns_keep_over_bytes c.what_is_given.ensures c.panels_are_shown.ensures.application c.bytes_follow_messages.ensures.steps c.bytes_follow_messages.ensures.skipped
