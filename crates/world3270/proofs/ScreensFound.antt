@@ -540,7 +540,7 @@ decisions_are_shown given panels go skips shown world number it events before ch
       ap (λ (l : SeenLink). l.terminal) (same_seen before was is.reached.stands number) ∙ found.1,
       record {
         found = found.2;
-        shown = subst (λ (s : Screen). IsPanelShown (application_of world.host.panels) host s terminal.last_restored) found.2.same_screen
+        shown = subst (λ (s : Screen). IsPanelShown (application_of world.host.panels) true host s terminal.last_restored) found.2.same_screen
             (shown world (record { begin = begin; is_begin = is.is_begin; events = now.events; reached = now.reached }) number behind host terminal world_is terminal_is has);
       },
     )

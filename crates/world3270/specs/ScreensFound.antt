@@ -78,7 +78,7 @@ TurnsKeepTheScreen app world = (number : ℕ) (events : List MessageEvent) (term
 -- what is seen of a terminal once a decision is shown: its screen shows the panel, over the screen that it had when the host decided
 pub record IsDecisionShown (app : Application) (host : Conn) (was terminal : TerminalSeen) : Type 0 where
   pub found : IsFound was terminal
-  pub shown : IsPanelShown app host was.screen terminal.last_restored
+  pub shown : IsPanelShown app true host was.screen terminal.last_restored
 
 -- The host decided by this event to show a panel on a connection, and has decided nothing there since. Once the paint is answered, this is
 -- shown. So each field of the panel has the value or fill that the host has for it, or the text that the operator had in it, cell by cell,
