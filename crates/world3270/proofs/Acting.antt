@@ -1,10 +1,9 @@
 -- What the host sends, at each moment; and a connection that is lost.
 use Rattle.std.proofs.Common.{◌≡◌, ℕ, Bool, true, false, Option, None, Some, List, [], ◌∷◌, ◌++◌, refl, ap, sym, subst, ◌∙◌, if◌then◌else◌, unwrap_or}
 use Rattle.tn3270e_msg.specs.HostTable.{model_asked}
-use Rattle.tn3270e_msg.specs.Device.{device_for, model_of}
 use Rattle.codes3270.specs.declared.size.Model.{Model}
 use Rattle.codes3270.specs.Size.{cells_in}
-use Rattle.codes3270.specs.declared.size.Model.TheVariants.{M2, M3, M4, M5}
+use Rattle.codes3270.specs.declared.size.Model.TheVariants.{M2}
 use Rattle.codes3270.specs.declared.attention.Aid.{Aid}
 use Rattle.codes3270.specs.declared.attention.Aid.TheVariants.{NoAid, Enter as EnterAid, Clear as ClearAid, Pf as PfAid, Pa as PaAid}
 use Rattle.datastream.specs.Grammar.{CommandParts}
@@ -18,7 +17,7 @@ use Rattle.shadow.specs.Meets.{Meets}
 use Rattle.shadow.specs.Openness.{NothingIsOpen}
 use Rattle.shadow.specs.Fits.{fits}
 use Rattle.shadow.specs.Paint.{paint}
-use Rattle.tn3270e_msg.specs.Talk.{Talk, start_at}
+use Rattle.tn3270e_msg.specs.Talk.{Talk}
 use Rattle.tn3270e_msg.specs.declared.host_talk.HostState.{HostState}
 use Rattle.host_core.specs.Acts.{Act, Decision, Sent as Sending, after_key, decided, decision_on, wanted_by, done, may_act, acted, painted, known_despite, unheard_next, when_shown}
 use Rattle.host_core.specs.Application.{Application, IsApplication, IsSizeOf}

@@ -23,9 +23,6 @@ use Rattle.shadow.specs.Asked.{belief_with}
 use Rattle.shadow.specs.Belief.{Fact, Belief, Shadow, fields_of}
 use Rattle.shadow.specs.Meets.{FieldMeets, Holds, ListsFields, Meets, told}
 use Rattle.shadow.specs.Pairs.{Pairwise}
-use Rattle.tn3270e_msg.specs.Talk.{Talk}
-use Rattle.tn3270e_msg.specs.TermTable.{Term}
-use Rattle.tn3270e_msg.specs.declared.host_talk.HostState.{HostState}
 use Rattle.host_core.specs.Acts.{Act, Decision, belief_of, decision_on, is_in_doubt, is_settled_fact, learned, text_known, when_shown}
 use Rattle.host_core.specs.Application.{Application, IsApplication, message_place}
 use Rattle.host_core.specs.Questions.{is_ask, is_asking, key_of, question_in, question_on}

@@ -61,7 +61,7 @@ use Rattle.world3270.specs.Showing.{WantsItsPanelOn}
 use Rattle.world3270.specs.AsLeft.{ProtectedIsAsLeft}
 use Rattle.world3270.specs.Unreturned.{UnmodifiedIsKept}
 use Rattle.world3270.specs.Link.{Link, sent}
-use Rattle.world3270.specs.Moments.{Kind, Talking, Serving, Moment, UnderWay, IsAt, IsHostTalk, IsTermTalk, talk_in, term_state_at, turn_at, pending_at, down_at, up_at}
+use Rattle.world3270.specs.Moments.{Kind, Talking, Serving, Moment, UnderWay, IsAt, IsHostTalk, IsTermTalk, talk_in, turn_at, pending_at, down_at, up_at}
 use Rattle.world3270.specs.TurnReasons.{IsOccasion, IsCursorFor, IsOpenBy, IsOpenFor, IsCleared}
 use Rattle.world3270.specs.Stages.{Scene, IsNew, Decides, scene_of, once_taken, FactsAreExact, Suits, IsPainted, Operates, Sees, IsRead, Fact, Kept, Sizes, may_differ_at, IsKnownIfRead, ShownAt}
 use Rattle.world3270.specs.Terminal.{TermEnd, TermStep, with_talk, is_bound, bound_to, once_bound, paint_came, note_came, read_came, talked, took}
@@ -243,32 +243,32 @@ paints_on given app is link rest k lu number command wants over at f asked left 
       protected = subst ProtectedIsExact is_taken (given.belief.painted_exact over wants screen same fits meets (subst KnownIsExact (sym f.over_is) k.exact.known));
     } in
     record {
-    whole = painted-length wants screen ∙ same;
-    cursor = subst (λ n. wants.cursor < n) (sym base) f.paintable.showable.cursor;
-    unreturned = λ _. all_kept new.cells;
-    as_left = λ _. all_as_left (message_place wants.size) new.cells;
-    exact = k.exact;
-    wanted = k.wanted;
-    moment = Moment.Serves lu (Serving.Answering Kind.APaint number command);
-    sizes = record {
-      host = k.sizes.host;
-      screen = subst (λ (s : Shape). IsSizeOf app link.term.display.model s) (sym f.paintable.showable.size) k.sizes.host;
-      same = λ steady. f.paintable.showable.size;
-    };
-    at = serves link (paint_came number wants (showing screen link.term)) rest k.wanted lu _ (Serving.Answering Kind.APaint number command) refl at (record { host_talk = λ talk is. is; turn = refl; pending = refl; up = refl }) refl left;
-    fact = record {
-      shown = new;
-      lock = λ wrong. absurd (cc);
-      exact = exact;
-      meets = subst (λ s. Meets s new) is_taken (given.belief.taken over wants screen same fits meets);
-      closed = λ relies. subst NothingIsOpen is_taken (given.belief.paint_opens over wants screen same fits f.paintable.showable.kept meets (subst KnownIsExact (sym f.over_is) k.exact.known) (f.closed relies));
-      knows = subst Knows is_taken (given.belief.known wanted_size over wants);
-      held = given.keys.at_first new.cells;
-      messages = given.notes.painted_takes link.host.shape over wants screen f.paintable;
-      noted = record { places = record { size = refl; kinds = λ place. refl }; each = λ place. inr refl; above = λ place before. refl };
-    };
-    shown = record { wanted = wants; over = over; wanted_for = asked.wants; told = told; meets = meets; fits = fits; is = refl };
-  }
+      whole = painted-length wants screen ∙ same;
+      cursor = subst (λ n. wants.cursor < n) (sym base) f.paintable.showable.cursor;
+      unreturned = λ _. all_kept new.cells;
+      as_left = λ _. all_as_left (message_place wants.size) new.cells;
+      exact = k.exact;
+      wanted = k.wanted;
+      moment = Moment.Serves lu (Serving.Answering Kind.APaint number command);
+      sizes = record {
+        host = k.sizes.host;
+        screen = subst (λ (s : Shape). IsSizeOf app link.term.display.model s) (sym f.paintable.showable.size) k.sizes.host;
+        same = λ steady. f.paintable.showable.size;
+      };
+      at = serves link (paint_came number wants (showing screen link.term)) rest k.wanted lu _ (Serving.Answering Kind.APaint number command) refl at (record { host_talk = λ talk is. is; turn = refl; pending = refl; up = refl }) refl left;
+      fact = record {
+        shown = new;
+        lock = λ wrong. absurd (cc);
+        exact = exact;
+        meets = subst (λ s. Meets s new) is_taken (given.belief.taken over wants screen same fits meets);
+        closed = λ relies. subst NothingIsOpen is_taken (given.belief.paint_opens over wants screen same fits f.paintable.showable.kept meets (subst KnownIsExact (sym f.over_is) k.exact.known) (f.closed relies));
+        knows = subst Knows is_taken (given.belief.known wanted_size over wants);
+        held = given.keys.at_first new.cells;
+        messages = given.notes.painted_takes link.host.shape over wants screen f.paintable;
+        noted = record { places = record { size = refl; kinds = λ place. refl }; each = λ place. inr refl; above = λ place before. refl };
+      };
+      shown = record { wanted = wants; over = over; wanted_for = asked.wants; told = told; meets = meets; fits = fits; is = refl };
+    }
 
 takes_paint : Given → (app : Application) → IsApplication app → (link : Link) (rest : List ToTerminal) (k : Kept app (view_of link)) (lu : List ℕ) (number : ℕ) (command : CommandParts) (wants : WantedScreen) (over : Shadow)
     → IsAt (view_of link) k.wanted (Moment.Serves lu (Serving.Painting number command wants over)) → IsPainted (scene_of (view_of link)) command wants over → WantsItsPanelOn app link.term.waits link.host over wants link.term.display.screen

@@ -1,5 +1,5 @@
 -- Every terminal: the connection is simulated from agreement on, by each move; and what holds is read off the waiting terminal's.
-use Rattle.std.proofs.Common.{◌≡◌, ◌<◌, ◌++◌, Bool, true, false, ℕ, Option, None, Some, List, [], ◌∷◌, append-nil, inl, length, refl, ap, sym, subst, ◌∙◌}
+use Rattle.std.proofs.Common.{◌≡◌, ◌<◌, Bool, false, ℕ, Option, None, Some, List, [], ◌∷◌, append-nil, inl, length, refl, ap, sym, subst, ◌∙◌}
 use Rattle.std.specs.Prelude.{replicate}
 use Rattle.std.proofs.lemmas.List.{length-replicate}
 use Rattle.codes3270.specs.Size.{cells_in}
@@ -23,23 +23,23 @@ use Rattle.host_core.specs.Answering.{number_of}
 use Rattle.host_core.specs.Application.{Application, IsApplication, message_place}
 use Rattle.host_core.specs.Messages.{ToHost, ToTerminal}
 use Rattle.host_core.specs.Questions.{question_in}
-use Rattle.host_core.specs.Session.{Conn, Pending, agreed_lu, new_conn}
+use Rattle.host_core.specs.Session.{Conn, agreed_lu, new_conn}
 use Rattle.host_core.specs.declared.question.Question.{Question}
 use Rattle.host_core.specs.declared.terminals.Terminals.TheVariants.{Any}
 use Rattle.host_core.specs.declared.turn.Turn.TheVariants as whose
-use Rattle.world3270.specs.Asked.{AreFieldsAsked, IsSeen, ShowsItsFields}
+use Rattle.world3270.specs.Asked.{AreFieldsAsked, IsSeen}
 use Rattle.world3270.specs.EveryTerminal.{AreByTheRules, Begins, EveryTerminal, IsByTheRules, Move, RightOf, Told, after_moves, came_down, came_up, moved, told_link}
 use Rattle.world3270.specs.Given.{Given}
 use Rattle.world3270.specs.Headline.{Agrees, IsHostsTurn, SeesTheScreen}
 use Rattle.world3270.specs.Link.{Link}
-use Rattle.world3270.specs.Moments.{IsAt, Moment, Serving, Talking, UnderWay, down_at}
+use Rattle.world3270.specs.Moments.{IsAt, Moment, Serving, Talking, UnderWay}
 use Rattle.world3270.specs.Rules.{Binds}
 use Rattle.world3270.specs.Seen.{HostSeen, SeenLink, TerminalSeen, end_seen, host_seen, seen_link, terminal_seen}
 use Rattle.world3270.specs.Showing.{ShowsItsPanel}
 use Rattle.world3270.specs.Shown.{HasShown, IsPanelShown}
 use Rattle.world3270.specs.ShownFields.{WantsItsFields}
 use Rattle.world3270.specs.Stages.{Fact, FactsAreExact, IsNew, Kept, ShownAt, scene_of}
-use Rattle.world3270.specs.Terminal.{Display, TermEnd, bound_to, is_bound, new_display}
+use Rattle.world3270.specs.Terminal.{Display, TermEnd, bound_to, new_display}
 use Rattle.world3270.specs.View.{view_of}
 use Rattle.world3270.proofs.Asked.{asked_seen, each_asked}
 use Rattle.world3270.proofs.Down.{decides_new}

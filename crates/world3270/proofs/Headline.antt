@@ -9,8 +9,6 @@ use Rattle.shadow.specs.Meets.{Meets, ListsFields, IsTold}
 use Rattle.shadow.specs.Belief.{Shadow}
 use Rattle.shadow.specs.Openness.{NothingIsOpen}
 use Rattle.tn3270e_msg.specs.HostTable.{granted}
-use Rattle.tn3270e_msg.specs.Talk.{Talk}
-use Rattle.tn3270e_msg.specs.TermTable.{Term}
 use Rattle.tn3270e_msg.specs.declared.host_talk.HostState.{HostState}
 use Rattle.tn3270e_msg.specs.declared.host_talk.HostState.TheVariants.{Offered, Asked, Asking, Named, Countered, Agreed, Closed}
 use Rattle.lu_pool.specs.Holders.{holder}

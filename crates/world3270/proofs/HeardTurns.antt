@@ -1,8 +1,6 @@
 -- Whose turn it is, and what is pending, once a message of a session was heard; the talk stays.
-use Rattle.std.proofs.Common.{◌≡◌, Bool, true, false, ℕ, Option, List, [], ◌∷◌, Result, Ok, Err, IsOkAnd, refl, ap, sym, subst, ◌∙◌}
-use Rattle.std.specs.Prelude.{is_some}
-use Rattle.codes3270.specs.Size.{Shape, cells_in}
-use Rattle.codes3270.specs.declared.attention.Aid.{Aid}
+use Rattle.std.proofs.Common.{◌≡◌, true, false, ℕ, Option, List, [], ◌∷◌, Result, Ok, Err, IsOkAnd, refl, ap, sym, subst, ◌∙◌}
+use Rattle.codes3270.specs.Size.{Shape}
 use Rattle.codes3270.specs.declared.attention.Aid.TheVariants.{NoAid}
 use Rattle.datastream.specs.Grammar.{CommandParts}
 use Rattle.datastream.specs.InboundFields.{buffer_data}
@@ -10,25 +8,19 @@ use Rattle.datastream.specs.InboundText.{InboundParts}
 use Rattle.datastream.specs.Screen.{Screen}
 use Rattle.datastream.specs.declared.inbound_part.Form.TheVariants.{Modified}
 use Rattle.shadow.specs.Belief.{Shadow}
-use Rattle.shadow.specs.Heard.{heard}
 use Rattle.shadow.specs.Laws.{Believed}
 use Rattle.shadow.specs.declared.fault.HeardFault.{HeardFault}
-use Rattle.tn3270e_msg.specs.Talk.{Talk}
-use Rattle.tn3270e_msg.specs.TermTable.{Term}
-use Rattle.tn3270e_msg.specs.declared.host_talk.HostState.{HostState}
 use Rattle.host_core.specs.Application.{Application}
 use Rattle.host_core.specs.Messages.{ToHost, Verdict}
 use Rattle.host_core.specs.Session.{Conn, Pending, is_agreed}
 use Rattle.host_core.specs.Takes.{Answers, HostStep, believed, hears, once_read, took}
-use Rattle.host_core.specs.declared.turn.Turn.{Turn}
 use Rattle.host_core.specs.declared.turn.Turn.TheVariants as whose
 use Rattle.host_core.specs.declared.turn_reason.TurnReason.{TurnReason}
 use Rattle.host_core.specs.declared.turn_reason.TurnReason.TheVariants as turn_reasons
 use Rattle.world3270.specs.Given.{Given}
 use Rattle.world3270.specs.Link.{Link}
-use Rattle.world3270.specs.Moments.{IsAt, Kind, Moment, Serving, Talking, UnderWay, awaiting, term_in_talk}
+use Rattle.world3270.specs.Moments.{IsAt, Kind, Moment, Serving, Talking, UnderWay, awaiting}
 use Rattle.world3270.specs.Stages.{Fact, Kept, Sizes, scene_of}
-use Rattle.world3270.specs.Terminal.{bound_to, is_bound}
 use Rattle.world3270.specs.View.{view_of}
 use Rattle.world3270.proofs.Queues.{front, nothing}
 use Rattle.world3270.proofs.SecondKeys.{pending_after, turn_after, unless_read}

@@ -1,8 +1,7 @@
 -- What keys do to a connection, at each moment.
-use Rattle.std.proofs.Common.{◌≡◌, ◌<◌, ◌||◌, ℕ, zero, suc, Bool, true, false, Result, Ok, Err, List, [], ◌∷◌, ◌++◌, append-nil, length, replicate, arith, refl, ap, sym, subst, ◌∙◌, IsOkAnd, IfOk}
+use Rattle.std.proofs.Common.{◌≡◌, ◌<◌, ◌||◌, ℕ, zero, suc, Bool, true, false, Result, Ok, Err, List, [], ◌∷◌, ◌++◌, append-nil, length, replicate, refl, ap, sym, subst, ◌∙◌, IsOkAnd, IfOk}
 use Rattle.std.specs.Prelude.{is_some}
 use Rattle.std.specs.List.{list_all}
-use Rattle.std.proofs.lemmas.List.{length-replicate}
 use Rattle.std.proofs.lemmas.List.Elements.{All-nil}
 use Rattle.codes3270.specs.Aid.{is_short_aid}
 use Rattle.codes3270.specs.Size.{Shape, cells_in}
@@ -18,7 +17,7 @@ use Rattle.datastream.specs.declared.inbound_part.Form.TheVariants.{Modified}
 use Rattle.keyboard.specs.Edits.{typed, with_deleted, with_field_erased}
 use Rattle.keyboard.specs.Keys.{Outcome, edited as edit_or_refusal, lock_after, at_lock, pressed}
 use Rattle.keyboard.specs.Leaves.{erases, Keeps, KeepsSent}
-use Rattle.keyboard.specs.State.{Keyboard, freed}
+use Rattle.keyboard.specs.State.{Keyboard}
 use Rattle.keyboard.specs.declared.key.Key.{Key}
 use Rattle.keyboard.specs.declared.key.Key.TheVariants.{Char, Tab, BackTab, NewLine, Home, CursorUp, CursorDown, CursorLeft, CursorRight, Backspace, Insert, Delete, EraseEof, EraseInput, Reset, Enter, Pf, Pa, Clear}
 use Rattle.keyboard.specs.declared.key.Lock.{Lock}
@@ -34,7 +33,6 @@ use Rattle.shadow.specs.Laws.{Believed, IsSentFrom}
 use Rattle.shadow.specs.Meets.{Meets, Knows}
 use Rattle.shadow.specs.Openness.{IsClearedBelief, IsLong, IsNotOpen, NothingIsOpen}
 use Rattle.shadow.specs.declared.fault.HeardFault.{HeardFault}
-use Rattle.tn3270e_msg.specs.TermTable.{Term}
 use Rattle.host_core.specs.Application.{Application, message_place}
 use Rattle.host_core.specs.Messages.{ToHost}
 use Rattle.host_core.specs.NoteLaws.{HasMessageRow, TakesNotes}
@@ -43,7 +41,6 @@ use Rattle.world3270.specs.Link.{Link, sent, term_stepped}
 use Rattle.world3270.specs.Moments.{Serving, Moment, UnderWay, IsAt, turn_at, pending_at, served_down, served_up}
 use Rattle.world3270.specs.TurnReasons.{IsCleared, IsOpenBy}
 use Rattle.host_core.specs.declared.unheard.Unheard.{Unheard}
-use Rattle.world3270.specs.Rules.{after_sending, data_by, edited, shows, with_aid}
 use Rattle.world3270.specs.Stages.{Scene, scene_of, once_taken, FactsAreExact, IfRelies, Operates, Sees, IsPressed, WillSee, Fact, Kept, Sizes, ShownAt}
 use Rattle.world3270.specs.Terminal.{Display, is_bound, bound_to, data_of, erases_if, outcome_of, key_came}
 use Rattle.world3270.specs.View.{View, view_of}
@@ -172,7 +169,7 @@ abbrev key_view : Key → Link → Link
 key_view key link = term_stepped (key_came key link.term) link.down link
 
 -- what the view of it has, part by part
-abbrev seen_as : View → List ToHost → Screen → Lock → Bool → View
+abbrev pub seen_as : View → List ToHost → Screen → Lock → Bool → View
 seen_as v up screen lock erased = record v { up = up; screen = screen; lock = lock; erased = erased }
 
 pub or_false : (b : Bool) → (b || false) ≡ b
@@ -365,32 +362,56 @@ types_now given app link k free = by_moment k.moment k.sizes k.at k.fact k.shown
         → ShownAt app link.term.waits link.host link.term.display.before_restored link.term.display.last_restored link.term.display.screen (Moment.Serves lu serving) → TypingNow given app link k
     by_serving lu (Serving.Answering kind number command) s at f shown =
         let shadow : Shadow = once_taken link.host.shape command link.host.shadow in
-        record { lu = lu; from = Serving.Answering kind number command; shadow = shadow; at = at; same = s.same refl; operates = f; typing = record {
-          to = λ parts. Serving.KeyBehind kind number command parts;
-          stay = λ screen lock erased operates. operates;
-          press = λ parts screen lock erased pressed sees takes. (pressed, sees, takes, f.exact);
-          at_to = λ parts screen lock erased. sends_at given app link k lu (Serving.Answering kind number command) shadow at (s.same refl) f (Serving.KeyBehind kind number command parts) parts screen lock erased refl refl refl refl;
-          shown = λ screen. shown;
-          shown_to = λ parts screen. shown;
-        } }
+        record {
+          lu = lu;
+          from = Serving.Answering kind number command;
+          shadow = shadow;
+          at = at;
+          same = s.same refl;
+          operates = f;
+          typing = record {
+            to = λ parts. Serving.KeyBehind kind number command parts;
+            stay = λ screen lock erased operates. operates;
+            press = λ parts screen lock erased pressed sees takes. (pressed, sees, takes, f.exact);
+            at_to = λ parts screen lock erased. sends_at given app link k lu (Serving.Answering kind number command) shadow at (s.same refl) f (Serving.KeyBehind kind number command parts) parts screen lock erased refl refl refl refl;
+            shown = λ screen. shown;
+            shown_to = λ parts screen. shown;
+          };
+        }
     by_serving lu Serving.Operating s at f shown =
-        record { lu = lu; from = Serving.Operating; shadow = link.host.shadow; at = at; same = s.same refl; operates = f; typing = record {
-          to = λ parts. Serving.KeyAlone parts;
-          stay = λ screen lock erased operates. operates;
-          press = λ parts screen lock erased pressed sees takes. (pressed, sees, takes);
-          at_to = λ parts screen lock erased. sends_at given app link k lu Serving.Operating link.host.shadow at (s.same refl) f (Serving.KeyAlone parts) parts screen lock erased refl refl refl refl;
-          shown = λ screen. shown;
-          shown_to = λ parts screen. shown;
-        } }
+        record {
+          lu = lu;
+          from = Serving.Operating;
+          shadow = link.host.shadow;
+          at = at;
+          same = s.same refl;
+          operates = f;
+          typing = record {
+            to = λ parts. Serving.KeyAlone parts;
+            stay = λ screen lock erased operates. operates;
+            press = λ parts screen lock erased pressed sees takes. (pressed, sees, takes);
+            at_to = λ parts screen lock erased. sends_at given app link k lu Serving.Operating link.host.shadow at (s.same refl) f (Serving.KeyAlone parts) parts screen lock erased refl refl refl refl;
+            shown = λ screen. shown;
+            shown_to = λ parts screen. shown;
+          };
+        }
     by_serving lu (Serving.Noting number command) s at f shown =
-        record { lu = lu; from = Serving.Noting number command; shadow = link.host.shadow; at = at; same = s.same refl; operates = f.0; typing = record {
-          to = λ parts. Serving.KeyNoted number command parts;
-          stay = λ screen lock erased operates. (operates, f.1);
-          press = λ parts screen lock erased pressed sees takes. (pressed, sees, record { note = f.1; takes = takes });
-          at_to = λ parts screen lock erased. sends_at given app link k lu (Serving.Noting number command) link.host.shadow at (s.same refl) f.0 (Serving.KeyNoted number command parts) parts screen lock erased refl refl refl refl;
-          shown = λ screen. shown;
-          shown_to = λ parts screen. shown;
-        } }
+        record {
+          lu = lu;
+          from = Serving.Noting number command;
+          shadow = link.host.shadow;
+          at = at;
+          same = s.same refl;
+          operates = f.0;
+          typing = record {
+            to = λ parts. Serving.KeyNoted number command parts;
+            stay = λ screen lock erased operates. (operates, f.1);
+            press = λ parts screen lock erased pressed sees takes. (pressed, sees, record { note = f.1; takes = takes });
+            at_to = λ parts screen lock erased. sends_at given app link k lu (Serving.Noting number command) link.host.shadow at (s.same refl) f.0 (Serving.KeyNoted number command parts) parts screen lock erased refl refl refl refl;
+            shown = λ screen. shown;
+            shown_to = λ parts screen. shown;
+          };
+        }
     by_serving lu Serving.Deciding s at f shown = absurd (free f.lock)
     by_serving lu (Serving.Reading number) s at f shown = absurd (free f.decides.lock)
     by_serving lu (Serving.Reported number parts) s at f shown = absurd (free f.lock)
@@ -425,7 +446,7 @@ module _ (given : Given) (app : Application) (link : Link) (key : Key) (k : Kept
   bound : is_bound link.term ≡ true
   bound = ap (λ state. is_some (bound_to state)) now.at.term_talk
 
-  stay : (screen : Screen) (lock : Lock) (erased : Bool) → length screen.cells ≡ cells_in here.shape → screen.cursor < cells_in here.shape → (lock ≡ Wait → ⊥) → Held erased left screen.cells
+  pub stay : (screen : Screen) (lock : Lock) (erased : Bool) → length screen.cells ≡ cells_in here.shape → screen.cursor < cells_in here.shape → (lock ≡ Wait → ⊥) → Held erased left screen.cells
       → Kept app (seen_as here (sent here.lost here.up []) screen lock erased)
   stay screen lock erased whole cursor free held = stays given app link k now.lu now.from now.shadow now.at now.same now.operates now.typing screen lock erased whole cursor free held
 
@@ -465,61 +486,3 @@ keys given app link key k = by_lock link.term.display.keyboard.lock refl
     by_lock Wait is = subst (Kept app) (sym (key_waits key link is)) k
     by_lock Free is = types_at Free is (λ waits. absurd (cc))
     by_lock Error is = types_at Error is (λ waits. absurd (cc))
-
--- ---- whatever the operator does, as the rules say
-
--- the connection once input was edited, at a terminal that takes keys
-abbrev pub edited_link : List Cell → ℕ → Bool → Link → Link
-edited_link cells cursor erases link = term_stepped (shows (freed link.term.display.keyboard) (edited cells cursor erases link.term.display) [] link.term) link.down link
-
--- and once a key was pressed that sends; the terminal waits then
-abbrev pub sent_link : Aid → Link → Link
-sent_link aid link = term_stepped (shows (record link.term.display.keyboard { lock = Wait }) (after_sending aid link.term.display) (data_by aid link.term) link.term) link.down link
-
-pub edits_kept : Given → (app : Application) (link : Link) (cells : List Cell) (cursor : ℕ) (erases : Bool) → Kept app (view_of link) → (link.term.display.keyboard.lock ≡ Wait → ⊥)
-    → Held erases link.term.display.screen.cells cells → cursor < length cells → Kept app (view_of (edited_link cells cursor erases link))
-edits_kept given app link cells cursor erases k free held on =
-    let now : TypingNow given app link k = types_now given app link k free in
-    let whole : length cells ≡ cells_in link.term.display.shape = held.same_length ∙ k.whole in
-    stay given app link Reset k now (record link.term.display.screen { cells = cells; cursor = cursor }) Free (link.term.display.erased || erases) whole (subst (λ n. cursor < n) whole on) (λ waits. absurd (cc))
-    (given.keys.composes link.term.display.erased erases now.operates.shown.cells link.term.display.screen.cells cells now.operates.held held)
-
--- what a key that sends leaves of the screen
-pub with_aid-whole : (aid : Aid) (screen : Screen) → length (with_aid aid screen).cells ≡ length screen.cells
-with_aid-whole NoAid screen = refl
-with_aid-whole EnterAid screen = refl
-with_aid-whole (PfAid key) screen = refl
-with_aid-whole (PaAid key) screen = refl
-with_aid-whole ClearAid screen = length-replicate (length screen.cells) (CharCell 0)
-
-pub with_aid-aid : (aid : Aid) (screen : Screen) → (with_aid aid screen).aid ≡ aid
-with_aid-aid NoAid screen = refl
-with_aid-aid EnterAid screen = refl
-with_aid-aid (PfAid key) screen = refl
-with_aid-aid (PaAid key) screen = refl
-with_aid-aid ClearAid screen = refl
-
-pub with_aid-cursor : (aid : Aid) (screen : Screen) (size : ℕ) → screen.cursor < size → (with_aid aid screen).cursor < size
-with_aid-cursor NoAid screen size on = on
-with_aid-cursor EnterAid screen size on = on
-with_aid-cursor (PfAid key) screen size on = on
-with_aid-cursor (PaAid key) screen size on = on
-with_aid-cursor ClearAid screen size on = omega (arith, on)
-
-with_aid-keeps : (erased : Bool) (was : List Cell) (aid : Aid) (screen : Screen) → (aid ≡ NoAid → ⊥) → Held erased was screen.cells → KeepsSent erased aid was (with_aid aid screen).cells
-with_aid-keeps erased was NoAid screen some held = absurd (some refl)
-with_aid-keeps erased was EnterAid screen some held = held
-with_aid-keeps erased was (PfAid key) screen some held = held
-with_aid-keeps erased was (PaAid key) screen some held = held
-with_aid-keeps erased was ClearAid screen some held = ap (λ (n : ℕ). replicate n (CharCell 0)) held.same_length
-
-pub sends_kept : Given → (app : Application) (link : Link) (aid : Aid) → Kept app (view_of link) → (link.term.display.keyboard.lock ≡ Wait → ⊥) → (aid ≡ NoAid → ⊥) → Kept app (view_of (sent_link aid link))
-sends_kept given app link aid k free some =
-    let now : TypingNow given app link k = types_now given app link k free in
-    let here : View = view_of link in
-    let screen : Screen = with_aid aid link.term.display.screen in
-    let bound : is_bound link.term ≡ true = ap (λ state. is_some (bound_to state)) now.at.term_talk in
-    subst (λ b. Kept app (seen_as here (sent here.lost here.up (data_of b (Send aid) here.shape screen)) screen Wait here.erased)) (sym bound)
-    (sends given app link k now.lu now.from now.shadow now.at now.same now.operates now.typing screen Wait here.erased aid (with_aid-whole aid link.term.display.screen ∙ k.whole)
-    (with_aid-cursor aid link.term.display.screen (cells_in here.shape) k.cursor) refl (with_aid-aid aid link.term.display.screen) some
-    (with_aid-keeps here.erased now.operates.shown.cells aid link.term.display.screen some now.operates.held))

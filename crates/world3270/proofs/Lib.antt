@@ -11,6 +11,7 @@ pub mod Up
 pub mod Acting
 pub mod Answered
 pub mod Keys
+pub mod RuleKeys
 pub mod SecondKeys
 pub mod HeardTurns
 pub mod NotesHeld

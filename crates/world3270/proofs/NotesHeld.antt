@@ -1,5 +1,5 @@
 -- A note on two screens of which one is held from the other: so are they afterwards.
-use Rattle.std.proofs.Common.{◌≡◌, ◌↔◌, Bool, true, false, ℕ, Option, Some, None, List, [], ◌∷◌, length, map, refl, ap, sym, subst, ◌∙◌}
+use Rattle.std.proofs.Common.{◌≡◌, Bool, true, Option, None, List, [], ◌∷◌, length, map, refl, ap, sym, subst, ◌∙◌}
 use Rattle.std.specs.List.{list_all}
 use Rattle.std.specs.Option.{option_or}
 use Rattle.codes3270.specs.Size.{Shape, cells_in}
@@ -9,7 +9,7 @@ use Rattle.codes3270.specs.declared.attribute.Cell.TheVariants.{Char, Attr}
 use Rattle.datastream.specs.Grammar.{CommandParts}
 use Rattle.datastream.specs.Held.{Held, Hold, hold_under}
 use Rattle.datastream.specs.HeldLaws.{HeldIsRound}
-use Rattle.datastream.specs.HeldRound.{HeldFrom, HeldRound}
+use Rattle.datastream.specs.HeldRound.{HeldFrom}
 use Rattle.datastream.specs.Meaning.{after_command}
 use Rattle.datastream.specs.Screen.{Screen, attribute_in, is_char, last_attribute}
 use Rattle.host_core.specs.Application.{IsShape}

@@ -1,6 +1,6 @@
 -- A Read Buffer's answer is heard of any screen that differs in input alone from one that meets what is believed: it is compared with
 -- attributes and protected characters.
-use Rattle.std.proofs.Common.{◌≡◌, ◌==◌, ◌||◌, ◌&&◌, ℕ, Bool, true, false, Option, None, Some, List, [], ◌∷◌, length, refl, ap, sym, subst, ◌∙◌, if◌then◌else◌}
+use Rattle.std.proofs.Common.{◌≡◌, ◌==◌, ◌||◌, ◌&&◌, ℕ, Bool, true, false, None, List, [], ◌∷◌, length, refl, ap, sym, subst, ◌∙◌, if◌then◌else◌}
 use Rattle.std.specs.Prelude.{map, not, IsOkAnd, Ok, Err}
 use Rattle.std.specs.List.{list_all}
 use Rattle.codes3270.specs.Size.{Shape}

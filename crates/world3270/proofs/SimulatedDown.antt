@@ -17,11 +17,11 @@ use Rattle.tn3270e_msg.specs.TermTable.{Term}
 use Rattle.tn3270e_msg.specs.declared.cause.Cause.{Cause}
 use Rattle.host_core.specs.Application.{Application, IsApplication, message_place}
 use Rattle.host_core.specs.Messages.{ToHost, ToTerminal, Verdict}
-use Rattle.world3270.specs.EveryTerminal.{Told, executed, paint_executed, told_if}
+use Rattle.world3270.specs.EveryTerminal.{Told, paint_executed, told_if}
 use Rattle.world3270.specs.Given.{Given}
 use Rattle.world3270.specs.Link.{Link, sent, term_left_if, term_stepped}
 use Rattle.world3270.specs.Stages.{Kept}
-use Rattle.world3270.specs.Terminal.{Display, TermEnd, TermStep, bound_to, is_bound, note_came, once_bound, paint_came, read_came, talked, took as term_took}
+use Rattle.world3270.specs.Terminal.{Display, TermEnd, TermStep, bound_to, is_bound, note_came, once_bound, paint_came, read_came, talked}
 use Rattle.world3270.specs.View.{view_of}
 use Rattle.world3270.proofs.ComesDown.{note_comes, paint_comes, read_comes}
 use Rattle.world3270.proofs.Down.{bound, obeys, paints_on, read_of, reads_on, shape_of_model, showing, term_view}
@@ -141,6 +141,7 @@ module _ (given : Given) (app : Application) (is : IsApplication app) (lu : List
       } in
       subst (λ (b : Bool). Simulated app lu (taken_so b (ToTerminal.Paint number wanted over) (paint_executed number wanted over now.term) rest)) (sym (bound_now (bound end s.kept.wanted comes.lu _ comes.at)))
       (subst (λ (drawn : Screen). Simulated app lu (taken_so true (ToTerminal.Paint number wanted over) (drawn_so number wanted drawn) rest)) (sym (given.belief.painted over wanted screen cells comes.fact.paintable.fits meets)) goes)
+
   -- ---- a Read Buffer
 
   -- The screen as it is goes up, and the waiting terminal has it from then on: the host is told what was typed in the wait.
@@ -157,11 +158,11 @@ module _ (given : Given) (app : Application) (is : IsApplication app) (lu : List
       let same_shape : now.term.display.shape ≡ end.term.display.shape = ap (λ (d : Display). d.shape) since.rest in
       let kept : Kept app (view_of (term_view (read_of screen erased end.term) rest end)) =
       reads_on app end rest s.kept comes.same comes.lu comes.number comes.at comes.fact comes.shown comes.left screen erased
-          (since.held.same_length ∙ s.kept.whole)
-          (subst (λ (size : ℕ). screen.cursor < size) (since.held.same_length ∙ s.kept.whole) since.cursor)
-          (still_kept given.keys.round end.term.display.erased since.erased end.term.display.last_restored.cells old.cells screen.cells (s.kept.unreturned comes.fact.not_cleared) since.held)
-          (still_as_left given.keys.round since.erased row end.term.display.last_restored.cells old.cells screen.cells (s.kept.as_left comes.fact.not_cleared) since.held)
-          (reads_input given.keys.round given.belief.reads given.belief.doubt_input end.host.shape since.erased end.host.shadow old heard_as comes.fact.decides.sees.meets since.held) in
+      (since.held.same_length ∙ s.kept.whole)
+      (subst (λ (size : ℕ). screen.cursor < size) (since.held.same_length ∙ s.kept.whole) since.cursor)
+      (still_kept given.keys.round end.term.display.erased since.erased end.term.display.last_restored.cells old.cells screen.cells (s.kept.unreturned comes.fact.not_cleared) since.held)
+      (still_as_left given.keys.round since.erased row end.term.display.last_restored.cells old.cells screen.cells (s.kept.as_left comes.fact.not_cleared) since.held)
+      (reads_input given.keys.round given.belief.reads given.belief.doubt_input end.host.shape since.erased end.host.shadow old heard_as comes.fact.decides.sees.meets since.held) in
       let said : ToHost = ToHost.Data (buffer_data end.term.display.shape screen) in
       let same_aid : old.aid ≡ t.told.screen.aid = ap (λ (d : Display). d.screen.aid) s.display in
       subst (λ (b : Bool). Simulated app lu (taken_so b (ToTerminal.ReadBuffer number) (read_came now.term) rest)) (sym (bound_now (bound end s.kept.wanted comes.lu _ comes.at)))

@@ -9,7 +9,7 @@ use Rattle.host_core.specs.Application.{Application, IsApplication}
 use Rattle.host_core.specs.Messages.{ToHost, ToTerminal}
 use Rattle.host_core.specs.Notes.{IsNoteText, may_note, note_command, noted, noted_as}
 use Rattle.host_core.specs.Questions.{act_by, answered_on, has_its_panel, is_ask}
-use Rattle.host_core.specs.Session.{Conn, Pending, agreed_lu, is_agreed}
+use Rattle.host_core.specs.Session.{Conn, Pending, is_agreed}
 use Rattle.host_core.specs.Takes.{Answers, HostStep, dropping, may_have_changed, took as host_took}
 use Rattle.host_core.specs.declared.question.Answer.{Answer as Said}
 use Rattle.host_core.specs.declared.turn.Turn.{Turn}

@@ -1,5 +1,5 @@
 -- Whatever an operator does by the rules, but Clear in the wait: the waiting terminal takes it in his turn, and nothing of it in the wait.
-use Rattle.std.proofs.Common.{◌≡◌, ◌<◌, ◌||◌, Bool, true, false, ℕ, List, [], ◌∷◌, length, refl, ap, sym, subst, ◌∙◌, if◌then◌else◌}
+use Rattle.std.proofs.Common.{◌≡◌, ◌<◌, ◌||◌, Bool, true, false, ℕ, List, [], length, refl, ap, sym, subst, ◌∙◌, if◌then◌else◌}
 use Rattle.std.specs.Prelude.{is_some}
 use Rattle.codes3270.specs.Size.{Shape}
 use Rattle.codes3270.specs.declared.attention.Aid.{Aid}
@@ -21,11 +21,12 @@ use Rattle.world3270.specs.Link.{Link, sent, term_stepped}
 use Rattle.world3270.specs.Placed.{is_queued}
 use Rattle.world3270.specs.Rules.{Operates, after_sending, data_by, edited, shows, with_aid}
 use Rattle.world3270.specs.Terminal.{Display, TermStep, bound_to, data_of, is_bound}
-use Rattle.world3270.proofs.Keys.{edited_link, edits_kept, sends_kept, sent_link, types_now, with_aid-aid, with_aid-cursor, with_aid-whole}
+use Rattle.world3270.proofs.Keys.{types_now}
 use Rattle.world3270.proofs.Queues.{nothing_sent}
+use Rattle.world3270.proofs.RuleKeys.{edited_link, edits_kept, sends_kept, sent_link, with_aid-aid, with_aid-cursor, with_aid-whole}
 use Rattle.world3270.proofs.SecondKeys.{Extras, IsSecondKey, extra_last, is_key, waits_drop}
 use Rattle.world3270.proofs.Sent.{key_aid, key_form}
-use Rattle.world3270.proofs.Simulation.{Simulated, Since, both_say, is_waiting, since_same}
+use Rattle.world3270.proofs.Simulation.{Simulated, both_say, is_waiting, since_same}
 
 -- a key but Clear leaves the cells
 same_cells : (aid : Aid) (screen : Screen) → is_key aid ≡ true → (with_aid aid screen).cells ≡ screen.cells

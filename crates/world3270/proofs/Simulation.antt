@@ -1,6 +1,6 @@
 -- For the host, a terminal that doesn't wait is one that does: beside each connection there is one at whose end a terminal waits, displays
 -- what was told, and which the host can't tell from it.
-use Rattle.std.proofs.Common.{◌≡◌, ◌⊎◌, inl, inr, ◌<◌, ◌||◌, ℕ, Bool, true, false, List, Some, [], ◌∷◌, ◌++◌, length, refl, ap, sym, subst, ◌∙◌}
+use Rattle.std.proofs.Common.{◌≡◌, ◌<◌, ◌||◌, ℕ, Bool, true, false, List, Some, length, refl, ap, sym, subst, ◌∙◌}
 use Rattle.std.specs.Prelude.{is_some}
 use Rattle.datastream.specs.Held.{Held}
 use Rattle.keyboard.specs.declared.key.Lock.{Lock}

@@ -7,6 +7,7 @@ use Rattle.codes3270.specs.declared.size.Model.{Model}
 use Rattle.datastream.specs.Grammar.{CommandParts}
 use Rattle.telnet_wire.specs.declared.wire.Verb.TheVariants.{Do}
 use Rattle.tn3270e_msg.specs.Talk.{Saying}
+use Rattle.tn3270e_msg.specs.declared.term_talk.TermState.TheVariants.{Willing}
 use Rattle.tn3270e_msg.specs.TermTable.{Term}
 use Rattle.tn3270e_msg.specs.declared.reply.OwnedMessage.TheVariants.{SendType, TypeIs, TypeReject, FunIs}
 use Rattle.host_core.specs.Application.{Application, IsApplication, IsSizeOf}

@@ -8,7 +8,7 @@ use Rattle.codes3270.specs.declared.attribute.Cell.TheVariants.{Char, Attr}
 use Rattle.datastream.specs.Held.{AttrHeld, Held, Hold, hold_of, hold_under}
 use Rattle.datastream.specs.HeldLaws.{HeldIsRound}
 use Rattle.datastream.specs.HeldRound.{HeldFrom}
-use Rattle.datastream.specs.Screen.{attribute_over, is_char, is_protected, last_attribute, protects, ring}
+use Rattle.datastream.specs.Screen.{attribute_over, is_char, last_attribute, protects, ring}
 use Rattle.world3270.specs.AsLeft.{ProtectedIsAsLeft}
 use Rattle.world3270.specs.Unreturned.{IsInUnmodified, IsKept, UnmodifiedIsKept}
 use Rattle.world3270.proofs.Unreturned.{cell_kept, held_attribute, held_cell, held_places, places_compose}

@@ -1,5 +1,5 @@
 -- How far the talks of both ends are, read off the moment.
-use Rattle.std.proofs.Common.{◌≡◌, Bool, true, ℕ, Option, List, Some, refl, ap, sym, ◌∙◌}
+use Rattle.std.proofs.Common.{◌≡◌, true, ℕ, Option, List, Some, refl, ap, sym, ◌∙◌}
 use Rattle.std.specs.Prelude.{is_some}
 use Rattle.codes3270.specs.declared.size.Model.{Model}
 use Rattle.codes3270.specs.declared.size.Model.TheVariants.{M2, M3, M4, M5}
@@ -8,7 +8,7 @@ use Rattle.tn3270e_msg.specs.Talk.{Talk}
 use Rattle.tn3270e_msg.specs.TermTable.{Term}
 use Rattle.tn3270e_msg.specs.declared.host_talk.HostState.{HostState}
 use Rattle.host_core.specs.Session.{agreed_lu, is_agreed}
-use Rattle.world3270.specs.Moments.{IsAgreed, IsHostIn, IsTermTalk, Moment, Talking, host_in_talk, term_in_talk, term_state_at}
+use Rattle.world3270.specs.Moments.{IsAgreed, IsHostIn, IsTermTalk, Moment, Talking, term_in_talk, term_state_at}
 use Rattle.world3270.specs.Terminal.{bound_to}
 
 -- the device that a terminal of ours asks for has its model

@@ -1,22 +1,20 @@
 -- Each terminal of a world waits.
-use Rattle.std.proofs.Common.{◌≡◌, ◌∷◌, ℕ, Bool, true, false, Option, None, Some, List, refl, if◌then◌else◌}
+use Rattle.std.proofs.Common.{◌≡◌, ℕ, Bool, true, false, Option, None, Some, List, refl}
 use Rattle.std.specs.Prelude.{⊤}
-use Rattle.std.specs.List.{All}
 use Rattle.tn3270e_msg.specs.declared.cause.Cause.{Cause}
-use Rattle.keyboard.specs.declared.key.Key.{Key}
 use Rattle.lu_pool.specs.Pool.{IsPool}
 use Rattle.lu_pool.specs.declared.entry.Entry.{Entry}
 use Rattle.codes3270.specs.declared.size.Model.{Model}
 use Rattle.host_core.specs.Acts.{Sent, acted}
 use Rattle.host_core.specs.Application.{Application, IsApplication}
-use Rattle.host_core.specs.Messages.{ToHost, ToTerminal}
+use Rattle.host_core.specs.Messages.{ToTerminal}
 use Rattle.host_core.specs.Notes.{noted}
 use Rattle.host_core.specs.Questions.{answered_on}
-use Rattle.host_core.specs.Takes.{HostStep, took as host_took}
+use Rattle.host_core.specs.Takes.{took as host_took}
 use Rattle.host_core.specs.declared.terminals.Terminals.{Terminals}
 use Rattle.world3270.specs.Given.{Given}
 use Rattle.world3270.specs.Happens.{run}
-use Rattle.world3270.specs.Link.{Link, host_left_if, host_sent, host_stepped}
+use Rattle.world3270.specs.Link.{Link, host_left_if, host_sent}
 use Rattle.world3270.specs.Terminal.{TermEnd, TermStep, is_bound, note_came, once_bound, paint_came, read_came, took}
 use Rattle.world3270.specs.World.{AreEvents, Event, new_world}
 use Rattle.world3270.proofs.Everywhere.{Steps, everywhere}

@@ -36,7 +36,7 @@ use Rattle.world3270.specs.Shown.{HasShown, IsPanelShown}
 use Rattle.world3270.specs.ShownFields.{WantsItsFields}
 use Rattle.world3270.specs.Terminal.{Display, TermEnd, TermStep, bound_to, is_bound, new_display, once_bound, took as term_took}
 
--- ---- the connection, and what the host is told of the terminal
+-- ---- the connection, and the screen of which the host has data
 
 -- `told`: what the terminal displayed when the first key was pressed that sent data since the last paint; or what it displays, if none was. A
 -- Read Buffer's answer tells the whole screen as it is then, but the AID stays that key's. Notes are written over it too.
@@ -74,7 +74,7 @@ executed end (ToTerminal.TalksDown saying) = term_took end (ToTerminal.TalksDown
 executed end (ToTerminal.ReadBuffer number) = term_took end (ToTerminal.ReadBuffer number)
 executed end (ToTerminal.Note number command) = term_took end (ToTerminal.Note number command)
 
--- what the host is told, once a terminal that is bound has taken a message and displays this
+-- what the host was told, once a terminal that is bound has taken a message and displays this
 abbrev pub told_after : ToTerminal → (told now : Display) → Display
 told_after (ToTerminal.Paint number wanted over) told now = now
 told_after (ToTerminal.ReadBuffer number) told now = record now { screen = record now.screen { aid = told.screen.aid } }
@@ -184,7 +184,7 @@ told_link t = record t.link { term = record t.link.term { display = t.told } }
 -- (b) to (d) Whenever the host decides, the headline's three parts hold of what it was told. And of the screen as it is at that moment what the
 -- host believes is so, but for the characters and MDT of input fields: the attributes are where it believes them, and so is each protected
 -- character.
--- An open question is about what the host was told, and has the text of each field of its panel.
+-- An open question has the key, the cursor and the text of each field of its panel of what the host was told.
 -- Once a paint is answered, the screen that it left shows the panel, whatever was typed in the wait before it.
 -- Neither end has closed the connection by a cause.
 pub record RightOf (app : Application) (lu : List ℕ) (t : Told) : Type 0 where

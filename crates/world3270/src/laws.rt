@@ -387,18 +387,20 @@ pub fn terminals_keep_the_rules()
     sent_keys_wait();
 }
 
-/// Law: every terminal. On a connection of a host that serves any terminal, from its agreement on an LU on, if
-/// the terminal applies each write that it answers positively, whole and in order, and answers Read
-/// Buffer with the whole screen; if its operator changes unprotected cells, their MDT and the cursor
-/// alone, any change turning MDT on, or Erase Input, which nulls them and turns it off; if a key that
-/// sends sends its AID with exactly the modified fields; and if it is bound to the LU that the host
-/// granted, with a blank screen: then, after any moves in any order, it is bound to that LU; whenever
-/// the host decides, the headline's parts hold of what the host was told, which is the screen as
-/// it was when the first key since the last paint was pressed; what the host believes of attributes and of protected
-/// characters is so of the screen as it is now; each open question is about what the host was told; once a
-/// paint is answered the screen that it left shows the panel, whatever was typed before it came; and
-/// neither end has closed. It may type, and press keys, while a 3278 would wait, but not Clear: that
-/// is left out. So is a write that it answers negatively.
+/// Law: every terminal. On one connection of a host that serves any terminal, from the host's
+/// agreement on an LU on, whatever comes in whatever order: deliveries, acts, answers of the
+/// application, notes, keys, and the loss of the connection. If the terminal is bound to the LU that
+/// the host granted, with a blank screen; applies each write whole and in order, answers it
+/// positively, and answers Read Buffer with the whole screen; lets its operator change nothing but
+/// unprotected cells, their MDT and the cursor, with MDT on after any change but Erase Input; and
+/// sends a key's AID with exactly the modified fields: then it is bound to that LU alone. Whenever the
+/// host decides, the headline's three parts hold of what it was told: the screen as it was when the
+/// first key since the last paint was pressed. The screen as it is by then has the attributes and the
+/// protected characters that the host believes. Each open question has the key, the cursor and the
+/// fields of what the host was told. Once a paint is answered, the screen that it left shows the panel,
+/// whatever was typed before it came. Neither end closes the connection by a cause. The terminal
+/// needn't wait for the host: meanwhile its operator may type, and press any key but Clear. That one
+/// is left out, since the host closes the connection if a command is on its way then.
 pub fn every_terminal()
     ensures { EveryTerminal }
 {
