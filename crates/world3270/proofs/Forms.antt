@@ -46,7 +46,7 @@ talk_has form size model wanted (Talking.Rejected reason) = tt
 served_has : (scene : Scene) (serving : Serving) → ServingFact scene serving → FirstHas (form_awaited (pending_in serving)) scene.shape (served_up serving)
 served_has scene Serving.Deciding fact = tt
 served_has scene (Serving.Reading number) fact = tt
-served_has scene (Serving.Reported number parts) fact = (ap (λ (p : InboundParts). p.form) fact.1, ap (λ (p : InboundParts). p.size) fact.1)
+served_has scene (Serving.Reported number parts) fact = (ap (λ (p : InboundParts). p.form) fact.says, ap (λ (p : InboundParts). p.size) fact.says)
 served_has scene (Serving.NotedLate number command) fact = tt
 served_has scene (Serving.AnsweredLate number command) fact = tt
 served_has scene (Serving.Painting number command wanted over) fact = tt

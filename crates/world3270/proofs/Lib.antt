@@ -1,4 +1,5 @@
 pub mod Queues
+pub mod TalkStates
 pub mod OneOfMany
 pub mod Sent
 pub mod Unreturned
@@ -10,6 +11,16 @@ pub mod Up
 pub mod Acting
 pub mod Answered
 pub mod Keys
+pub mod RuleKeys
+pub mod SecondKeys
+pub mod HeardTurns
+pub mod NotesHeld
+pub mod Simulation
+pub mod SimulatedKeys
+pub mod SimulatedHost
+pub mod ComesDown
+pub mod SimulatedDown
+pub mod EveryTerminal
 pub mod KeyMoves
 pub mod Worlds
 pub mod Headline
@@ -19,6 +30,7 @@ pub mod ExampleGiven
 pub mod RunsOfEntries
 pub mod RunsOfReads
 pub mod RunsOfRestarts
+pub mod RunsOfRules
 pub mod RunsOfNotes
 pub mod RunsOfTargets
 pub mod RunsOfQuestions
@@ -31,6 +43,7 @@ pub mod StandsScreens
 pub mod StandsSizes
 pub mod StandsComing
 pub mod Places
+pub mod OtherTerminals
 pub mod Others
 pub mod Skipped
 pub mod History
@@ -43,8 +56,14 @@ pub mod Everywhere
 pub mod Numbers
 pub mod OnScreen
 pub mod ShownFields
+pub mod ReadsInput
+pub mod StillKept
+pub mod Waits
 pub mod ShownPanels
+pub mod Undecided
 pub mod ShownSince
+pub mod ScreensFound
+pub mod ScreensStay
 pub mod Sendable
 pub mod Slots
 pub mod Steps

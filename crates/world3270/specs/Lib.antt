@@ -20,6 +20,7 @@ pub mod Stages
 pub mod ExampleApplication
 pub mod ExampleScreens
 pub mod ExampleEnds
+pub mod ExampleRules
 pub mod ExampleRuns
 pub mod ExampleReads
 pub mod ExampleRestarts
@@ -55,4 +56,6 @@ pub mod OneOutcome
 pub mod Known
 pub mod Unbroken
 pub mod ShownSince
+pub mod ScreensFound
 pub mod ProtocolErrors
+pub mod EveryTerminal
