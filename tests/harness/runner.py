@@ -21,6 +21,8 @@ SUITES = TOP / "tests/suites"
 RUN = TOP / "tests/run"
 # No part of a suite takes longer, unless the suite says so by `SECONDS`.
 MOST_SECONDS = 900
+# The processes of the parts that run now.
+RUNNING: set[subprocess.Popen[str]] = set()
 # A value of one line that is longer is cut before and behind the first difference.
 MOST_SHOWN = 400
 
@@ -171,17 +173,31 @@ def run_apart(part: Part, words: list[str], slots: queue.SimpleQueue[int]) -> Ou
     return Outcome(failures=[Failure(part.suite, "running it", f"tests/suites/{part.suite}.py:1", "its outcome", came)])
 
 
+def end_group(run: subprocess.Popen[str]) -> None:
+    """Ends a process that is the first of a group, and all of that group."""
+    with contextlib.suppress(ProcessLookupError):
+        os.killpg(run.pid, signal.SIGKILL)
+    run.wait()
+
+
+def end_all(number: int, _: object) -> None:
+    """Ends the run at a signal, and all that it started."""
+    for run in list(RUNNING):
+        end_group(run)
+    os._exit(128 + number)
+
+
 def run_process(command: list[str], slot: int, seconds: float) -> tuple[int, str, str]:
     """The status of a process, and what it wrote. What it leaves behind is ended."""
     environment = {**os.environ, "TESTS_SLOT": str(slot)}
     with tempfile.TemporaryFile("w+") as said, tempfile.TemporaryFile("w+") as out:
-        run = subprocess.Popen(command, stdin=subprocess.DEVNULL, stdout=out, stderr=said, env=environment, start_new_session=True)
+        run = subprocess.Popen(command, stdin=subprocess.DEVNULL, stdout=out, stderr=said, text=True, env=environment, start_new_session=True)
+        RUNNING.add(run)
         try:
             run.wait(seconds)
         finally:
-            with contextlib.suppress(ProcessLookupError):
-                os.killpg(run.pid, signal.SIGKILL)
-            run.wait()
+            end_group(run)
+            RUNNING.discard(run)
         for file in (out, said):
             file.seek(0)
         return run.returncode, out.read(), said.read()
@@ -267,4 +283,6 @@ def main() -> int:
         for suite in suite_names():
             list_part(Part(suite), words)
         return 0
+    for number in (signal.SIGINT, signal.SIGTERM):
+        signal.signal(number, end_all)
     return run_all(words, max(1, given.jobs))

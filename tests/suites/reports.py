@@ -2,7 +2,8 @@
 
 Its texts have blank lines between them; a block that begins with `#` is a comment. Each text is checked as it is, and then with random
 changes: lines are left out, repeated or replaced by others, and keys and values are replaced. A report has a fault exactly if the readers
-refuse the text, and then it has their fault. A case is a text and ten of its changed texts; its name has the seed.
+refuse the text, and has their fault. It says by `agrees` whether it found that by itself, in words of its own. A case is a text, or ten
+texts that it becomes by changes; its name has the seed.
 """
 import functools
 import random
@@ -36,8 +37,8 @@ def check_text(text: str, at: Place) -> None:
     first, *page, readers = probe().ask(f"check {text.encode().hex() or '-'}", at)
     _, faults, _, agrees = first.split(" ")
     refused = readers.partition("readers refuse ")[2]
-    if (int(faults) > 0) != bool(refused) or agrees != "true" or not (refused in "\n".join(page)):
-        wanted = f"a report with the fault {refused}" if refused else "a report without a fault"
+    if (int(faults) > 0) != bool(refused) or agrees != "true":
+        wanted = f"a report that found the fault {refused} by itself" if refused else "a report without a fault"
         raise Difference(f"{wanted}, on\n{text}", "\n".join([first, *page]), at)
 
 

@@ -139,12 +139,14 @@ def screen(model, panel, shown, fields=None, message=""):
 
 
 def sees(what, operator, wanted):
-    """The operator sees these rows."""
+    """The operator sees these rows in the end."""
+    with contextlib.suppress(Difference):
+        hosts.until(what, lambda: operator.does("Ascii()") == wanted)
     rows = operator.does("Ascii()")
-    differ = [f"row {row}: {it!r}, in place of {other!r}" for row, (it, other) in enumerate(zip(rows, wanted), 1) if it != other]
     expect(f"{what}, the number of rows", len(rows), len(wanted))
+    differ = [place for place, (it, other) in enumerate(zip(rows, wanted)) if it != other]
     if differ:
-        raise Difference(f"{what}: the rows of the panel", "; ".join(differ))
+        raise Difference(*("\n".join(f"row {place + 1}: {it[place]!r}" for place in differ) for it in (wanted, rows)))
 
 
 # ---- what is done in the wait
