@@ -17,7 +17,7 @@ use wire::Wire;
 pub(crate) fn run(rt: &HostRuntime, name: &str) -> io::Result<bool> {
     match name {
         "codes" => serve(rt, Codes { alloc: rt.alloc() }),
-        "messages" => serve(rt, Messages { alloc: rt.alloc() }),
+        "messages" => serve(rt, Messages::new(rt.alloc())),
         "pool" => serve(rt, Pools::new(rt.alloc())),
         "talks" => serve(rt, Talks::new(rt.alloc())),
         "wire" => serve(rt, Wire::new(rt.alloc())?),
