@@ -60,6 +60,12 @@ def same(wanted: object, came: object, at: Place | None = None) -> None:
         raise Difference(wanted, came, at)
 
 
+def expect(what: str, came: object, wanted: object) -> None:
+    """Raises a Difference, which says of what, if a value isn't the wanted one."""
+    if came != wanted:
+        raise Difference(f"{what}: {wanted!r}", repr(came))
+
+
 def of_function(check: Callable[[], object], name: str = "") -> Case:
     """The case that a function makes. Its name is the function's, with spaces."""
     file = relative(inspect.getsourcefile(inspect.unwrap(check)) or __file__)
@@ -69,3 +75,14 @@ def of_function(check: Callable[[], object], name: str = "") -> Case:
 def of_functions(checks: Iterable[Callable[[], object]]) -> Iterator[Case]:
     """The cases that functions make."""
     return map(of_function, checks)
+
+
+class Checks(list[Callable[[], object]]):
+    """The checks of a suite: a decorator of its functions, each of which is a case. The first line of its text says what holds."""
+
+    def __call__(self, check: Callable[[], object]) -> Callable[[], object]:
+        self.append(check)
+        return check
+
+    def cases(self) -> Iterator[Case]:
+        return of_functions(self)

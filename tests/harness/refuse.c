@@ -1,6 +1,5 @@
-/* Refuses one growth of memory to a program that is run with this library preloaded: that with the number GROWTH, from 1 on, of
-   those between the lines `begin` and `end` that the program writes to standard error; where WHOLE is set, of all. At `end`, or at the
-   program's end, it says how many there were. */
+/* Refuses one growth of memory to a program that is run with this library preloaded: that with the number GROWTH, from 1 on, of those
+   between the lines `begin` and `end` that the program writes to standard error. At each `end` it says how many there were so far. */
 #include <errno.h>
 #include <stdio.h>
 #include <stdlib.h>
@@ -44,22 +43,6 @@ static void say_growths(void)
 {
     char line[32];
     syscall(SYS_write, 2, line, (size_t)snprintf(line, sizeof line, "growths %ld\n", growths));
-}
-
-__attribute__((constructor)) static void begin_whole(void)
-{
-    if (getenv("WHOLE")) {
-        refused = atol(getenv("GROWTH"));
-        is_counting = 1;
-    }
-}
-
-__attribute__((destructor)) static void end_whole(void)
-{
-    if (getenv("WHOLE")) {
-        is_counting = 0;
-        say_growths();
-    }
 }
 
 ssize_t write(int file, const void *bytes, size_t size)

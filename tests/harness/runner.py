@@ -1,13 +1,17 @@
 """Runs suites side by side, each in a process of its own, and says what failed."""
 import argparse
 import concurrent.futures
+import contextlib
 import dataclasses
 import importlib
 import json
 import os
 import pathlib
+import queue
+import signal
 import subprocess
 import sys
+import tempfile
 import traceback
 from collections.abc import Iterator
 
@@ -15,7 +19,7 @@ from harness.case import TOP, BadCase, Case, Difference, NotHere, Place, relativ
 
 SUITES = TOP / "tests/suites"
 RUN = TOP / "tests/run"
-# No part of a suite takes longer.
+# No part of a suite takes longer, unless the suite says so by `SECONDS`.
 MOST_SECONDS = 900
 # A value of one line that is longer is cut before and behind the first difference.
 MOST_SHOWN = 400
@@ -57,17 +61,35 @@ def module_of(suite: str):
 
 
 def is_chosen(suite: str, case: Case, words: list[str]) -> bool:
-    return all(word in f"{suite}: {case.name} {case.at.file}" for word in words)
+    """Whether suite, name and file have each of the words, and none that begins with `!`."""
+    text = f"{suite}: {case.name} {case.at.file}"
+    return all(word[1:] not in text if word.startswith("!") else word in text for word in words)
 
 
 def chosen(part: Part, words: list[str]) -> Iterator[Case]:
-    """The part's cases whose names, or whose suite's, have each of the words."""
-    cases = (it for it in module_of(part.suite).cases() if is_chosen(part.suite, it, words))
-    return (it for place, it in enumerate(cases) if place % part.of == part.index)
+    """The part's cases that the words choose."""
+    return (it for it in own_cases(part) if is_chosen(part.suite, it, words))
+
+
+def own_cases(part: Part) -> Iterator[Case]:
+    """A part's cases. Those of one file stay together if the suite says `BY_FILE`."""
+    module = module_of(part.suite)
+    files: dict[str, int] = {}
+    for place, case in enumerate(module.cases()):
+        number = files.setdefault(case.at.file, len(files)) if getattr(module, "BY_FILE", False) else place
+        if number % part.of == part.index:
+            yield case
+
+
+def place_of(at: Place, error: BaseException) -> Place:
+    """The place of a case that raised this: for a function the line at which it was left."""
+    lines = [it.lineno for it in traceback.extract_tb(error.__traceback__) if relative(it.filename) == at.file]
+    return Place(at.file, lines[-1] or at.line) if lines else at
 
 
 def failure_of(suite: str, name: str, at: Place, error: BaseException) -> Failure:
     """What a case says that raised this."""
+    at = place_of(at, error)
     match error:
         case Difference(wanted=wanted, came=came):
             return Failure(suite, name, str(error.at or at), wanted, came)
@@ -77,21 +99,25 @@ def failure_of(suite: str, name: str, at: Place, error: BaseException) -> Failur
             return Failure(suite, name, str(at), "no exception", "".join(traceback.format_exception(error)).rstrip())
 
 
-def run_case(suite: str, case: Case, outcome: Outcome) -> None:
+def run_case(suite: str, case: Case) -> Failure | None:
+    """What is wrong with a case."""
     try:
         case.run()
     except Exception as error:
-        outcome.failures.append(failure_of(suite, case.name, case.at, error))
-    else:
-        outcome.passed += 1
+        return failure_of(suite, case.name, case.at, error)
+    return None
 
 
 def run_part(part: Part, words: list[str]) -> Outcome:
     """Runs the cases of a part. A suite without any case fails, unless it says what isn't installed."""
     outcome = Outcome()
     try:
-        for case in chosen(part, words):
-            run_case(part.suite, case, outcome)
+        cases = list(chosen(part, words))
+        getattr(module_of(part.suite), "prepare", lambda _: None)(cases)
+        with concurrent.futures.ThreadPoolExecutor(getattr(module_of(part.suite), "THREADS", 1)) as pool:
+            results = list(pool.map(lambda it: run_case(part.suite, it), cases))
+        outcome.failures = [it for it in results if it]
+        outcome.passed = len(results) - len(outcome.failures)
         if not (words or part.index or outcome.passed or outcome.failures):
             raise BadCase("has no case")
     except NotHere as missing:
@@ -108,11 +134,14 @@ def list_part(part: Part, words: list[str]) -> None:
             print(f"{part.suite}: {case.name} ({case.at})")
     except NotHere as missing:
         print(f"{part.suite}: not run, since {missing}")
+    except Exception as error:
+        show(failure_of(part.suite, "reading its cases", Place(f"tests/suites/{part.suite}.py", 1), error))
 
 
 def parts_of(suite: str) -> Iterator[Part]:
-    """A suite says by `PARTS` into how many processes its cases are divided."""
-    parts = getattr(module_of(suite), "PARTS", 1)
+    """A suite says by `PARTS` into how many processes its cases are divided, or by `BY_FILE` that each file of cases has one."""
+    module = module_of(suite)
+    parts = len({it.at.file for it in module.cases()}) if getattr(module, "BY_FILE", False) else getattr(module, "PARTS", 1)
     return (Part(suite, index, parts) for index in range(parts))
 
 
@@ -127,21 +156,42 @@ def all_parts() -> tuple[list[Part], list[Failure]]:
     return [part for _, parts in sorted(found, key=lambda it: it[0]) for part in parts], failures
 
 
-def run_apart(part: Part, words: list[str]) -> Outcome:
-    """Runs a part in a process of its own."""
+def run_apart(part: Part, words: list[str], slots: queue.SimpleQueue[int]) -> Outcome:
+    """Runs a part in a process of its own. What it starts uses the ports of a slot, which no other part has meanwhile."""
     command = [sys.executable, str(RUN), "--part", part.suite, str(part.index), str(part.of), "-k", " ".join(words)]
+    slot = slots.get()
     try:
-        run = subprocess.run(command, stdin=subprocess.DEVNULL, capture_output=True, text=True, timeout=MOST_SECONDS, check=False)
-        return read_outcome(run.stdout)
-    except subprocess.TimeoutExpired:
-        came = f"it wasn't done in {MOST_SECONDS} seconds"
-    except (ValueError, TypeError, KeyError):
-        came = f"status {run.returncode}: {run.stdout[-500:]}{run.stderr[-2000:]}"
+        return read_outcome(*run_process(command, slot, getattr(module_of(part.suite), "SECONDS", MOST_SECONDS)))
+    except subprocess.TimeoutExpired as late:
+        came = f"it isn't done in {late.timeout:.0f} seconds"
+    except Difference as difference:
+        came = difference.came
+    finally:
+        slots.put(slot)
     return Outcome(failures=[Failure(part.suite, "running it", f"tests/suites/{part.suite}.py:1", "its outcome", came)])
 
 
-def read_outcome(text: str) -> Outcome:
-    found = json.loads(text)
+def run_process(command: list[str], slot: int, seconds: float) -> tuple[int, str, str]:
+    """The status of a process, and what it wrote. What it leaves behind is ended."""
+    environment = {**os.environ, "TESTS_SLOT": str(slot)}
+    with tempfile.TemporaryFile("w+") as said, tempfile.TemporaryFile("w+") as out:
+        run = subprocess.Popen(command, stdin=subprocess.DEVNULL, stdout=out, stderr=said, env=environment, start_new_session=True)
+        try:
+            run.wait(seconds)
+        finally:
+            with contextlib.suppress(ProcessLookupError):
+                os.killpg(run.pid, signal.SIGKILL)
+            run.wait()
+        for file in (out, said):
+            file.seek(0)
+        return run.returncode, out.read(), said.read()
+
+
+def read_outcome(status: int, out: str, said: str) -> Outcome:
+    try:
+        found = json.loads(out)
+    except ValueError:
+        raise Difference("its outcome", f"status {status}: {out[-500:]}{said[-2000:]}") from None
     return Outcome(found["passed"], [Failure(**it) for it in found["failures"]], found["notes"])
 
 
@@ -175,8 +225,11 @@ def run_all(words: list[str], jobs: int) -> int:
     passed, failed = 0, len(failures)
     for it in failures:
         show(it)
+    slots: queue.SimpleQueue[int] = queue.SimpleQueue()
+    for slot in range(jobs):
+        slots.put(slot)
     with concurrent.futures.ThreadPoolExecutor(jobs) as pool:
-        for done in concurrent.futures.as_completed([pool.submit(run_apart, part, words) for part in parts]):
+        for done in concurrent.futures.as_completed([pool.submit(run_apart, part, words, slots) for part in parts]):
             outcome = done.result()
             passed, failed = passed + outcome.passed, failed + len(outcome.failures)
             for note in outcome.notes:
@@ -198,7 +251,7 @@ def write_part(part: Part, words: list[str]) -> int:
 
 def main() -> int:
     parser = argparse.ArgumentParser(prog="tests/run", description="Runs the suites of tests/ side by side.")
-    parser.add_argument("-k", metavar="WORDS", default="", help="only cases whose suite, name and file together have each of these words")
+    parser.add_argument("-k", metavar="WORDS", default="", help="only cases whose suite, name and file together have each of these words, and none that begins with !")
     parser.add_argument("--list", action="store_true", help="print the cases and where they are, and run none")
     parser.add_argument("--jobs", type=int, default=len(os.sched_getaffinity(0)), metavar="N", help="processes side by side")
     parser.add_argument("--quick", action="store_true", help="compile the programs without a proof, and keep them")

@@ -3,7 +3,7 @@ use crate::fault::Fault;
 use codes3270::Model;
 use hex::FromHexError;
 use std::alloc::{AllocError, Global};
-use std::str::FromStr;
+use std::str::{self, FromStr};
 
 const BYTES: &str = "bytes: pairs of hexadecimal digits, PAIRS*N, \"TEXT\", or - for none";
 
@@ -33,6 +33,11 @@ impl<'a> Words<'a> {
         let rest = self.rest;
         self.rest = "";
         rest
+    }
+
+    /// Whether all words were taken.
+    pub(crate) fn is_empty(&self) -> bool {
+        self.rest.is_empty()
     }
 
     /// Expects that all words were taken.
@@ -97,6 +102,14 @@ impl<'a> Words<'a> {
     }
 }
 
+/// The text that bytes spell in UTF-8.
+pub(crate) fn text_of(bytes: &[u8]) -> Result<&str, Fault> {
+    match str::from_utf8(bytes) {
+        Ok(text) => Ok(text),
+        Err(_) => Err(Fault::Needs("bytes of UTF-8")),
+    }
+}
+
 fn put_words(alloc: Global, bytes: &mut Vec<u8>, words: &str) -> Result<(), Fault> {
     for word in words.split_whitespace() {
         put_word(alloc, bytes, word)?;
@@ -113,7 +126,7 @@ fn put_word(alloc: Global, bytes: &mut Vec<u8>, word: &str) -> Result<(), Fault>
         return Ok(());
     }
     let (pairs, times) = word.split_once('*').unwrap_or((word, "1"));
-    let Ok(times) = times.parse::<u16>() else {
+    let Ok(times) = times.parse::<u32>() else {
         return Err(Fault::Needs(BYTES));
     };
     put_pairs(alloc, bytes, pairs, times)
@@ -127,7 +140,7 @@ fn quoted(word: &str) -> Option<&str> {
     }
 }
 
-fn put_pairs(alloc: Global, bytes: &mut Vec<u8>, pairs: &str, times: u16) -> Result<(), Fault> {
+fn put_pairs(alloc: Global, bytes: &mut Vec<u8>, pairs: &str, times: u32) -> Result<(), Fault> {
     let some = decoded(alloc, pairs)?;
     for _ in 0..times {
         bytes.extend_from_slice(some.as_slice())?;

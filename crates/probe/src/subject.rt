@@ -31,11 +31,30 @@ fn put_answer<S: Subject>(
     answer.push_str(".\n")
 }
 
+/// Answers a line. A command behind `! ` is done between two lines on standard error, `begin` and `end`: so a library that is preloaded
+/// can tell the growths of memory in it.
+fn answer_line<S: Subject>(
+    rt: &HostRuntime,
+    subject: &mut S,
+    line: &str,
+    answer: &mut String,
+) -> io::Result<()> {
+    match line.strip_prefix("! ") {
+        Some(line) => {
+            eprintln!(rt; "begin")?;
+            put_answer(subject, line, answer)?;
+            eprintln!(rt; "end")
+        }
+        None => Ok(put_answer(subject, line, answer)?),
+    }
+}
+
 /// Answers each line of standard input.
 pub(crate) fn serve<S: Subject + Drop>(rt: &HostRuntime, mut subject: S) -> io::Result<bool> {
-    let mut answer = String::new(rt.alloc());
+    // Answers have room, so that want of memory is but that of calls.
+    let mut answer = String::with_capacity(rt.alloc(), 1 << 16)?;
     for line in BufReader::new(rt.alloc(), rt.reader())?.lines(rt.alloc()) {
-        put_answer(&mut subject, line?.as_str(), &mut answer)?;
+        answer_line(rt, &mut subject, line?.as_str(), &mut answer)?;
         rt.stdout().write_all(answer.as_bytes())?;
     }
     Ok(true)

@@ -1,0 +1,469 @@
+//! A host: host_core's `Host`. C is a connection's number, 0 to 63.
+//!
+//! ```text
+//! | TEXT              a line of the panel text
+//! serve [any]         a host begins to serve these panels, to terminals that wait or to any: done, or memory
+//! restart             it restarts
+//! open C              begins a connection: done, or memory
+//! feed C BYTES        how many bytes were taken, and what stopped it: going, memory, or closed CAUSE
+//! each C BYTES        the same, fed byte by byte
+//! act C               sent, nothing, or memory
+//! note C BYTES        the same, with the note's codes
+//! keepalive C         the same
+//! out C               what there is to send
+//! sent C N            the first N bytes of that were sent
+//! closed C            the connection is lost: what wasn't sent
+//! rejected C          the oldest rejection that wasn't reported: [LU] REASON, or none
+//! dropped C           the AID of the oldest dropped key that wasn't reported, or none
+//! question C          none, memory, or the question's parts
+//! answer C SESSION TURN PANEL CURSOR MESSAGE [FIELD=VALUE]..    sent, nothing, or memory; - for no panel, no cursor
+//! state C             phase, model, turn, and the command that waits for its answer
+//! see C               all of this, what there is to send, and the belief
+//! turn C              a turn of serving: going, lost, or memory; further words for its connections: `links`
+//! ```
+ghost use Rattle.std.specs.Prelude.{◌≡◌, ◌<◌, true, IfOk};
+ghost use Rattle.host_core.specs.Notes.{IsNoteText};
+ghost use Rattle.host_core.specs.State.{most_connections};
+
+use crate::answer::put_named;
+use crate::fault::Fault;
+use crate::line::Words;
+use crate::subject::Subject;
+use crate::subjects::links::{Memory, is_link_word};
+use crate::subjects::seen::{model_number, put_belief, put_byte, put_fed};
+use codes3270::aid_byte;
+use host_core::{
+    Acted, Answer, Host, MOST_CONNECTIONS, MessageText, PanelFault, PanelSet, Phase, Pool,
+    PoolFault, Question, Rejection, Served, Terminals, Ticket, Turn, Values, serve_turn,
+};
+use std::alloc::{AllocError, Global};
+use tn3270e_msg::{Fed, Stop};
+
+/// The characters that a note has at most.
+const LONGEST_NOTE: usize = 131;
+
+/// A host at work, and its connections in memory.
+#[derive(Drop)]
+struct Serving {
+    alloc: Global,
+    host: Host,
+    links: Memory,
+}
+
+/// A panel text, and a host that serves the panels of one.
+#[derive(Drop)]
+pub(crate) struct Hosts {
+    alloc: Global,
+    panels: String,
+    serving: Option<Serving>,
+}
+
+/// Takes a line of a panel text.
+pub(crate) fn add_line(panels: &mut String, line: &str) -> Result<(), AllocError> {
+    panels.push_str(line)?;
+    panels.push('\n')
+}
+
+fn read_panels(alloc: Global, text: &str) -> Result<PanelSet, Fault> {
+    match PanelSet::read(alloc, text) {
+        Ok(panels) => Ok(panels),
+        Err(PanelFault::Memory) => Err(Fault::NoMemory(AllocError)),
+        Err(_) => Err(Fault::Needs("a text of panels")),
+    }
+}
+
+fn read_pool(alloc: Global, names: &[String]) -> Result<Pool, Fault> {
+    match Pool::read(alloc, names) {
+        Ok(pool) => Ok(pool),
+        Err(PoolFault::Memory) => Err(Fault::NoMemory(AllocError)),
+        Err(_) => Err(Fault::Needs("names of LUs")),
+    }
+}
+
+/// The panels of a text, and the pool of the LUs that they name.
+pub(crate) fn read_parts(alloc: Global, text: &str) -> Result<(PanelSet, Pool), Fault> {
+    let panels = read_panels(alloc, text)?;
+    let pool = read_pool(alloc, panels.lus())?;
+    Ok((panels, pool))
+}
+
+/// Puts whether something was made: done, or memory.
+pub(crate) fn put_made(answer: &mut String, made: Result<(), Fault>) -> Result<(), Fault> {
+    match made {
+        Ok(()) => Ok(answer.push_str("done\n")?),
+        Err(Fault::NoMemory(_)) => Ok(answer.push_str("memory\n")?),
+        Err(fault) => Err(fault),
+    }
+}
+
+/// The terminals of a word.
+pub(crate) fn terminals_of(word: &str) -> Result<Terminals, Fault> {
+    match word {
+        "" => Ok(Terminals::Waiting),
+        "any" => Ok(Terminals::Any),
+        _ => Err(Fault::Needs("any, or no word")),
+    }
+}
+
+/// A connection's number.
+pub(crate) fn read_conn(line: &mut Words<'_>) -> Result<usize, Fault>
+    ensures { IfOk result (λ conn. conn < most_connections) }
+{
+    let conn = line.number::<usize>()?;
+    if conn < MOST_CONNECTIONS {
+        Ok(conn)
+    } else {
+        Err(Fault::Needs("a connection's number"))
+    }
+}
+
+fn is_note_text(codes: &[u8]) -> bool
+    ensures { result ≡ true → IsNoteText codes.now }
+{
+    codes.len() <= LONGEST_NOTE && codes.iter().all(|code| (0x40..0xFF).contains(code))
+}
+
+fn acted_word(acted: Acted) -> &'static str {
+    match acted {
+        Acted::Sent => "sent\n",
+        Acted::Nothing => "nothing\n",
+        Acted::Memory => "memory\n",
+    }
+}
+
+fn put_phase(answer: &mut String, phase: Phase) -> Result<(), AllocError> {
+    match phase {
+        Phase::Free => answer.push_str("phase free\n"),
+        Phase::Talking => answer.push_str("phase talking\n"),
+        Phase::Bound(lu) => write!(answer, "phase bound {lu}\n"),
+        Phase::Closed(cause) => write!(answer, "phase closed {cause}\n"),
+    }
+}
+
+fn turn_word(turn: Turn) -> &'static str {
+    match turn {
+        Turn::Host => "turn host\n",
+        Turn::Terminal => "turn terminal\n",
+    }
+}
+
+/// Puts a name and a number, or `none`.
+fn put_number(answer: &mut String, name: &str, number: Option<u16>) -> Result<(), AllocError> {
+    match number {
+        Some(number) => write!(answer, "{name} {number}\n"),
+        None => write!(answer, "{name} none\n"),
+    }
+}
+
+/// Puts how far a host is with the client of a connection.
+pub(crate) fn put_state(answer: &mut String, host: &Host, conn: usize) -> Result<(), AllocError>
+    requires { conn < most_connections }
+{
+    put_phase(answer, host.phase(conn))?;
+    put_number(
+        answer,
+        "model",
+        host.model(conn).map(model_number).map(u16::from),
+    )?;
+    answer.push_str(turn_word(host.turn(conn)))?;
+    put_number(answer, "pending", host.pending(conn))
+}
+
+/// Puts all that is to be seen of a connection.
+pub(crate) fn put_connection(
+    alloc: Global,
+    answer: &mut String,
+    host: &Host,
+    conn: usize,
+) -> Result<(), AllocError>
+    requires { conn < most_connections }
+{
+    put_state(answer, host, conn)?;
+    put_named(alloc, answer, "out", host.out(conn))?;
+    put_belief(answer, host.shadow(conn))
+}
+
+fn put_rejection(answer: &mut String, rejection: Option<Rejection>) -> Result<(), AllocError> {
+    match rejection {
+        Some(
+            Rejection {
+                lu: Some(lu),
+                reason,
+            },
+        ) => write!(answer, "{lu} {reason}\n"),
+        Some(Rejection { lu: None, reason }) => write!(answer, "{reason}\n"),
+        None => answer.push_str("none\n"),
+    }
+}
+
+/// Feeds bytes one by one, up to one at which the host stops.
+fn feed_each(host: &mut Host, conn: usize, bytes: &[u8]) -> Fed
+    requires { conn < most_connections }
+{
+    let mut taken = 0usize;
+    for byte in bytes {
+        let fed = host.feed(conn, &[*byte]);
+        taken = taken.saturating_add(fed.taken);
+        if fed.stop != Stop::Going {
+            return Fed {
+                taken,
+                stop: fed.stop,
+            };
+        }
+    }
+    Fed {
+        taken,
+        stop: Stop::Going,
+    }
+}
+
+/// Puts a question's parts, and the text of each field of its panel.
+fn put_question(
+    alloc: Global,
+    answer: &mut String,
+    host: &Host,
+    question: &Question,
+) -> Result<(), AllocError> {
+    let Ticket { session, turn } = question.ticket;
+    write!(answer, "ticket {session} {turn}\nlu {}\n", question.lu)?;
+    write!(
+        answer,
+        "panel {}\ncursor {}\naid ",
+        question.panel,
+        question.cursor.get()
+    )?;
+    put_byte(answer, aid_byte(question.aid))?;
+    answer.push('\n')?;
+    if let Some(panel) = host.panels().panel(question.panel) {
+        for field in panel.fields() {
+            if let Some(value) = question.values.get(field.number) {
+                put_named(alloc, answer, field.name.as_str(), value)?;
+            }
+        }
+    }
+    Ok(())
+}
+
+/// A number, or none for `-`.
+fn read_index(line: &mut Words<'_>) -> Result<Option<usize>, Fault> {
+    match line.word()? {
+        "-" => Ok(None),
+        word => match word.parse::<usize>() {
+            Ok(number) => Ok(Some(number)),
+            Err(_) => Err(Fault::Needs("a number, or -")),
+        },
+    }
+}
+
+/// Sets the value of a word FIELD=BYTES.
+fn set_value(alloc: Global, values: &mut Values, word: &str) -> Result<(), Fault> {
+    let (field, value) = word.split_once('=').unwrap_or((word, ""));
+    let field = Words::new(field).number::<usize>()?;
+    values.set(field, Words::new(value).bytes(alloc)?.as_slice())?;
+    Ok(())
+}
+
+/// What an application answers.
+fn read_answer(alloc: Global, line: &mut Words<'_>) -> Result<Answer, Fault> {
+    let panel = read_index(line)?;
+    let cursor = read_index(line)?;
+    let message = MessageText::new(line.bytes(alloc)?.as_slice());
+    let mut values = Values::new(alloc);
+    for word in line.rest().split_whitespace() {
+        set_value(alloc, &mut values, word)?;
+    }
+    Ok(Answer {
+        panel,
+        values,
+        message,
+        cursor,
+    })
+}
+
+impl Serving {
+    fn new(alloc: Global, terminals: &str, text: &str) -> Result<Serving, Fault> {
+        let terminals = terminals_of(terminals)?;
+        let (panels, pool) = read_parts(alloc, text)?;
+        Ok(Serving {
+            alloc,
+            host: Host::serving(alloc, terminals, panels, pool)?,
+            links: Memory::new(alloc),
+        })
+    }
+
+    fn open(&mut self, conn: usize) -> &'static str
+        requires { conn < most_connections }
+    {
+        if self.host.phase(conn) != Phase::Free {
+            return "not free\n";
+        }
+        match self.host.open(conn) {
+            Ok(()) => "done\n",
+            Err(_) => "memory\n",
+        }
+    }
+
+    fn note(&mut self, conn: usize, codes: &[u8]) -> Result<&'static str, Fault>
+        requires { conn < most_connections }
+    {
+        if !is_note_text(codes) {
+            return Err(Fault::Needs("a text for a note"));
+        }
+        Ok(acted_word(self.host.note(conn, codes)))
+    }
+
+    fn sent(&mut self, conn: usize, count: usize) -> Result<(), Fault>
+        requires { conn < most_connections }
+    {
+        if count > self.host.out(conn).len() {
+            return Err(Fault::Needs("as many bytes as there are"));
+        }
+        self.host.sent(conn, count);
+        Ok(())
+    }
+
+    fn put_dropped(&mut self, conn: usize, answer: &mut String) -> Result<(), AllocError>
+        requires { conn < most_connections }
+    {
+        match self.host.next_dropped_key(conn) {
+            Some(key) => put_byte(answer, aid_byte(key.aid))?,
+            None => answer.push_str("none")?,
+        }
+        answer.push('\n')
+    }
+
+    fn ask(&self, conn: usize, answer: &mut String) -> Result<(), AllocError>
+        requires { conn < most_connections }
+    {
+        match self.host.question(conn) {
+            Ok(Some(question)) => put_question(self.alloc, answer, &self.host, &question),
+            Ok(None) => answer.push_str("none\n"),
+            Err(_) => answer.push_str("memory\n"),
+        }
+    }
+
+    fn answer(&mut self, conn: usize, line: &mut Words<'_>) -> Result<&'static str, Fault>
+        requires { conn < most_connections }
+    {
+        let ticket = Ticket {
+            session: line.number()?,
+            turn: line.number()?,
+        };
+        let reply = read_answer(self.alloc, line)?;
+        Ok(acted_word(self.host.answer(conn, ticket, &reply)))
+    }
+
+    fn turn(&mut self, conn: usize) -> &'static str
+        requires { conn < most_connections }
+    {
+        match serve_turn(&mut self.host, &mut self.links, conn) {
+            Served::Going => "going\n",
+            Served::Lost => "lost\n",
+            Served::Memory => "memory\n",
+        }
+    }
+
+    /// Does what feeds the host, or has it act.
+    fn work(
+        &mut self,
+        conn: usize,
+        word: &str,
+        line: &mut Words<'_>,
+        answer: &mut String,
+    ) -> Result<(), Fault>
+        requires { conn < most_connections }
+    {
+        match word {
+            "feed" => put_fed(
+                answer,
+                self.host.feed(conn, line.all_bytes(self.alloc)?.as_slice()),
+            )?,
+            "each" => put_fed(
+                answer,
+                feed_each(&mut self.host, conn, line.all_bytes(self.alloc)?.as_slice()),
+            )?,
+            "open" => answer.push_str(self.open(conn))?,
+            "act" => answer.push_str(acted_word(self.host.act(conn)))?,
+            "keepalive" => answer.push_str(acted_word(self.host.keep_alive(conn)))?,
+            "note" => {
+                let codes = line.bytes(self.alloc)?;
+                answer.push_str(self.note(conn, codes.as_slice())?)?
+            }
+            "answer" => answer.push_str(self.answer(conn, line)?)?,
+            "turn" => answer.push_str(self.turn(conn))?,
+            _ => return self.look(conn, word, line, answer),
+        }
+        Ok(())
+    }
+
+    /// Does what hands something out.
+    fn look(
+        &mut self,
+        conn: usize,
+        word: &str,
+        line: &mut Words<'_>,
+        answer: &mut String,
+    ) -> Result<(), Fault>
+        requires { conn < most_connections }
+    {
+        match word {
+            "out" => put_named(self.alloc, answer, "out", self.host.out(conn))?,
+            "sent" => self.sent(conn, line.number()?)?,
+            "closed" => put_named(
+                self.alloc,
+                answer,
+                "unsent",
+                self.host.closed(conn).as_slice(),
+            )?,
+            "rejected" => put_rejection(answer, self.host.next_rejection(conn))?,
+            "dropped" => self.put_dropped(conn, answer)?,
+            "question" => self.ask(conn, answer)?,
+            "state" => put_state(answer, &self.host, conn)?,
+            "see" => put_connection(self.alloc, answer, &self.host, conn)?,
+            _ => return Err(Fault::Needs("a command for a host")),
+        }
+        Ok(())
+    }
+
+    fn take(&mut self, word: &str, line: &mut Words<'_>, answer: &mut String) -> Result<(), Fault> {
+        if word == "restart" {
+            self.host.restart();
+            return Ok(());
+        }
+        if is_link_word(word) {
+            return self.links.take(self.alloc, word, line, answer);
+        }
+        self.work(read_conn(line)?, word, line, answer)
+    }
+}
+
+impl Hosts {
+    pub(crate) fn new(alloc: Global) -> Hosts {
+        Hosts {
+            alloc,
+            panels: String::new(alloc),
+            serving: None,
+        }
+    }
+
+    /// A host begins to serve the panels of the text, which is taken.
+    fn serve(&mut self, terminals: &str) -> Result<(), Fault> {
+        let serving = Serving::new(self.alloc, terminals, self.panels.as_str())?;
+        self.serving = Some(serving);
+        self.panels.clear();
+        Ok(())
+    }
+}
+
+impl Subject for Hosts {
+    fn take(&mut self, line: &mut Words<'_>, answer: &mut String) -> Result<(), Fault> {
+        match line.word()? {
+            "|" => Ok(add_line(&mut self.panels, line.rest())?),
+            "serve" => put_made(answer, self.serve(line.rest())),
+            word => match &mut self.serving {
+                Some(serving) => serving.take(word, line, answer),
+                None => Err(Fault::Needs("a host that serves")),
+            },
+        }
+    }
+}

@@ -1,0 +1,339 @@
+"""Calls whose growths of memory are refused, one a run: the first, the second, and so on until a run meets no refusal: tests/cases/*.growths.
+
+tests/harness/refuse.c, which is preloaded, refuses the growth. If the call then answers want of memory, what is to be seen must
+be as before the call, or as after the bytes or events that it took; once it is made again, and all goes on, as if nothing was refused.
+A call may get over a refusal and be done. A file has these blocks, without blank lines and comments:
+
+    steps NAME         begins commands that `play NAME` repeats
+    call NAME          begins a case
+    on SUBJECT         the subject of the probe
+    COMMAND            a command before the call
+    ! COMMAND          the call
+    = ANSWER           what it answers, in its first line
+    meets none         the call meets no growth
+    taken COMMAND      if memory is refused to the call, it stands as after this command, and not as before
+    + COMMAND          what goes on after the call
+    look COMMAND       shows what is to be seen
+    whole SUITE NAME   a case of the suite, in which each growth of memory in its calls is refused in a run of its own, and each call that was
+                       refused memory is repeated: it must pass. A dialogue with a terminal is a case for each cut
+"""
+import dataclasses
+import functools
+import os
+import pathlib
+import re
+from collections.abc import Callable, Iterator
+
+from harness.case import CASES, BadCase, Case, Difference, same
+from harness.data import Line, lines_of
+from harness.growths import library
+from harness.probe import Probe
+from harness.sights import spelt
+from suites import dialogues, worlds
+
+PARTS = 4
+LONG = True
+# What has no call that could be refused memory, or grows but the probe's own memory.
+UNMARKED = {"|", "list", "say", "plug", "see", "state", "host", "terminal", "left", "queued", "out", "sent", "lines", "text"}
+FEED = re.compile(r"(feed|each)((?: \d+)?) (.+)")
+NO_MEMORY = "the probe no memory"
+
+
+class Refusing(Probe):
+    """A probe to which one growth of memory is refused, of those in commands that are marked."""
+
+    def __init__(self, subject: str, growth: int) -> None:
+        super().__init__(subject, {**os.environ, "LD_PRELOAD": str(library()), "GROWTH": str(growth)})
+
+    def call(self, command: str, line: Line | None = None) -> list[str]:
+        """Makes a marked call. What the probe itself had no memory for wasn't done."""
+        try:
+            return super().ask(f"! {command}", line.at if line else None)
+        except BadCase as error:
+            if error.reason.startswith(NO_MEMORY):
+                return ["memory"]
+            raise
+
+    def met(self) -> int:
+        """How many growths the marked calls met. The probe ends."""
+        _, said = self.process.communicate()
+        return int(["0", *re.findall(r"^growths (\d+)$", said.decode(), re.M)][-1])
+
+
+class Repeating(Refusing):
+    """One whose calls are repeated if they are refused memory."""
+
+    def __init__(self, subject: str, growth: int) -> None:
+        super().__init__(subject, growth)
+        self.listed: list[str] = []
+
+    def ask(self, command: str, at=None) -> list[str]:
+        word, _, rest = command.partition(" ")
+        if word == "list":
+            self.listed.append(rest)
+        if word in UNMARKED:
+            return super().ask(command, at)
+        answer = self.call(command)
+        if word == "run":
+            return [f"{self.go_on(answer[0])} 0"]
+        for _ in range(3):
+            if not re.fullmatch(r"memory|part \d+|\d+ memory", answer[0] if answer else ""):
+                return answer
+            answer = self.again(command, answer[0])
+        return answer
+
+    def ask_each(self, commands: list[str], at=None) -> list[list[str]]:
+        if len(commands) == 1:
+            return super().ask_each(commands, at)
+        return [self.ask(command, at) for command in commands]
+
+    def again(self, command: str, answer: str) -> list[str]:
+        """Makes a call again, with what it didn't take."""
+        taken = int("".join(re.findall(r"\d+", answer)) or 0)
+        if fed := FEED.fullmatch(command):
+            rest = bytes.fromhex(fed[3].strip("-"))[taken:]
+            count, _, stop = self.call(f"{fed[1]}{fed[2]} {spelt(rest)}")[0].partition(" ")
+            return [f"{taken + int(count)} {stop}"]
+        return self.call(less(command, taken))
+
+    def go_on(self, ran: str) -> int:
+        """The rest of a list happens, if memory was refused in it."""
+        whole, part = map(int, ran.split())
+        events, self.listed = self.listed, []
+        if whole < len(events):
+            for event in [less(events[whole], part), *events[whole + 1 :]]:
+                super().ask(f"list {event}")
+            same(f"{len(events) - whole} 0", super().ask("run")[0])
+        return len(events)
+
+
+def less(command: str, taken: int) -> str:
+    """A command, without what was taken of its delivery."""
+    front, _, count = command.rpartition(" ")
+    return f"{front} {int(count) - taken}" if taken else command
+
+
+@dataclasses.dataclass
+class Call:
+    """A case."""
+
+    head: Line
+    name: str
+    subject: str = ""
+    before: list[Line] = dataclasses.field(default_factory=list)
+    call: str = ""
+    wanted: str = ""
+    meets_none: bool = False
+    taken: str = ""
+    after: list[str] = dataclasses.field(default_factory=list)
+    looks: list[str] = dataclasses.field(default_factory=list)
+
+    def take(self, line: Line) -> None:
+        word, _, rest = line.text.partition(" ")
+        match word:
+            case "on":
+                self.subject = rest
+            case "!":
+                self.call = rest
+            case "=":
+                self.wanted = rest
+            case "meets" if rest == "none":
+                self.meets_none = True
+            case "taken":
+                self.taken = rest
+            case "+":
+                self.after.append(rest)
+            case "look":
+                self.looks.append(rest)
+            case _:
+                self.before.append(line)
+
+    def begin(self, growth: int) -> Refusing:
+        """A probe on which all was done that is before the call."""
+        probe = Refusing(self.subject, growth)
+        for line in self.before:
+            probe.ask(line.text, line.at)
+        return probe
+
+    def look(self, probe: Probe) -> list[str]:
+        """What is to be seen. Before something is made that is nothing."""
+        return [line for command in self.looks for line in self.seen(probe, command)]
+
+    def seen(self, probe: Probe, command: str) -> list[str]:
+        try:
+            return probe.ask(command)
+        except BadCase as error:
+            return [error.reason]
+
+    def finish(self, probe: Probe) -> list[str]:
+        """What is to be seen once all went on."""
+        for command in self.after:
+            probe.ask(command)
+        return self.look(probe)
+
+    def partly(self, answer: str) -> list[str]:
+        """What is to be seen after the bytes or events that a call took, which was refused memory then."""
+        with self.begin(0) as probe:
+            if self.taken:
+                probe.ask(self.taken)
+            elif answer.partition(" ")[2] == "memory":
+                fed = FEED.fullmatch(self.call)
+                data = self.head.data(fed[3])[: int(answer.split()[0])]
+                probe.ask(f"{fed[1]}{fed[2]} {spelt(data)}")
+            elif self.call == "run":
+                return self.after_events(*map(int, answer.split()))
+            return self.look(probe)
+
+    def events(self) -> list[str]:
+        return [line.text.removeprefix("list ") for line in self.before if line.text.startswith("list ")]
+
+    def after_events(self, whole: int, part: int) -> list[str]:
+        """What is to be seen after so many whole events. No delivery is refused in its midst."""
+        same(0, part)
+        with Refusing(self.subject, 0) as probe:
+            for line in self.before:
+                if not line.text.startswith("list "):
+                    probe.ask(line.text, line.at)
+            for event in self.events()[:whole]:
+                probe.ask(event)
+            return self.look(probe)
+
+    def repeat(self, probe: Refusing, answer: str) -> list[str]:
+        """The call is made again, with what it didn't take: what it answers, in all."""
+        if self.call == "run":
+            whole = int(answer.split()[0])
+            for event in self.events()[whole:]:
+                probe.ask(f"list {event}")
+            count, _, part = probe.ask("run")[0].partition(" ")
+            return [f"{whole + int(count)} {part}"]
+        fed = FEED.fullmatch(self.call)
+        taken = int(answer.split()[0]) if fed and answer != "memory" else 0
+        if not taken:
+            return probe.ask(self.call)
+        count, _, stop = probe.ask(f"{fed[1]}{fed[2]} {spelt(self.head.data(fed[3])[taken:])}")[0].partition(" ")
+        return [f"{taken + int(count)} {stop}"]
+
+    def run(self) -> None:
+        """Refuses each growth."""
+        with self.begin(0) as probe:
+            before = self.look(probe)
+            wanted = probe.call(self.call)
+            same(self.wanted, wanted[0])
+            done = self.look(probe)
+            end = self.finish(probe)
+            count = probe.met()
+        refused = sum(self.refuse(growth, before, wanted, done, end) for growth in range(1, count + 1))
+        same(self.meets_none, refused == 0)
+
+    def refuse(self, growth: int, before: list[str], wanted: list[str], done: list[str], end: list[str]) -> bool:
+        """Refuses a growth. Whether it was refused to the call, and not to the probe itself."""
+        with self.begin(growth) as probe:
+            same([f"growth {growth}", *before], [f"growth {growth}", *self.look(probe)])
+            answer, is_own = self.answer(probe)
+            if answer != wanted:
+                self.stands(probe, growth, answer[0], [] if is_own else wanted, before)
+            same([f"growth {growth}, done", *done], [f"growth {growth}, done", *self.look(probe)])
+            same([f"growth {growth}, at the end", *end], [f"growth {growth}, at the end", *self.finish(probe)])
+            return not is_own
+
+    def answer(self, probe: Refusing) -> tuple[list[str], bool]:
+        """What the call answers, and whether the probe itself had no memory."""
+        try:
+            return Probe.ask(probe, f"! {self.call}", self.head.at), False
+        except BadCase as error:
+            if error.reason.startswith(NO_MEMORY):
+                return ["memory"], True
+            raise
+
+    def stands(self, probe: Refusing, growth: int, answer: str, wanted: list[str], before: list[str]) -> None:
+        """A call was refused memory. It stands as it should, and does all when it is made again."""
+        if self.call != "run" and not answer.endswith("memory"):
+            raise Difference(wanted, f"growth {growth}: {answer}")
+        as_before = answer == "memory" and (not self.taken or not wanted)
+        same([f"growth {growth}, refused", *(before if as_before else self.partly(answer))], [f"growth {growth}, refused", *self.look(probe)])
+        again = self.repeat(probe, answer)
+        same(wanted or again, again)
+
+
+def call_cases(calls: list[Call]) -> Iterator[Case]:
+    for call in calls:
+        if not (call.subject and call.call and call.wanted and call.looks):
+            raise call.head.bad("needs lines `on`, `!`, `=` and `look`")
+        yield Case(call.name, call.head.at, call.run)
+
+
+# ---- Whole cases
+
+
+def whole(run: Callable[[Callable[[str], Probe]], object]) -> None:
+    """Runs a case, and refuses each growth in it in a run of its own."""
+    growth, count = 0, 0
+    while growth <= count:
+        probes: list[Repeating] = []
+
+        def probe(subject: str) -> Probe:
+            probes.append(Repeating(subject, growth))
+            return probes[-1]
+
+        try:
+            run(probe)
+        except Difference as error:
+            raise Difference(error.wanted, f"growth {growth}: {error.came}", error.at) from None
+        count = max(count, *(it.met() for it in probes))
+        growth += 1
+    same(True, count > 0)
+
+
+def whole_worlds(name: str) -> Iterator[tuple[str, Callable[[Callable[[str], Probe]], object]]]:
+    panels, found = worlds.scripts()
+    for script in found:
+        if script.name == name:
+            yield name, lambda probe, script=script: worlds.run(lambda: [probe("world") for _ in range(3)], panels, script)
+
+
+def whole_dialogues(name: str) -> Iterator[tuple[str, Callable[[Callable[[str], Probe]], object]]]:
+    """A dialogue with a terminal, with each cut."""
+    for dialogue in dialogues.dialogues():
+        if (dialogue.subject, dialogue.name) == ("terminal", name):
+            cuts = [len(line.data(line.text[4:])) - 1 for line in dialogue.body if line.text.startswith("cut ")]
+            for cut in range(1, max(cuts, default=1) + 1):
+                yield f"{name}, cut {cut}", lambda probe, dialogue=dialogue, cut=cut: dialogues.hold_once(probe("terminal"), dialogue, cut)
+
+
+def whole_cases(line: Line, words: str) -> list[Case]:
+    suite, _, name = words.partition(" ")
+    found = {"worlds": whole_worlds, "dialogues": whole_dialogues}.get(suite, lambda _: iter(()))(name)
+    if not (made := [Case(f"whole: {of}", line.at, functools.partial(whole, run)) for of, run in found]):
+        raise line.bad("needs a case of dialogues or worlds")
+    return made
+
+
+def cases() -> Iterator[Case]:
+    for path in sorted(CASES.glob("*.growths")):
+        yield from cases_of(path)
+
+
+def cases_of(path: pathlib.Path) -> Iterator[Case]:
+    """The cases of a file."""
+    steps: dict[str, list[Line]] = {}
+    calls: list[Call] = []
+    wholes: list[Case] = []
+    take: Callable[[Line], object] | None = None
+    for line in lines_of(path):
+        word, _, rest = line.text.partition(" ")
+        if not line.text or line.text.startswith("#"):
+            continue
+        if word == "steps":
+            take = steps.setdefault(rest, []).append
+        elif word == "call":
+            calls.append(Call(line, rest))
+            take = calls[-1].take
+        elif word == "whole":
+            wholes += whole_cases(line, rest)
+        elif take is None or word == "play" and rest not in steps:
+            raise line.bad("needs steps, or a case, above it")
+        else:
+            for each in steps[rest] if word == "play" else [line]:
+                take(each)
+    yield from call_cases(calls)
+    yield from wholes

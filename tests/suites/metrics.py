@@ -1,0 +1,168 @@
+"""The metrics page of `serve`: what it counts, and who may read it."""
+import contextlib
+import select
+import socket
+import time
+
+from harness.case import Checks, Difference, expect
+from harness.hosts import (
+    DEVICE_IN_USE, DO, FIRST_WRITE, GET, LOCALHOST, MOST_CONNECTIONS, NOP, PATIENCE, free_port, metered, panels, plain, run,
+    scraped, until,
+)
+
+check = Checks()
+cases = check.cases
+
+CAUSES = ("NoTn3270e", "NoResponses", "BadTalk", "TooMany", "Wire", "BadRecord", "BadInbound", "BadResponse", "Negative")
+REASONS = ("DEVICE-IN-USE", "INV-NAME", "INV-DEVICE-TYPE", "UNSUPPORTED-REQ", "other")
+
+
+def metrics_page(now=0, total=0, closed=(), lost=0, idle=0, no_agreement=0, turned_away=0, rejected=(), dropped=0, turns=0, paints=0, received=0, sent=0, whole=0):
+    """The page of these numbers, as Prometheus' text format has it."""
+    ends = [(f'{{end="closed",cause="{it}"}}', closed.count(it)) for it in CAUSES]
+    ends += [('{end="lost"}', lost), ('{end="idle"}', idle), ('{end="no-agreement"}', no_agreement)]
+    metrics = [
+        ("sessions", "gauge", "Connections of terminals that are open.", [("", now)]),
+        ("sessions_total", "counter", "Connections of terminals that began.", [("", total)]),
+        ("session_ends_total", "counter", "Connections of terminals that ended, by what ended them.", ends),
+        ("turned_away_total", "counter", "Connections closed at once because no number was free.", [("", turned_away)]),
+        ("rejections_total", "counter", "Rejected requests for an LU, by reason.", [(f'{{reason="{it}"}}', rejected.count(it)) for it in REASONS]),
+        ("dropped_keys_total", "counter", "Keys that were dropped because the last one wasn't answered yet.", [("", dropped)]),
+        ("turns_total", "counter", "Screens sent after the first one of a connection.", [("", turns)]),
+        ("paints_total", "counter", "Screens sent.", [("", paints)]),
+        ("received_bytes_total", "counter", "Bytes received from terminals.", [("", received)]),
+        ("sent_bytes_total", "counter", "Bytes sent to terminals.", [("", sent)]),
+        ("whole_screen_bytes_total", "counter", "Bytes of the records of all screens sent, had nothing been known of what the terminals showed.", [("", whole)]),
+    ]
+    page = ""
+    for name, kind, said, numbers in metrics:
+        page += f"# HELP panel3270_{name} {said}\n# TYPE panel3270_{name} {kind}\n"
+        page += "".join(f"panel3270_{name}{labels} {number}\n" for labels, number in numbers)
+    return page
+
+
+def response(status, body="", allow=""):
+    fields = f"{allow}Content-Type: text/plain; version=0.0.4; charset=utf-8\r\nContent-Length: {len(body)}\r\nConnection: close\r\n\r\n"
+    return f"HTTP/1.1 {status}\r\n{fields}{body}"
+
+
+def all_read(*clients):
+    """The bytes that clients sent and read, once they read what comes in a twentieth of a second, IAC NOP."""
+    for it in clients:
+        while select.select([it.socket], [], [], 0.05)[0] and it.more():
+            pass
+    return {"received": sum(it.sent for it in clients), "sent": sum(it.received for it in clients)}
+
+
+def has_counted(host, **numbers):
+    wanted = response("200 OK", metrics_page(**numbers))
+    with contextlib.suppress(Difference):
+        until("metrics", lambda: scraped(host.metrics, GET).decode() == wanted)
+    expect("metrics", scraped(host.metrics, GET).decode().splitlines(), wanted.splitlines())
+
+
+@check
+def metrics_count_what_happened():
+    """Each connection, end, rejection, screen and byte is counted once; a whole screen has as many bytes as the first one."""
+    with metered() as host:
+        has_counted(host)
+        first = host.client().signs_on("PNL01")
+        second = host.client()
+        second.is_asked()
+        second.asks_for("PNL01")
+        second.hears(DEVICE_IN_USE)
+        first.enters()
+        first.enters()
+        whole = 3 * len(FIRST_WRITE)
+        numbers = {"total": 2, "rejected": ("DEVICE-IN-USE",), "turns": 2, "paints": 3, "whole": whole}
+        has_counted(host, now=2, **numbers, **all_read(first, second))
+        first.ends()
+        second.says(bytes.fromhex("FF FA 28 FF 00"))
+        second.hears_the_end()
+        has_counted(host, lost=1, closed=("Wire",), **numbers, **all_read(first, second))
+
+
+@check
+def metrics_count_who_is_dropped():
+    """A connection that stalls in its negotiation, one that is idle, and one for which no number is free are counted as such."""
+    with metered("--negotiate", "1", "--idle", "2") as host:
+        stalled = host.client()
+        stalled.hears(DO)
+        idle = host.client().signs_on("PNL01")
+        stalled.hears_the_end()
+        idle.hears_the_end()
+        has_counted(host, total=2, idle=1, no_agreement=1, paints=1, whole=len(FIRST_WRITE), **all_read(stalled, idle))
+    with metered() as host:
+        many = [host.client() for _ in range(MOST_CONNECTIONS)]
+        for it in many:
+            it.hears(DO)
+        host.client().hears_the_end()
+        sent = sum(it.received for it in many)
+        has_counted(host, now=MOST_CONNECTIONS, total=MOST_CONNECTIONS, turned_away=1, sent=sent)
+
+
+@check
+def each_request_has_its_answer():
+    """GET /metrics is answered with the page, with a query and by HTTP/1.0 too; other paths, methods and bytes by their status."""
+    long = b"GET /metrics HTTP/1.1\r\nX: " + b"x" * 4096
+    page = response("200 OK", metrics_page())
+    answers = [
+        (page, GET),
+        (page, b"GET /metrics?name[]=x HTTP/1.1\r\n\r\n"),
+        (page, b"GET /metrics HTTP/1.0\r\n\r\n"),
+        (page, b"\r\nGET /metrics HTTP/1.1\nHost: x\n\n"),
+        (response("404 Not Found"), b"GET / HTTP/1.1\r\n\r\n"),
+        (response("404 Not Found"), b"GET /metricsx HTTP/1.1\r\n\r\n"),
+        (response("404 Not Found"), b"GET /metrics/ HTTP/1.1\r\n\r\n"),
+        (response("405 Method Not Allowed", allow="Allow: GET\r\n"), b"POST /metrics HTTP/1.1\r\nContent-Length: 3\r\n\r\nabc"),
+        (response("405 Method Not Allowed", allow="Allow: GET\r\n"), b"HEAD /metrics HTTP/1.1\r\n\r\n"),
+        (response("400 Bad Request"), b"\xff\xfb\x28"),
+        (response("400 Bad Request"), b"GET /metrics\r\n\r\n"),
+        (response("400 Bad Request"), b"GET /metrics HTTP/2.0\r\n\r\n"),
+        (response("431 Request Header Fields Too Large"), long),
+        (response("431 Request Header Fields Too Large"), long * 20),
+        (response("431 Request Header Fields Too Large"), b"GET /metrics HTTP/1.1\r\n" + b"a:b\r\n" * 65 + b"\r\n"),
+    ]
+    with metered() as host:
+        for wanted, sent in answers:
+            expect(f"the answer to {sent[:40]!r}", scraped(host.metrics, sent).decode(), wanted)
+        slow = [bytes([it]) for it in GET]
+        expect("the answer to a slow client", scraped(host.metrics, *slow, pause=0.02).decode(), page)
+
+
+@check
+def clients_of_the_metrics_port_harm_nobody():
+    """Clients that send nothing, or don't close, are dropped after five seconds; of many at once four are kept; terminals are served."""
+    with metered() as host:
+        terminal = host.client().signs_on("PNL01")
+        silent = [socket.create_connection((LOCALHOST, host.metrics), PATIENCE) for _ in range(100)]
+        began = time.monotonic()
+        silent[0].sendall(GET)
+        silent[1].sendall(GET[:20])
+        silent[2].sendall(b"x" * 100)
+        terminal.enters()
+        times = []
+        for it in silent:
+            with contextlib.suppress(ConnectionError):
+                while it.recv(1 << 16):
+                    pass
+            times.append(time.monotonic() - began)
+            it.close()
+        terminal.enters()
+        if times[0] > 3 or not 4 < times[3] < 8 or times[-1] > 8:
+            raise Difference("clients of the metrics port are dropped after 5 seconds", f"after {[round(it, 1) for it in times]}")
+        expect("metrics", scraped(host.metrics, GET)[:15], b"HTTP/1.1 200 OK")
+        terminal.ends()
+
+
+@check
+def it_answers_with_metrics_at_127_0_0_1_alone():
+    """No other address answers with metrics; a port that another program has ends the run with status 4."""
+    with metered("--listen", "0.0.0.0") as host:
+        for address in ("127.0.0.2", "127.255.255.254"):
+            with socket.socket() as it:
+                expect(address, it.connect_ex((address, host.metrics)) != 0, True)
+    with socket.create_server((LOCALHOST, 0)) as taken:
+        port = taken.getsockname()[1]
+        said = run(["serve", "--port", free_port(), "--metrics", port], panels("PNL01"))
+    expect("serve", said, (4, "", f"cannot listen on {LOCALHOST}:{port}: address in use\n"))

@@ -1,0 +1,268 @@
+"""The operator's live terminal, bin/operate, on ttys of their own.
+
+A check is the operator: it types bytes, as xterm, tmux and the Linux console send them, and looks at the screen. The host is `serve`, or a
+socket of the check itself."""
+import os
+import signal
+import subprocess
+import time
+
+from harness import programs
+from harness.case import Checks, expect
+from harness.hosts import DEVICE_IN_USE, DO, FUNCTIONS_IS, LOCALHOST, PATIENCE, SEND_TYPE, WILL, device_type, free_port
+from harness.tty import BACK_TAB, CLEAR, ENTER, HOME, Host, INSERT, LEFT, Operator, QUIT, REDRAW, RESET, SCRIPT, SIGNALS, TAB, bound, serve_bank
+
+check = Checks()
+cases = check.cases
+
+
+def run_alone(*words):
+    """The status of a run without a tty, and what it printed on its two outputs."""
+    done = subprocess.run(words, stdin=subprocess.DEVNULL, capture_output=True, timeout=PATIENCE, check=False)
+    return done.returncode, done.stdout.decode(), done.stderr.decode()
+
+
+@check
+def an_operator_works_at_the_bank():
+    """Signs on, is refused and noted, fills in a form, sends it, and ends."""
+    with serve_bank() as host, Operator(host.port) as operator:
+        operator.sees("FIRST NATIONAL BANK")
+        operator.has_status("connected", "BANK01", "005/030")
+        operator.types("A")
+        operator.has_status("connected", "X", "NUMERIC", "BANK01", "005/030")
+        operator.types(RESET, "4711", TAB, "SECRET", BACK_TAB, BACK_TAB, TAB, ENTER)
+        operator.sees("TRANSFER OF FUNDS")
+        expect("a hidden field is shown", "SECRET" in operator.screen.text(), False)
+        operator.types(ENTER)
+        operator.sees("REQUIRED")
+        operator.types(b"\x1b[15~")
+        operator.sees("KEY NOT ACTIVE")
+        operator.types(HOME, "1234567890", "9876543210", "150.00", ENTER)
+        operator.sees("TRANSFER DONE")
+        operator.sees("150.00")
+        operator.types(QUIT)
+        operator.ends(0)
+
+
+@check
+def refusals_are_told():
+    """The status row says why a key was refused, and in insert mode; no key is kept for later."""
+    with bound() as (operator, host):
+        operator.types("AB", LEFT, LEFT, LEFT, LEFT, "C")
+        operator.has_status("connected", "X", "PROTECTED", "PNL01", "001/003")
+        operator.types("D", ENTER, TAB)
+        operator.has_status("connected", "X", "PROTECTED", "PNL01", "001/003")
+        operator.types(RESET, TAB, INSERT)
+        operator.has_status("connected", "^", "PNL01", "001/005")
+        operator.types("XYZ1")
+        operator.has_status("connected", "^", "PNL01", "001/009")
+        operator.types("2")
+        operator.has_status("connected", "X", "NO", "ROOM", "^", "PNL01", "001/009")
+        operator.types(RESET, "Ā")
+        operator.has_status("connected", "X", "NO", "CODE", "PNL01", "001/009")
+        operator.types(TAB, "A")
+        operator.has_status("connected", "X", "NUMERIC", "PNL01", "001/012")
+        expect("a row", operator.screen.line(0), " HI XYZ1AB")
+        host.hears_nothing(0.1)
+
+
+@check
+def a_terminal_that_waits_takes_no_key():
+    """What is typed while the host works is gone."""
+    with bound() as (operator, host):
+        operator.types("A", ENTER)
+        # Number 0: Enter, the cursor at 5, and the field from 4 on.
+        host.hears(bytes.fromhex("00 00 00 00 00 7D 40 C5 11 40 C4 C1 FF EF"))
+        operator.has_status("connected", "X", "SYSTEM", "PNL01", "001/006")
+        operator.types("BC", ENTER, RESET, "D", CLEAR)
+        host.hears_nothing(0.1)
+        expect("a row", operator.screen.line(0), " HI A")
+        # Write, number 1, which restores the keyboard.
+        host.says(bytes.fromhex("00 00 02 00 01 F1 C3 FF EF"))
+        host.hears(bytes.fromhex("02 00 00 00 01 00 FF EF"))
+        operator.has_status("connected", "PNL01", "001/006")
+        expect("a row", operator.screen.line(0), " HI A")
+        operator.types("E")
+        operator.until("a character is typed", lambda screen: screen.line(0) == " HI AE")
+        host.hears_nothing(0.1)
+
+
+@check
+def fields_have_their_looks():
+    """Protected bright fields are white, unprotected ones green and underlined."""
+    with bound() as (operator, _):
+        operator.types("A")
+        operator.until("a character is typed", lambda screen: screen.line(0) == " HI A")
+        looks = operator.screen.looks[0]
+        expect("the looks of a row", (looks[1], looks[4], looks[5]), ("0;34", "0;4;32", "0;4;32"))
+
+
+@check
+def the_screen_is_drawn_again():
+    """Ctrl-L draws the whole screen, whatever was written there."""
+    with bound() as (operator, _):
+        operator.screen.erase()
+        operator.types("A")
+        operator.until("a character is typed", lambda screen: screen.cells[0][4] == "A")
+        expect("a row", operator.screen.line(0), "    A")
+        operator.types(REDRAW)
+        operator.until("the screen is drawn", lambda screen: screen.line(0) == " HI A")
+        operator.has_status("connected", "PNL01", "001/006")
+
+
+@check
+def keys_may_come_in_pieces():
+    """A sequence that comes in two pieces at once is one key."""
+    with bound() as (operator, _):
+        operator.types("AB" + "\x1b[D\x1b[D" + "C")
+        operator.until("a character is typed", lambda screen: screen.line(0) == " HI CB")
+
+
+@check
+def a_lost_host_is_connected_again():
+    """The status row says that the host is gone; Enter connects again, when the host is back."""
+    port = free_port()
+    with serve_bank(port):
+        operator = Operator(port)
+        operator.__enter__()
+        operator.sees("FIRST NATIONAL BANK")
+    try:
+        operator.has_status("not", "connected", "X", "SYSTEM", "Enter", "connects", "005/030")
+        operator.sees("FIRST NATIONAL BANK")
+        operator.types("4", ENTER)
+        # The last screen stays until the host takes a new connection.
+        time.sleep(0.5)
+        operator.has_status("not", "connected", "X", "SYSTEM", "Enter", "connects", "005/030")
+        operator.sees("FIRST NATIONAL BANK")
+        with serve_bank(port):
+            operator.types(ENTER)
+            operator.has_status("connected", "BANK01", "005/030")
+            operator.types("4711")
+            operator.sees("TELLER NUMBER       4711")
+            operator.types(QUIT)
+            operator.ends(0)
+    finally:
+        operator.__exit__()
+
+
+@check
+def without_a_host_it_ends():
+    """If nothing listens, a line says so, with host, port and reason, and status 4."""
+    port = free_port()
+    with Operator(port) as operator:
+        operator.ends(4, f"cannot connect to {LOCALHOST}:{port}: connection refused")
+
+
+@check
+def options_are_passed_on():
+    """The script passes the program its options, in any order, and the program says which it doesn't know."""
+    for words in (("--lu", "PNL01", "--model=3"), ("--model", 3, "--lu=PNL01")):
+        with Host() as host, Operator(*words, host.port, rows=33) as operator:
+            host.accepts()
+            host.says(DO, SEND_TYPE)
+            host.hears(WILL, device_type(7, "PNL01", "IBM-3278-3"))
+            operator.types(QUIT)
+            operator.ends(0)
+    with Operator("--modle", 3, 3270) as operator:
+        operator.ends(2, "error: unexpected word '--modle' (did you mean '--model'?)", "For more information, try 'panel3270 help operate'.")
+    with Operator("--port", 80) as operator:
+        operator.ends(2, "error: invalid value '80' for '--port'", "For more information, try 'panel3270 help operate'.")
+    status, out, said = run_alone(SCRIPT, "--help")
+    expect("bin/operate --help", (status, out.splitlines()[0], said), (0, "usage: panel3270 operate --port P [--lu NAME] [--model M] [--raw ROWSxCOLUMNS]", ""))
+
+
+@check
+def a_refused_lu_is_told():
+    """A refused LU is said in one line, with status 4."""
+    with serve_bank() as host, Operator(host.port, "NOSUCH") as operator:
+        operator.ends(4, "the host refused an LU: INV-NAME")
+    with Host() as host, Operator(host.port, "PNL01") as operator:
+        host.accepts()
+        host.says(DO, SEND_TYPE)
+        host.hears(WILL, device_type(7, "PNL01"))
+        host.says(DEVICE_IN_USE)
+        operator.ends(4, "the host refused an LU: DEVICE-IN-USE")
+
+
+@check
+def a_host_that_ends_early_is_told():
+    """A host that ends the connection before a session, or breaks the protocol, is said in one line, with status 4."""
+    with Host() as host, Operator(host.port) as operator:
+        host.accepts()
+        host.socket.close()
+        operator.ends(4, "the host ended the connection")
+    with Host() as host, Operator(host.port) as operator:
+        host.accepts()
+        # DONT TN3270E.
+        host.says(DO, bytes.fromhex("FF FE 28"))
+        operator.ends(4, "the host broke the protocol: NoTn3270e")
+
+
+@check
+def signals_restore_the_tty():
+    """After TERM, INT and HUP the tty is as before, and so it is if the program is killed."""
+    for number in SIGNALS:
+        with bound() as (operator, _):
+            os.kill(operator.process.pid, number)
+            operator.ends(128 + number)
+    with bound() as (operator, _):
+        os.kill(operator.program(), signal.SIGTERM)
+        operator.ends(128 + signal.SIGTERM)
+    with bound() as (operator, _):
+        os.kill(operator.program(), signal.SIGKILL)
+        operator.ends(128 + signal.SIGKILL)
+
+
+@check
+def a_program_that_was_stopped_goes_on():
+    """After STOP and CONT it works on."""
+    with bound() as (operator, _):
+        it = operator.program()
+        os.kill(it, signal.SIGSTOP)
+        time.sleep(0.05)
+        os.kill(it, signal.SIGCONT)
+        operator.types("A")
+        operator.until("a character is typed", lambda screen: screen.line(0) == " HI A")
+
+
+@check
+def a_tty_that_is_too_small_is_told():
+    """A tty without room for the screens of the model and the status row is said in one line, with status 2."""
+    port = free_port()
+    with Operator(port, rows=24) as operator:
+        operator.ends(2, "the tty has 24 rows of 80 columns, and the screen needs 25 rows of 80")
+    with Operator("--model", 5, port, rows=50, columns=131) as operator:
+        operator.ends(2, "the tty has 50 rows of 131 columns, and the screen needs 28 rows of 132")
+
+
+@check
+def each_model_has_its_size():
+    """A terminal of each model is shown the panels of its size."""
+    for model, rows, columns in ((2, 25, 80), (3, 33, 80), (4, 44, 80), (5, 28, 132)):
+        with Host() as host, Operator("--model", model, host.port, rows=rows, columns=columns) as operator:
+            host.accepts()
+            host.says(DO, SEND_TYPE)
+            host.hears(WILL, device_type(7, None, f"IBM-3278-{model}"))
+            host.says(device_type(4, "PNL01", f"IBM-3278-{model}"), FUNCTIONS_IS)
+            # Erase/Write Alternate: `HI` from 1 on; it restores the keyboard.
+            host.says(bytes.fromhex("00 00 02 00 00 7E C3 11 40 40 1D 40 C8 C9 FF EF"))
+            operator.until("the screen is drawn", lambda screen: screen.line(0).strip() == "HI")
+            operator.until("the status row", lambda screen: screen.line(rows - 1).split()[:2] == ["connected", "PNL01"])
+
+
+@check
+def serve_says_that_it_reads_a_tty():
+    """`serve` without a file, at a tty, says what it waits for; Ctrl-D ends the panel text."""
+    with Operator("serve", "--port", free_port(), command=[programs.panel3270()]) as operator:
+        operator.sees("reading panels from standard input; end with Ctrl-D, or give --panels FILE")
+        operator.types(b"\x04")
+        operator.until("the panel text is refused", lambda screen: "standard input:1: missing key 'start'" in screen.text())
+
+
+@check
+def it_says_how_it_is_started():
+    """Without a tty in raw mode a line says how the program is started, with status 2; and so does the script without a tty."""
+    said = run_alone(programs.panel3270(), "operate", "--port", "3270")
+    expect("operate", said, (2, "", "operate needs a tty in raw mode: start it by bin/operate PORT [LU]\n"))
+    for words, line in ((["3270"], "standard input and output must be a tty"), ([], "usage: bin/operate [OPTION ..] PORT [LU]"), (["1", "A", "B"], "usage: bin/operate [OPTION ..] PORT [LU]")):
+        expect("bin/operate", run_alone(SCRIPT, *words), (2, "", line + "\n"))

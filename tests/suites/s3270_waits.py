@@ -1,0 +1,223 @@
+"""Sessions of s3270 behind a proxy that delays what passes, whose operator presses Reset at some point of the wait.
+
+The expected screens are what examples/bank.toml has at its rows and columns, that is those of an operator who waits; only in fields that
+are kept is what was typed in the wait. They take about a minute and a half."""
+import contextlib
+import functools
+import itertools
+import queue
+import re
+import shutil
+import socket
+import subprocess
+import threading
+import time
+import tomllib
+
+from harness import hosts
+from harness.case import TOP, Case, Difference, NotHere, Place, expect, of_function, relative
+
+LONG = True
+# The time from an end to the other, in seconds, while a key is answered. The first of them all is that of a slow line.
+DELAY, SLOW = 0.35, 1.5
+# How many cases are run at once.
+THREADS = 8
+
+
+class Proxy:
+    """Hands on what each side of a connection sends, after a delay that can be changed, and in order."""
+
+    def __init__(self, port):
+        self.delay, self.to = 0, port
+        self.came, self.went = {"up": 0, "down": 0}, {"up": 0, "down": 0}
+        self.listener = socket.create_server((hosts.LOCALHOST, 0))
+        self.port = self.listener.getsockname()[1]
+        threading.Thread(target=self.serve, daemon=True).start()
+
+    def serve(self):
+        with contextlib.suppress(OSError):
+            terminal, _ = self.listener.accept()
+            host = socket.create_connection((hosts.LOCALHOST, self.to))
+            for way, one, other in (("up", terminal, host), ("down", host, terminal)):
+                other.setsockopt(socket.IPPROTO_TCP, socket.TCP_NODELAY, 1)
+                pieces = queue.Queue()
+                threading.Thread(target=self.takes, args=(way, one, pieces), daemon=True).start()
+                threading.Thread(target=self.hands_on, args=(way, other, pieces), daemon=True).start()
+
+    def takes(self, way, one, pieces):
+        piece = b"-"
+        while piece:
+            piece = b""
+            with contextlib.suppress(OSError):
+                piece = one.recv(1 << 16)
+            self.came[way] += len(piece)
+            pieces.put((time.monotonic() + self.delay, piece))
+
+    def hands_on(self, way, other, pieces):
+        with contextlib.suppress(OSError):
+            while True:
+                due, piece = pieces.get()
+                time.sleep(max(0, due - time.monotonic()))
+                other.sendall(piece) if piece else other.shutdown(socket.SHUT_WR)
+                self.went[way] += len(piece)
+
+    def settles(self):
+        """Waits until nothing is under way, and nothing more comes."""
+        end, quiet, before = time.monotonic() + hosts.PATIENCE, time.monotonic(), None
+        while time.monotonic() < min(end, quiet + 0.25):
+            now = (*self.came.values(), *self.went.values())
+            if now != before or self.came != self.went:
+                quiet, before = time.monotonic(), now
+            time.sleep(0.01)
+
+
+class Operator:
+    """An s3270 of a model that connects by a proxy, until the check is over."""
+
+    def __init__(self, model, proxy):
+        self.proxy = proxy
+        words = ["s3270", "-utf8", "-model", f"3278-{model}", "-clear", "aidWait", "-clear", "unlockDelay"]
+        self.process = subprocess.Popen(words, stdin=subprocess.PIPE, stdout=subprocess.PIPE, stderr=subprocess.DEVNULL, text=True)
+        self.does(f"Connect(127.0.0.1:{proxy.port})", "Wait(InputField)")
+
+    def __enter__(self):
+        return self
+
+    def __exit__(self, *_):
+        self.process.kill()
+        self.process.communicate()
+
+    def does(self, *actions):
+        """The lines of data that the last one of these actions prints."""
+        for action in actions:
+            self.process.stdin.write(action + "\n")
+            self.process.stdin.flush()
+            lines = [self.process.stdout.readline().rstrip("\n")]
+            while lines[-1] not in ("ok", "error", ""):
+                lines.append(self.process.stdout.readline().rstrip("\n"))
+            if lines[-1] != "ok":
+                raise Difference(f"s3270 answers ok to {action}", str(lines))
+        return [it.removeprefix("data: ").rstrip() for it in lines[:-2]]
+
+    def fills_in(self, panel, texts):
+        """Types the texts into these fields of a panel; the cursor ends behind the last."""
+        for name, text in texts.items():
+            self.does(at(panel, name), "EraseEOF", f'String("{text}")')
+
+
+# ---- the screens of the bank
+
+BANK = (TOP / "examples/bank.toml").read_text()
+PANELS = {it["name"]: it for it in tomllib.loads(BANK)["panel"]}
+SIZES = {2: (24, 80), 3: (32, 80), 4: (43, 80), 5: (27, 132)}
+TELLER, ACCOUNTS = {"teller": "123456", "password": "SECRET"}, {"from_account": "1000200030", "to_account": "1000200044"}
+FILLED_IN = {**ACCOUNTS, "amount": "150.00"}
+
+
+def bank_for(model):
+    """The bank's panels as those of a model, whose larger size they have."""
+    if model == 2:
+        return BANK.encode()
+    text = re.sub(r'(?m)^(name = "[A-Z]+")$', rf'\1\nmodel = {model}\notherwise = "PLAIN"', BANK)
+    return (text + '\n[[panel]]\nname = "PLAIN"\n').encode()
+
+
+def at(panel, name):
+    """The action that moves to a field's first cell."""
+    field = next(it for it in PANELS[panel]["field"] if it["name"] == name)
+    return f"MoveCursor({field['row'] - 1},{field['col'] - 1})"
+
+
+def screen(model, panel, shown, fields=None, message=""):
+    """The rows of a panel: its texts and the values that they show, its fields with these texts, else their fills, and the message."""
+    rows = [""] * SIZES[model][0]
+    texts = [(it["row"], it["col"], it.get("text") or shown.get(it["show"], "")) for it in PANELS[panel]["text"]]
+    texts += [(it["row"], it["col"], (fields or {}).get(it["name"], it.get("fill", ""))) for it in PANELS[panel].get("field", ())]
+    for row, column, text in sorted([*texts, (len(rows), 2, message)]):
+        rows[row - 1] = (rows[row - 1].ljust(column - 1) + text).rstrip()
+    return rows
+
+
+def sees(what, operator, wanted):
+    """The operator sees these rows."""
+    rows = operator.does("Ascii()")
+    differ = [f"row {row}: {it!r}, in place of {other!r}" for row, (it, other) in enumerate(zip(rows, wanted), 1) if it != other]
+    expect(f"{what}, the number of rows", len(rows), len(wanted))
+    if differ:
+        raise Difference(f"{what}: the rows of the panel", "; ".join(differ))
+
+
+# ---- what is done in the wait
+
+TYPED = "AMOUNT 9999.00"
+# Each is some actions behind Reset, and what they make of the fields of TRANSFER: where these are kept, they stay so.
+DONE_IN_THE_WAIT = {
+    "types into an empty field": ([at("TRANSFER", "reference"), f'String("{TYPED}")'], lambda it: {**it, "reference": TYPED}),
+    "types over the amount": ([at("TRANSFER", "amount"), "EraseEOF", 'String("9999.00")'], lambda it: {**it, "amount": "9999.00"}),
+    "erases the input": (["EraseInput"], lambda it: dict.fromkeys([*FILLED_IN, "reference"], "")),
+    "erases a field": ([at("TRANSFER", "to_account"), "EraseEOF"], lambda it: {**it, "to_account": ""}),
+    "deletes a digit": ([at("TRANSFER", "from_account"), "Delete"], lambda it: {**it, "from_account": it["from_account"][1:]}),
+}
+# Behind the first of these a second key may be pressed, which is dropped.
+IN_THE_WAIT = [(it, ()) for it in DONE_IN_THE_WAIT] + [("types into an empty field", (it,)) for it in ("Enter", "PF(3)", "PA(1)")]
+# The first key, which fields are empty then, and at how many points of its wait something is done: at once; when the host has its record,
+# so that what the host sends is under way; and of a key for which the host reads the screen when that read is there, and when its answer is.
+KEYS = {"Enter": ("Enter", (), 2), "Enter, without an amount,": ("Enter", ("amount",), 2), "PA1": ("PA(1)", (), 4)}
+MESSAGES = {"Enter, without an amount,": "REQUIRED: amount", "PA1": "KEY NOT ACTIVE"}
+
+
+def reaches(proxy, point, before):
+    """Waits for a point of the wait: how many records have gone, up and down in turn, since the key was pressed."""
+    went = dict(before)
+    for way in itertools.islice(itertools.cycle(("up", "down")), point):
+        hosts.until(f"point {point} of the wait", lambda: proxy.went[way] > went[way])
+        # What comes next is what the other end answers to this.
+        went[way] = proxy.went[way]
+
+
+def in_the_wait(model, key, point, what, second, delay=DELAY):
+    """An operator who presses Reset at a point of the wait, and then changes fields and presses a key, sees what one who waits sees."""
+    action, empty, _ = KEYS[key]
+    actions, change = DONE_IN_THE_WAIT[what]
+    shown = {**TELLER, **FILLED_IN}
+    with hosts.Server("serve", text=bank_for(model)) as host, Operator(model, Proxy(host.port)) as operator:
+        proxy = operator.proxy
+        operator.fills_in("SIGNON", TELLER)
+        operator.does("Enter", "Wait(Unlock)")
+        sees("TRANSFER", operator, screen(model, "TRANSFER", shown))
+        texts = {**FILLED_IN, **dict.fromkeys(empty, "")}
+        operator.fills_in("TRANSFER", texts)
+        operator.does(at("TRANSFER", "reference"))
+        proxy.settles()
+        proxy.delay, before = delay, dict(proxy.went)
+        operator.does(action)
+        reaches(proxy, point, before)
+        operator.does("Reset", *actions, *second)
+        proxy.settles()
+        proxy.delay = 0
+        if key in MESSAGES:
+            sees("the same panel", operator, screen(model, "TRANSFER", shown, change(texts), MESSAGES[key]))
+            operator.fills_in("TRANSFER", FILLED_IN)
+            operator.does("Enter", "Wait(Unlock)")
+        sees("DONE", operator, screen(model, "DONE", shown))
+        operator.does("Enter", "Wait(Unlock)")
+        sees("the next panel", operator, screen(model, "TRANSFER", shown))
+        dropped = host.logged().count("event=key-dropped")
+        expect("keys that the log says were dropped", dropped, len(second))
+
+
+def the_fault_that_was_seen():
+    """On a slow line a transfer is filled in, Enter and Reset are pressed, and a text is typed where the cursor is."""
+    in_the_wait(2, "Enter", 0, "types into an empty field", (), SLOW)
+
+
+def cases():
+    """The dialogues, if s3270 is installed."""
+    if not shutil.which("s3270"):
+        raise NotHere("s3270 isn't installed (apt-get install s3270)")
+    yield of_function(the_fault_that_was_seen)
+    for model, (key, (_, _, points)), (what, second) in itertools.product(SIZES, KEYS.items(), IN_THE_WAIT):
+        for point in range(points):
+            name = f"model {model}: {key} is pressed; at point {point} an operator {what}" + "".join(f", then presses {it}" for it in second)
+            run = functools.partial(in_the_wait, model, key, point, what, second)
+            yield Case(name, Place(relative(__file__), in_the_wait.__code__.co_firstlineno), run)
