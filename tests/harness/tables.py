@@ -1,8 +1,9 @@
 """Tables of commands of the probe and their answers, `COMMAND = ANSWER` a line.
 
-The lines of an answer are joined by `; `; an answer without lines is `()`. On both sides a word with a quote, `*` or `+` stands for bytes:
-the pieces between `+`, each pairs of hexadecimal digits, PAIRS*N, or "TEXT". In a file of rows each line is a case. In a file of blocks a
-case is a line `case NAME` and the rows below it, which one probe answers in order.
+The lines of an answer are joined by `; `; an answer without lines is `()`. On both sides a word with a quote, `*` or
+`+` stands for bytes: the pieces between `+`, each pairs of hexadecimal digits, PAIRS*N, or "TEXT". In a file of rows
+each line is a case. In a file of blocks a case is a line `case NAME` and the rows below it, which one probe answers in
+order.
 """
 import functools
 import pathlib
@@ -33,11 +34,12 @@ def spelt(line: Line, text: str) -> str:
 
 
 def named(answer: str) -> str:
-    """An answer with the names of LUs in place of their letters, and with other lists of bytes in hexadecimal digits."""
+    """An answer with the names of LUs in place of their letters, and other lists of bytes in hexadecimal digits."""
     def listed(numbers: str) -> bytes:
         return bytes(map(int, numbers.split(", "))) if numbers else b""
 
-    answer = re.sub(r"Lu \{ letters: \[([\d, ]*)\], size: (\d+) \}", lambda lu: listed(lu[1])[: int(lu[2])].decode(), answer)
+    lu = r"Lu \{ letters: \[([\d, ]*)\], size: (\d+) \}"
+    answer = re.sub(lu, lambda found: listed(found[1])[: int(found[2])].decode(), answer)
     return re.sub(r"\[([\d, ]*)\]", lambda found: hexadecimal(listed(found[1])), answer)
 
 

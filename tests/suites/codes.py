@@ -9,14 +9,16 @@ from harness.probe import Probe
 from harness.tables import rows
 
 # The graphic codes of six-bit values, in their order: the first and the last of each run.
-RUNS = ((0x40, 0x40), (0xC1, 0xC9), (0x4A, 0x4F), (0x50, 0x50), (0xD1, 0xD9), (0x5A, 0x5F), (0x60, 0x61), (0xE2, 0xE9), (0x6A, 0x6F),
-        (0xF0, 0xF9), (0x7A, 0x7F))
+RUNS = ((0x40, 0x40), (0xC1, 0xC9), (0x4A, 0x4F), (0x50, 0x50), (0xD1, 0xD9), (0x5A, 0x5F), (0x60, 0x61), (0xE2, 0xE9),
+        (0x6A, 0x6F), (0xF0, 0xF9), (0x7A, 0x7F))
 GRAPHIC = [code for first, last in RUNS for code in range(first, last + 1)]
 # The rows and columns of each model's alternate size.
 SIZES = {2: (24, 80), 3: (32, 80), 4: (43, 80), 5: (27, 132)}
 CELLS = {model: height * width for model, (height, width) in SIZES.items()}
-PF = {number: code for number, code in enumerate([*range(0xF1, 0xFA), *range(0x7A, 0x7D), *range(0xC1, 0xCA), *range(0x4A, 0x4D)], 1)}
-KEYS = {0x60: "NoAid", 0x7D: "Enter", 0x6D: "Clear", 0x6C: "PA1", 0x6E: "PA2", 0x6B: "PA3", **{code: f"PF{n}" for n, code in PF.items()}}
+PF = dict(enumerate([*range(0xF1, 0xFA), *range(0x7A, 0x7D), *range(0xC1, 0xCA), *range(0x4A, 0x4D)], 1))
+PA = {1: 0x6C, 2: 0x6E, 3: 0x6B}
+KEYS = {0x60: "NoAid", 0x7D: "Enter", 0x6D: "Clear"}
+KEYS |= {code: f"PF{number}" for number, code in PF.items()} | {code: f"PA{number}" for number, code in PA.items()}
 DISPLAYS = ("Normal", "Detectable", "Bright", "Hidden")
 # The control codes that a cell can hold; FF is one.
 STORED_CONTROLS = {0x00, 0x0C, 0x0D, 0x15, 0x19, 0x1C, 0x1E, 0x3F, 0xFF}
@@ -59,7 +61,8 @@ def truths(*parts: object) -> str:
 def each_six_bit_value_has_its_code() -> None:
     same(64, len(set(GRAPHIC)))
     check((f"address 5 {value}", f"{value} 40{code:02X}") for value, code in enumerate(GRAPHIC))
-    check((f"address 5 {value * 64}", f"{value * 64} {code:02X}40") for value, code in enumerate(GRAPHIC) if value * 64 < CELLS[5])
+    high = ((value * 64, code) for value, code in enumerate(GRAPHIC) if value * 64 < CELLS[5])
+    check((f"address 5 {at}", f"{at} {code:02X}40") for at, code in high)
 
 
 def each_address_is_written_in_twelve_bits() -> None:
@@ -119,7 +122,7 @@ def each_byte_is_read_as_an_attention_identifier() -> None:
     same(30, len(KEYS))
     check(of_bytes("aid", key))
     check((f"pf {number}", key(PF[number]) if number in PF else "none") for number in range(256))
-    check((f"pa {number}", key((0x6C, 0x6E, 0x6B)[number - 1]) if number in (1, 2, 3) else "none") for number in range(256))
+    check((f"pa {number}", key(PA[number]) if number in PA else "none") for number in range(256))
 
 
 def cells_hold_the_listed_bytes() -> None:
@@ -133,7 +136,8 @@ def the_code_page_is_the_published_one() -> None:
     same(bytes(LATIN).decode("cp037"), CODE_PAGE_037)
     check(of_bytes("latin", lambda byte: str(ord(LATIN[byte])) if byte in LATIN else "none"))
     code_of = {ord(character): f"{code:02X}" for code, character in LATIN.items()}
-    check((f"code {number}", code_of.get(number, "none")) for number in [*range(0x3000), 0xD7FF, 0xE000, 0xFFFF, 0x10FFFF])
+    numbers = (*range(0x3000), 0xD7FF, 0xE000, 0xFFFF, 0x10FFFF)
+    check((f"code {number}", code_of.get(number, "none")) for number in numbers)
 
 
 def cases() -> Iterator[Case]:

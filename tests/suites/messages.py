@@ -6,8 +6,9 @@ import string
 from collections.abc import Iterable, Iterator
 
 from harness.case import CASES, Case, of_functions, same
+from harness.data import lines_of
 from harness.probe import Probe
-from harness.tables import hexadecimal, named, rows
+from harness.tables import hexadecimal, named, row_of, rows
 
 TYPES = ("Data3270", "ScsData", "Response", "BindImage", "Unbind", "NvtData", "Request", "SscpLuData")
 # The highest RESPONSE-FLAG of the types that haven't each.
@@ -28,10 +29,12 @@ def check(wanted: Iterable[tuple[str, str]]) -> None:
 
 
 def header(kind: int, flag: int) -> tuple[str, str]:
-    bytes_ = bytes([kind, 9, flag, 128, kind])
+    spelling = bytes([kind, 9, flag, 128, kind])
     name = TYPES[kind] if kind < 8 else f"Unnamed({kind})"
-    read = f"Header {{ kind: {name}, request: 9, flag: {flag}, seq: {128 * 256 + kind} }}; bytes {hexadecimal(bytes_)}; body F1"
-    return f"header {hexadecimal(bytes_)}F1", read if flag <= HIGHEST.get(kind, 255) else "response flag out of range"
+    if flag > HIGHEST.get(kind, 255):
+        return f"header {hexadecimal(spelling)}F1", "response flag out of range"
+    fields = f"kind: {name}, request: 9, flag: {flag}, seq: {128 * 256 + kind}"
+    return f"header {hexadecimal(spelling)}F1", f"Header {{ {fields} }}; bytes {hexadecimal(spelling)}; body F1"
 
 
 def each_type_takes_its_flags() -> None:
@@ -44,10 +47,12 @@ def each_number_has_its_next() -> None:
 
 def each_byte_is_a_letter_of_a_name_or_none() -> None:
     def name(text: bytes, is_name: bool) -> tuple[str, str]:
-        return f"lu {hexadecimal(text)}", f"bytes {hexadecimal(text.upper())}; {text.upper().decode()}" if is_name else "none"
+        kept = text.upper()
+        return f"lu {hexadecimal(text)}", f"bytes {hexadecimal(kept)}; {kept.decode()}" if is_name else "none"
 
     check(name(bytes([byte]), byte in FIRSTS) for byte in range(256))
-    check(name(b"A" * length + bytes([byte]), byte in LETTERS and length < 8) for byte in range(256) for length in (1, 7, 8))
+    for length in (1, 7, 8):
+        check(name(b"A" * length + bytes([byte]), byte in LETTERS and length < 8) for byte in range(256))
 
 
 def each_byte_may_be_in_a_text_from_21_to_7e() -> None:
@@ -65,8 +70,20 @@ def each_option_but_ours_is_dropped() -> None:
 
 def each_other_word_is_malformed() -> None:
     """SEND, DEVICE-TYPE and FUNCTIONS are followed by what RFC 1647 lists, and nothing else begins a message."""
-    known = {0x0802: "SendType", 0x0204: MALFORMED, 0x0206: MALFORMED, 0x0207: MALFORMED, 0x0304: "FunIs(-)", 0x0307: "FunRequest(-)"}
+    known = {0x0802: "SendType", 0x0304: "FunIs(-)", 0x0307: "FunRequest(-)"}
     check((f"sub 28{words:04X}", known.get(words, MALFORMED)) for words in range(65536))
+
+
+def where_there_is_room_no_memory_is_taken() -> None:
+    written = [(line, row_of(line)) for line in lines_of(CASES / "messages.rows") if "; bytes FFFA" in line.text]
+    same(True, bool(written))
+    with Probe("messages") as probe:
+        for line, (command, answer) in written:
+            spelling = answer.partition("; bytes ")[2]
+            probe.ask(f"out {len(spelling) // 2}")
+            room = probe.ask("room")
+            same(f"bytes {spelling}", probe.ask(command, line.at)[1], line.at)
+            same(room, probe.ask("room"), line.at)
 
 
 def cases() -> Iterator[Case]:
@@ -74,4 +91,5 @@ def cases() -> Iterator[Case]:
     yield from of_functions((
         each_type_takes_its_flags, each_number_has_its_next, each_byte_is_a_letter_of_a_name_or_none,
         each_byte_may_be_in_a_text_from_21_to_7e, each_option_but_ours_is_dropped, each_other_word_is_malformed,
+        where_there_is_room_no_memory_is_taken,
     ))

@@ -1,4 +1,7 @@
-"""The pool of LUs: the stories of tests/cases/pool.blocks, pools of each size, and random requests beside a table of who holds what."""
+"""The pool of LUs: the stories of tests/cases/pool.blocks, the sizes of pools, and random requests.
+
+What is wanted of random requests is answered by a table of who holds what.
+"""
 import functools
 import random
 from collections.abc import Iterator
@@ -52,7 +55,7 @@ class Holders:
 def request(chance: random.Random, holders: Holders) -> tuple[str, str]:
     """A command, and the answer that is wanted."""
     conn = chance.randrange(6)
-    kind = chance.choice(("ask", "ask", "held", "give-back", "free-all") if chance.random() < 0.2 else ("ask", "held", "give-back"))
+    kind = chance.choice(("ask", "ask", "ask", "held", "held", "give-back", "give-back", "free-all"))
     if kind == "ask" and holders.held(conn) == "none":
         name = chance.choice((None, *names(6)))
         return (f'ask {conn} "{name}"' if name else f"ask {conn}"), holders.ask(conn, name)
@@ -80,4 +83,5 @@ def cases() -> Iterator[Case]:
     yield from blocks(CASES / "pool.blocks", "pool")
     yield of_function(a_pool_has_at_most_64_lus)
     at = Place("tests/suites/pool.py", check_random.__code__.co_firstlineno)
-    yield from (Case(f"random requests of seed {seed}", at, functools.partial(check_random, seed)) for seed in range(10))
+    for seed in range(10):
+        yield Case(f"random requests of seed {seed}", at, functools.partial(check_random, seed))

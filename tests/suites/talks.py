@@ -1,4 +1,7 @@
-"""The talks of TN3270E: the stories of tests/cases/talks.blocks, and each item in each state, as RFC 1647, section 7, and our profile have it."""
+"""The talks of TN3270E: the stories of tests/cases/talks.blocks, and each item in each state.
+
+What is wanted in a state is written here as RFC 1647, section 7, and our profile have it.
+"""
 import functools
 from collections.abc import Iterator
 
@@ -33,8 +36,13 @@ OTHERS = {
     "sub -": "-; Nothing",
     "sub 180802": "-; Nothing",
 }
-HOST_ITEMS = {"Wont 28": None, "Dont 28": "-; Nothing", "Do 28": "FFFC28; Opt(Wont, 40)", "Will 28": "-; Nothing", **OTHERS}
-TERMINAL_ITEMS = {"Dont 28": None, "Wont 28": "-; Nothing", "Will 28": "FFFE28; Opt(Dont, 40)", "Do 28": "-; Nothing", **OTHERS}
+# With those about TN3270E itself, of which one closes.
+HOST_ITEMS = OTHERS | {
+    "Wont 28": None, "Dont 28": "-; Nothing", "Do 28": "FFFC28; Opt(Wont, 40)", "Will 28": "-; Nothing",
+}
+TERMINAL_ITEMS = OTHERS | {
+    "Dont 28": None, "Wont 28": "-; Nothing", "Will 28": "FFFE28; Opt(Dont, 40)", "Do 28": "-; Nothing",
+}
 
 
 def closes(cause: str) -> str:
@@ -63,7 +71,9 @@ HOST = {
 }
 TERMINAL = {
     "Waiting": ([], {"Do 28": "FFFB28; Opt(Will, 40); Willing"}),
-    "Willing": (["takes Do 28"], {"SEND DEVICE-TYPE": f"FFFA280207{TYPE}FFF0; Sub(TypeRequest(M2, None), Going); TypeAsked"}),
+    "Willing": (["takes Do 28"], {
+        "SEND DEVICE-TYPE": f"FFFA280207{TYPE}FFF0; Sub(TypeRequest(M2, None), Going); TypeAsked",
+    }),
     "TypeAsked": (["takes sub 280802"], {
         "DEVICE-TYPE IS": "FFFA28030702FFF0; Sub(FunRequest, Going); FunctionsAsked(A)",
         "DEVICE-TYPE REJECT": "-; Refused(Reason(3)); Refused(Reason(3))",
@@ -95,7 +105,8 @@ def check_item(before: list[str], command: str, wanted: str) -> None:
 
 def items_in_states() -> Iterator[tuple[str, list[str], str, str]]:
     """Each state, the commands that lead there, a command on an item, and what is wanted."""
-    for states, start, call, items in ((HOST, "host", "hears", HOST_ITEMS), (TERMINAL, "terminal 2", "takes", TERMINAL_ITEMS)):
+    ends = (HOST, "host", "hears", HOST_ITEMS), (TERMINAL, "terminal 2", "takes", TERMINAL_ITEMS)
+    for states, start, call, items in ends:
         before = [start]
         for state, (steps, meanings) in states.items():
             before = before + steps
@@ -103,7 +114,8 @@ def items_in_states() -> Iterator[tuple[str, list[str], str, str]]:
         closing = [start, f"{call} sub 28"]
         yield from (("Closed", closing, f"{call} {item}", closes("BadTalk")) for item in (*items, *MESSAGES.values()))
     refused = ["terminal 2", "takes Do 28", "takes sub 280802", "takes sub 2802060503"]
-    yield from (("Refused", refused, f"takes {item}", "-; Nothing; Refused(Reason(3))") for item in (*TERMINAL_ITEMS, *MESSAGES.values()))
+    dropped = "-; Nothing; Refused(Reason(3))"
+    yield from (("Refused", refused, f"takes {item}", dropped) for item in (*TERMINAL_ITEMS, *MESSAGES.values()))
 
 
 def cases() -> Iterator[Case]:

@@ -1,6 +1,10 @@
-"""Telnet's wire: items read and written, and streams in any pieces (tests/cases/wire.*), and random streams beside the rules of RFC 854,
-855 and 885."""
+"""Telnet's wire: items read and written, streams in any pieces, and random streams.
+
+The data are tests/cases/wire.*. What is wanted of random streams is computed here from the rules of RFC 854, 855
+and 885.
+"""
 import dataclasses
+import functools
 import random
 from collections.abc import Iterator
 
@@ -11,7 +15,8 @@ from harness.tables import blocks, bytes_of, check_row, hexadecimal, row_of, spe
 
 # The data bytes that a record may have, and those of a subnegotiation.
 LIMIT, SUB_LIMIT = 16_384, 256
-TOO_LONG, BAD_SUB, FAILED = "record or subnegotiation too long", "command inside a subnegotiation", "stream refused earlier"
+TOO_LONG, BAD_SUB = "record or subnegotiation too long", "command inside a subnegotiation"
+FAILED = "stream refused earlier"
 VERBS = {251: "Will", 252: "Wont", 253: "Do", 254: "Dont"}
 RANDOM_STREAMS = 40
 
@@ -26,7 +31,9 @@ class Stream:
     def places(self) -> list[int]:
         """Where it is cut: everywhere, or, since a long stream takes long, near its begin, its middle and its end."""
         length = len(self.data)
-        return list(range(length + 1)) if length < 1000 else [1, 4, length // 2, length // 2 + 1, *range(length - 4, length)]
+        if length < 1000:
+            return list(range(length + 1))
+        return [1, 4, length // 2, length // 2 + 1, *range(length - 4, length)]
 
 
 def moved(lines: list[str], by: int) -> list[str]:
@@ -96,7 +103,7 @@ def streams() -> Iterator[Case]:
 
 
 def check_written(line: Line) -> None:
-    """Behind nothing, behind other bytes in a vector that is full, and where there is room for it, in which case no memory is taken."""
+    """Behind nothing, in a full vector behind other bytes, and in one with room for it, where no memory is taken."""
     command, spelling = row_of(line)
     with Probe("wire") as probe:
         for old in ("-", "0707"):
@@ -112,7 +119,9 @@ def check_written(line: Line) -> None:
 def item_of(line: Line) -> str:
     """The item of a row as it is read: parts are one subnegotiation."""
     kind, _, words = row_of(line)[0].partition(" ")
-    return f"{'sub' if kind == 'parts' else kind} {hexadecimal(line.data(words))}" if kind != "option" else f"option {words}"
+    if kind == "option":
+        return f"option {words}"
+    return f"{'sub' if kind == 'parts' else kind} {hexadecimal(line.data(words))}"
 
 
 def items() -> Iterator[Case]:
@@ -209,7 +218,8 @@ class Reading:
 def random_piece(chance: random.Random) -> bytes:
     """Bytes among which IAC and what has a meaning behind it are frequent."""
     special = [255, 255, 255, 239, 240, 250, 251, 252, 253, 254]
-    return bytes(chance.choice(special) if chance.random() < 0.4 else chance.randrange(256) for _ in range(chance.choice((0, 1, 3, 8, 30, 300))))
+    length = chance.choice((0, 1, 3, 8, 30, 300))
+    return bytes(chance.choice(special) if chance.random() < 0.4 else chance.randrange(256) for _ in range(length))
 
 
 def check_random(seed: int) -> None:
@@ -231,4 +241,5 @@ def cases() -> Iterator[Case]:
     yield from streams()
     yield from blocks(CASES / "wire.blocks", "wire")
     at = Place("tests/suites/wire.py", check_random.__code__.co_firstlineno)
-    yield from (Case(f"a random stream of seed {seed}", at, lambda seed=seed: check_random(seed)) for seed in range(RANDOM_STREAMS))
+    for seed in range(RANDOM_STREAMS):
+        yield Case(f"random streams of seed {seed}", at, functools.partial(check_random, seed))

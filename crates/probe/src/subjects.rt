@@ -34,7 +34,7 @@ pub(crate) fn run(rt: &HostRuntime, name: &str) -> io::Result<bool> {
         "codes" => serve(rt, Codes { alloc: rt.alloc() }),
         "host" => serve(rt, Hosts::new(rt.alloc())),
         "lines" => serve(rt, Lines { alloc: rt.alloc() }),
-        "messages" => serve(rt, Messages { alloc: rt.alloc() }),
+        "messages" => serve(rt, Messages::new(rt.alloc())),
         "pool" => serve(rt, Pools::new(rt.alloc())),
         "reports" => serve(rt, Reports { alloc: rt.alloc() }),
         "streams" => serve(rt, Streams { alloc: rt.alloc() }),

@@ -7,8 +7,10 @@
 //! address MODEL NUMBER    one of them
 //! read MODEL BYTES        each two bytes as an address
 //! walk MODEL NUMBER N     from an address: the next one, N cells on, N cells back, and the cells up to the last
-//! attr BYTE               a code without other bits, without MDT and with it; display, protected, numeric, autoskip, bright, hidden, MDT
-//! cell BYTE               a cell with this attribute, and one with this character: attribute, is_character, is_unprotected_attribute
+//! attr BYTE               the attribute's code, that without MDT and with it; its display, and protected, numeric,
+//!                         autoskip, bright, hidden and MDT
+//! cell BYTE               a cell with this attribute, and one with this character: the attribute, is_character,
+//!                         is_unprotected_attribute
 //! wcc BYTE                a code without other bits; alarm, restore, reset
 //! aid BYTE                a key, its code, is_short
 //! pf NUMBER, pa NUMBER    likewise
@@ -60,8 +62,11 @@ fn put_address_of(answer: &mut String, number: u16, size: Size) -> Result<(), Al
     }
 }
 
-fn put_read(answer: &mut String, bytes: &[u8], size: Size) -> Result<(), AllocError> {
-    let (pairs, _) = bytes.as_chunks::<2>();
+fn put_read(answer: &mut String, bytes: &[u8], size: Size) -> Result<(), Fault> {
+    let (pairs, rest) = bytes.as_chunks::<2>();
+    if !rest.is_empty() {
+        return Err(Fault::Needs("pairs of bytes"));
+    }
     for pair in pairs {
         match addr_from_bytes(*pair, size) {
             Ok(addr) => writeln!(answer, "{}", addr.get())?,

@@ -2,7 +2,8 @@
 //!
 //! ```text
 //! header BYTES            `read_header`, with the bytes that `header_bytes` answers for it
-//! sub BYTES               `read_sub`, with the bytes that `put_sub_message` appends for it
+//! sub BYTES               `read_sub`, with what `put_sub_message` puts into an empty vector for it
+//! out ROOM, room          that vector has this room; its capacity
 //! next NUMBER             `next_seq`
 //! lu BYTES                `Lu::read`
 //! device BYTES            `Device::read`, its text and model, and whether BYTES are its text
@@ -24,7 +25,8 @@ use tn3270e_msg::{
 
 #[derive(Drop)]
 pub(crate) struct Messages {
-    pub(crate) alloc: Global,
+    alloc: Global,
+    out: Vec<u8>,
 }
 
 static CAUSES: [Cause; 9] = [
@@ -57,6 +59,11 @@ fn put_reason(answer: &mut String, reason: Reason) -> Result<(), AllocError> {
 }
 
 impl Messages {
+    pub(crate) fn new(alloc: Global) -> Messages {
+        let out = Vec::new(alloc);
+        Messages { alloc, out }
+    }
+
     fn put_header(
         &self,
         header: &Header,
@@ -68,11 +75,12 @@ impl Messages {
         put_named(self.alloc, answer, "body", body)
     }
 
-    fn put_sub(&self, message: &SubMessage<'_>, answer: &mut String) -> Result<(), AllocError> {
+    fn put_sub(&mut self, message: &SubMessage<'_>, answer: &mut String) -> Result<(), AllocError> {
         writeln!(answer, "{message:?}")?;
-        let mut out = Vec::new(self.alloc);
-        put_sub_message(&mut out, message)?;
-        put_named(self.alloc, answer, "bytes", out.as_slice())
+        self.out.clear();
+        let put = put_sub_message(&mut self.out, message);
+        let name = if put.is_ok() { "bytes" } else { "no memory" };
+        put_named(self.alloc, answer, name, self.out.as_slice())
     }
 }
 
@@ -87,7 +95,7 @@ impl Messages {
         writeln!(answer, " {:?} {}", device.model(), device.has_text(text))
     }
 
-    fn take_bytes(&self, word: &str, bytes: &[u8], answer: &mut String) -> Result<(), Fault> {
+    fn take_bytes(&mut self, word: &str, bytes: &[u8], answer: &mut String) -> Result<(), Fault> {
         match word {
             "header" => match read_header(bytes) {
                 Ok((header, body)) => self.put_header(&header, body, answer)?,
@@ -123,6 +131,8 @@ impl Subject for Messages {
                 self.put_device(device, device.text(), answer)?;
             }
             "reason" => put_reason(answer, Reason(line.byte(self.alloc)?))?,
+            "out" => self.out = Vec::with_capacity(self.alloc, line.number()?)?,
+            "room" => writeln!(answer, "{}", self.out.capacity())?,
             "causes" => put_causes(answer)?,
             "constants" => put_constants(answer)?,
             word => self.take_bytes(word, line.all_bytes(self.alloc)?.as_slice(), answer)?,
