@@ -19,7 +19,7 @@ from collections.abc import Iterator
 from harness.case import CASES, BadCase, Case, Difference, same
 from harness.data import Line, lines_of
 from harness.probe import Probe
-from harness.sights import headline_fault, parts_of, spelt
+from harness.sights import headline_fault, parts_of, plain, spelt
 
 PARTS = 4
 LONG = True
@@ -27,8 +27,6 @@ TERMINALS = 4
 CONNECTIONS = 64
 # More rounds than it takes until nothing is under way.
 MOST_ROUNDS = 64
-# How many commands are written at once: their answers must fit into a pipe.
-MOST_COMMANDS = 500
 AT_TERMINAL = {"connect", "key", "restartterm", "termsees"}
 ON_CONNECTION = {"up", "down", "act", "note", "keepalive", "lose", "hostsees"}
 
@@ -56,7 +54,7 @@ class State:
             elif word == "conn":
                 state.conns[int(rest)] = found = {}
             else:
-                found[word] = rest
+                found[word] = plain(rest)
         return state
 
     def decides(self, conn: int) -> bool:
@@ -108,7 +106,7 @@ class Run:
         self.page: list[str] = []
         for line in panels:
             probe.ask(line.text, line.at)
-        probe.ask("new", panels[0].at)
+        same(["done"], probe.ask("new", panels[0].at))
 
     def put_outcome(self, stepped: str) -> None:
         """An event that didn't just happen is printed."""
@@ -122,7 +120,7 @@ class Run:
         elif question == "show":
             self.page += [line[1:] for line in self.probe.ask(f"text {number}")]
         elif question == "status":
-            self.page.append(State.of(self.probe.ask("state")).terminals[number])
+            self.page.append(State.of(self.probe.ask("states")).terminals[number])
         else:
             data = parts_of(self.probe.ask(f"queued {number}"))[question[:-1]].strip("-")
             self.page.append(" ".join(data[place : place + 2] for place in range(0, len(data), 2)))
@@ -139,18 +137,21 @@ class Later:
 
     def __init__(self, probe: Probe) -> None:
         self.probe = probe
-        self.commands: list[tuple[str, bool]] = []
+        # Each event's commands, and whether what it came to is printed.
+        self.events: list[tuple[list[str], bool]] = []
 
-    def add(self, command: str, prints: bool) -> None:
-        self.commands.append((command, prints))
+    def add(self, commands: list[str], prints: bool) -> None:
+        self.events.append((commands, prints))
 
     def answers(self) -> Iterator[tuple[str, bool]]:
-        """The first line of each answer, and whether it is printed."""
-        commands, self.commands = self.commands, []
-        for start in range(0, len(commands), MOST_COMMANDS):
-            part = commands[start : start + MOST_COMMANDS]
-            for (_, prints), answer in zip(part, self.probe.ask_each([command for command, _ in part])):
-                yield answer[0] if answer else "", prints
+        """What each event came to, and whether that is printed."""
+        events, self.events = self.events, []
+        commands = [command for group, _ in events for command in group]
+        answers = iter(self.probe.ask_all(commands))
+        for group, prints in events:
+            came = [plain(next(answers)[0]) for _ in group]
+            # Of a delivery byte by byte, what the last came to that wasn't skipped.
+            yield ([it for it in came if it != "skipped"] or came)[-1], prints
 
 
 class World:
@@ -181,11 +182,10 @@ class World:
 
     def __init__(self, probes: list[Probe], panels: list[Line]) -> None:
         self.by_event, self.by_list, self.by_byte = [Run(probe, panels) for probe in probes]
-        self.listed, self.in_bytes = Later(probes[1]), Later(probes[2])
+        self.listed: list[str] = []
+        self.in_bytes = Later(probes[2])
         self.watch = Watch()
         self.met = 0
-        # What the listed events came to, as the first run says, if that is printed.
-        self.outcomes: list[str] = []
         self.came = ""
         self.line: Line
 
@@ -220,14 +220,23 @@ class World:
 
     def step(self, command: str, prints: bool = False) -> str:
         """An event happens in each run, in the first now. Answers what it came to there."""
-        came, state = self.by_event.probe.ask_each([command, "state"], self.line.at)
-        self.came = came[0]
-        self.listed.add(f"list {command}", False)
-        self.in_bytes.add(f"each {command}" if command.startswith(("up ", "down ")) else command, prints)
+        queued = self.queued(command)
+        came, states = self.by_event.probe.ask_each([command, "states"], self.line.at)
+        self.came = plain(came[0])
+        self.listed.append(command)
+        self.in_bytes.add(in_bytes(command, queued), prints)
         if self.came != "skipped":
-            self.watch.follow(command, State.of(state))
+            self.watch.follow(command, State.of(states))
             self.expect_headline(command)
         return self.came
+
+    def queued(self, command: str) -> int:
+        """How many bytes are under way, of which a command delivers some."""
+        word, _, rest = command.partition(" ")
+        conn = rest.partition(" ")[0]
+        if word not in ("up", "down") or int(conn) >= CONNECTIONS:
+            return 0
+        return len(parts_of(self.by_event.probe.ask(f"queued {conn}"))[word].strip("-")) // 2
 
     def expect_headline(self, command: str) -> None:
         """The headline holds of what is seen now."""
@@ -286,10 +295,9 @@ class World:
 
     def catch_up(self) -> None:
         """What happened in the first run happens in the others."""
-        count = len(self.listed.commands)
-        for _ in self.listed.answers():
-            pass
-        same([f"{count} 0"], self.by_list.probe.ask("run"), self.line.at)
+        listed, self.listed = self.listed, []
+        self.by_list.probe.ask_all([f"list {command}" for command in listed])
+        same(f"{len(listed)} 0", plain(self.by_list.probe.ask("run")[0]), self.line.at)
         for came, prints in self.in_bytes.answers():
             if prints:
                 self.by_byte.put_outcome(came)
@@ -321,6 +329,14 @@ class World:
         for run in (self.by_list, self.by_byte):
             for wanted, came in zip(world, run.look(), strict=True):
                 same(wanted, came, self.line.at)
+
+
+def in_bytes(command: str, queued: int) -> list[str]:
+    """The events of a delivery byte by byte. One of no bytes is as it is."""
+    word, conn, *count = command.split()[:3] if " " in command else (command, "")
+    if word not in ("up", "down") or not min(queued, int(count[0])):
+        return [command]
+    return [f"{word} {conn} 1"] * min(queued, int(count[0]))
 
 
 def random_loss(chance: random.Random) -> str:
