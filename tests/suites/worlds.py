@@ -19,7 +19,7 @@ from collections.abc import Iterator
 from harness.case import CASES, BadCase, Case, Difference, same
 from harness.data import Line, lines_of
 from harness.probe import Probe
-from harness.sights import headline_fault, parts_of, plain, spelt
+from harness.sights import cells_of, headline_fault, parts_of, plain, spelt
 
 PARTS = 4
 LONG = True
@@ -115,19 +115,30 @@ class Run:
 
     def put_answer(self, question: str, number: int) -> None:
         """The answer to a question is printed."""
-        if question in ("show", "status") and number >= TERMINALS:
+        if question in ("show", "status", "erased", "left") and number >= TERMINALS:
             self.page.append("no terminal")
         elif question == "show":
             self.page += [line[1:] for line in self.probe.ask(f"text {number}")]
+        elif question in ("erased", "left"):
+            self.page += self.left(question, number)
         elif question == "status":
             self.page.append(State.of(self.probe.ask("states")).terminals[number])
         else:
             data = parts_of(self.probe.ask(f"queued {number}"))[question[:-1]].strip("-")
             self.page.append(" ".join(data[place : place + 2] for place in range(0, len(data), 2)))
 
+    def left(self, question: str, number: int) -> list[str]:
+        """Whether input was erased since a terminal's last write with restore, or the rows that this left, without blank ones at the end."""
+        parts = parts_of(self.probe.ask(f"left {number}"))
+        if question == "erased":
+            return [parts["erased"]]
+        cells = "".join(" " if len(it) == 4 or it == "00" else bytes.fromhex(it).decode("cp037") for it in cells_of(parts["cells"]))
+        columns = 132 if len(cells) == 3564 else 80
+        return "\n".join(cells[at : at + columns].rstrip() for at in range(0, len(cells), columns)).rstrip("\n").split("\n")
+
     def look(self) -> list[str]:
         """All that is to be seen of a world."""
-        commands = [f"terminal {it}" for it in range(TERMINALS)]
+        commands = [f"{word} {it}" for it in range(TERMINALS) for word in ("terminal", "left")]
         commands += [f"{word} {it}" for it in range(CONNECTIONS) for word in ("host", "queued")]
         return [f"{command}: {line}" for command in commands for line in self.probe.ask(command)]
 
@@ -174,6 +185,8 @@ class World:
     settle            rounds: on each connection all is delivered up, the host acts, and all is delivered down; up to a round without an event
     show T            what the terminal prints of its screen
     status T          how far it is with its host: idle, talking, bound LU, refused REASON, or closed CAUSE
+    left T            the rows that the last write with restore left there on this connection, without blank ones at the end
+    erased T          whether Erase Input was done since: yes or no
     up? C             the bytes under way to the host
     down? C           the bytes under way to the terminal
     > TEXT            the next line that is printed
@@ -207,7 +220,7 @@ class World:
             self.do_random(line.number(number), line.number(rest))
         elif word == "type":
             self.type(line.number(number), rest)
-        elif word in ("show", "status", "up?", "down?"):
+        elif word in ("show", "status", "erased", "left", "up?", "down?"):
             self.ask(word, line.number(words))
         elif word in AT_TERMINAL | ON_CONNECTION:
             self.happen(f"{word} {line.number(number)} {self.spelt(word, rest)}".rstrip(" "))
