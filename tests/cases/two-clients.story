@@ -83,11 +83,11 @@ client 02 00 00 00 02 00 FF EF
 
 # How many bytes a read gives, and a write takes, at most; whether every second read and write gives or takes nothing; and how many reads,
 # writes and bytes of the first client that makes.
-pace whole: 18446744073709551615 18446744073709551615 no 9 6 94
-pace whole, with pauses: 18446744073709551615 18446744073709551615 yes 17 11 94
-pace in sevens: 7 7 no 48 34 94
-pace byte by byte: 1 1 no 310 221 94
-pace byte by byte, with pauses: 1 1 yes 619 441 94
+pace whole: 18446744073709551615 18446744073709551615 false 9 6 94
+pace whole, with pauses: 18446744073709551615 18446744073709551615 true 17 11 94
+pace in sevens: 7 7 false 48 34 94
+pace byte by byte: 1 1 false 310 221 94
+pace byte by byte, with pauses: 1 1 true 619 441 94
 
 # Where a connection ends or fails, at the first pace: at each of its reads or writes, or after each of its client's bytes.
 trouble read ends

@@ -5,6 +5,9 @@ from collections.abc import Mapping
 from harness import programs
 from harness.case import BadCase, Difference, Place
 
+# How many short commands are written at once: neither these nor their answers fill a pipe.
+MOST_COMMANDS = 400
+
 
 class Probe:
     """A run of `probe SUBJECT`. It ends with the `with` block."""
@@ -36,6 +39,10 @@ class Probe:
         except BrokenPipeError:
             raise self.ended() from None
         return [self.read_answer(command, at) for command in commands]
+
+    def ask_all(self, commands: list[str], at: Place | None = None) -> list[list[str]]:
+        """The answers to any number of commands that are short, as their answers are."""
+        return [answer for start in range(0, len(commands), MOST_COMMANDS) for answer in self.ask_each(commands[start : start + MOST_COMMANDS], at)]
 
     def read_answer(self, command: str, at: Place | None) -> list[str]:
         assert self.process.stdout is not None

@@ -6,10 +6,28 @@ import re
 CELL = re.compile(r"1D..|..")
 ENTER_AND_PF = {"7D", *(f"F{it}" for it in range(1, 10)), *(f"C{it}" for it in range(1, 10)), "7A", "7B", "7C", "4A", "4B", "4C"}
 
+REFUSALS = {"Locked": 1, "Protected": 2, "NotNumeric": 3, "NoRoom": 4, "NoCode": 5}
+BY_DEBUG = {"phase", "model", "turn", "pending", "inserting", "took-write", "erased"}
+
 
 def spelt(data: bytes) -> str:
     """Bytes as the probe prints them."""
     return data.hex().upper() or "-"
+
+
+def plain(text: str) -> str:
+    """What the probe prints by Debug, as the cases say it."""
+    if found := re.fullmatch(r"Fed { taken: (\d+), stop: (.*) }", text):
+        return f"{found[1]} {plain(found[2])}"
+    if found := re.fullmatch(r"Ran { whole: (\d+), part: (\d+) }", text):
+        return f"{found[1]} {found[2]}"
+    if found := re.fullmatch(r"(Closed|Refused|Part)\((.*)\)", text):
+        return f"{found[1].lower()} {REFUSALS.get(found[2], found[2])}"
+    if found := re.fullmatch(r"Some\(M?(\d+)\)", text):
+        return found[1]
+    if text.startswith("Bound "):
+        return f"bound {text[6:]}"
+    return {"true": "yes", "false": "no"}.get(text, text.lower() if text.isalpha() else text)
 
 
 def parts_of(answer: list[str]) -> dict[str, str]:
@@ -20,7 +38,7 @@ def parts_of(answer: list[str]) -> dict[str, str]:
         if word == "field":
             at, _, rest = rest.partition(" ")
             word = f"field {at}"
-        found[word] = rest
+        found[word] = plain(rest) if word in BY_DEBUG else rest
     return found
 
 

@@ -17,7 +17,7 @@ from collections.abc import Callable, Iterator
 from harness.case import CASES, BadCase, Case, Difference, same
 from harness.data import Line, lines_of
 from harness.probe import Probe
-from harness.sights import cells_of, parts_of, spelt
+from harness.sights import cells_of, parts_of, plain, spelt
 
 PARTS = 3
 HEADINGS = {f"{subject}-{kind}": (subject, kind) for subject in ("terminal", "host") for kind in ("passage", "dialogue")}
@@ -87,7 +87,7 @@ class Terminal(Subject):
         probe.ask("new 2")
 
     def hear(self, data: bytes) -> None:
-        self.fed = self.ask(f"feed {spelt(data)}")[0]
+        self.fed = plain(self.ask(f"feed {spelt(data)}")[0])
 
     def hear_whole(self, data: bytes) -> None:
         self.hear(data)
@@ -214,7 +214,7 @@ class Host(Subject):
 
     def __init__(self, probe: Probe, holding: int) -> None:
         super().__init__(probe)
-        self.feed, self.cuts = ("feed", "each")[holding - 1], 2
+        self.is_by_byte, self.cuts = holding == 2, 2
         self.panels: list[str] = []
         self.kept: list[str] | None = None
 
@@ -227,9 +227,17 @@ class Host(Subject):
         conn, wanted = self.split(words)
         self.expect(wanted, parts_of(self.ask(f"state {conn}"))[name])
 
+    def feed(self, conn: str, data: bytes) -> str:
+        """Feeds bytes as this holding does. One that comes behind the close isn't taken."""
+        size = 1 if self.is_by_byte else len(data) or 1
+        commands = [f"feed {conn} {spelt(data[place : place + size])}" for place in range(0, len(data) or 1, size)]
+        answers = [plain(answer) for (answer,) in self.probe.ask_all(commands, self.line.at)]
+        taken = sum(int(answer.partition(" ")[0]) for answer in answers)
+        return f"{taken} {answers[-1].partition(' ')[2]}"
+
     def hear(self, conn: str, words: str, stop: str) -> None:
         data = self.line.data(words)
-        self.expect([f"{len(data)} {stop}"], self.ask(f"{self.feed} {conn} {spelt(data)}"))
+        self.expect(f"{len(data)} {stop}", self.feed(conn, data))
 
     def panel(self, text: str) -> None:
         self.panels.append(f"| {text}")
@@ -237,7 +245,7 @@ class Host(Subject):
     def do_serve(self, words: str) -> None:
         for line in self.panels:
             self.ask(line)
-        self.ask(f"serve {words}")
+        self.expect(["done"], self.ask(f"serve {words}"))
 
     def do_open(self, words: str) -> None:
         self.expect(["done"], self.ask(f"open {words}"))
@@ -252,7 +260,7 @@ class Host(Subject):
 
     def do_deaf(self, words: str) -> None:
         conn, why = self.split(words)
-        self.expect([f"0 {why}"], self.ask(f"feed {conn} FFF1"))
+        self.expect(f"0 {why}", plain(self.ask(f"feed {conn} FFF1")[0]))
 
     def do_begins(self, words: str) -> None:
         conn, rest = self.split(words)
@@ -271,12 +279,12 @@ class Host(Subject):
 
     def do_act(self, words: str) -> None:
         conn, wanted = self.split(words)
-        self.expect([wanted], self.ask(f"act {conn}"))
+        self.expect(wanted, plain(self.ask(f"act {conn}")[0]))
 
     def do_note(self, words: str) -> None:
         conn, rest = self.split(words)
         wanted, _, text = rest.partition(" ")
-        self.expect([wanted], self.ask(f"note {conn} {spelt(text.encode('cp037'))}"))
+        self.expect(wanted, plain(self.ask(f"note {conn} {spelt(text.encode('cp037'))}")[0]))
 
     def do_lost(self, words: str) -> None:
         conn, rest = self.split(words)

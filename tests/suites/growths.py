@@ -28,15 +28,20 @@ from harness.case import CASES, BadCase, Case, Difference, same
 from harness.data import Line, lines_of
 from harness.growths import library
 from harness.probe import Probe
-from harness.sights import spelt
+from harness.sights import plain, spelt
 from suites import dialogues, worlds
 
 PARTS = 4
 LONG = True
 # What has no call that could be refused memory, or grows but the probe's own memory.
-UNMARKED = {"|", "list", "say", "plug", "see", "state", "host", "terminal", "left", "queued", "out", "sent", "lines", "text"}
-FEED = re.compile(r"(feed|each)((?: \d+)?) (.+)")
+UNMARKED = {"|", "list", "say", "plug", "see", "state", "states", "host", "terminal", "left", "queued", "out", "sent", "lines", "text"}
+FEED = re.compile(r"(feed)((?: \d+)?) (.+)")
 NO_MEMORY = "the probe no memory"
+
+
+def first_plain(answer: list[str]) -> list[str]:
+    """An answer, whose first line may be printed by Debug."""
+    return [plain(answer[0]), *answer[1:]] if answer else answer
 
 
 class Refusing(Probe):
@@ -48,7 +53,7 @@ class Refusing(Probe):
     def call(self, command: str, line: Line | None = None) -> list[str]:
         """Makes a marked call. What the probe itself had no memory for wasn't done."""
         try:
-            return super().ask(f"! {command}", line.at if line else None)
+            return first_plain(super().ask(f"! {command}", line.at if line else None))
         except BadCase as error:
             if error.reason.startswith(NO_MEMORY):
                 return ["memory"]
@@ -103,7 +108,7 @@ class Repeating(Refusing):
         if whole < len(events):
             for event in [less(events[whole], part), *events[whole + 1 :]]:
                 super().ask(f"list {event}")
-            same(f"{len(events) - whole} 0", super().ask("run")[0])
+            same(f"{len(events) - whole} 0", plain(super().ask("run")[0]))
         return len(events)
 
 
@@ -204,13 +209,13 @@ class Call:
             whole = int(answer.split()[0])
             for event in self.events()[whole:]:
                 probe.ask(f"list {event}")
-            count, _, part = probe.ask("run")[0].partition(" ")
+            count, _, part = plain(probe.ask("run")[0]).partition(" ")
             return [f"{whole + int(count)} {part}"]
         fed = FEED.fullmatch(self.call)
         taken = int(answer.split()[0]) if fed and answer != "memory" else 0
         if not taken:
-            return probe.ask(self.call)
-        count, _, stop = probe.ask(f"{fed[1]}{fed[2]} {spelt(self.head.data(fed[3])[taken:])}")[0].partition(" ")
+            return first_plain(probe.ask(self.call))
+        count, _, stop = plain(probe.ask(f"{fed[1]}{fed[2]} {spelt(self.head.data(fed[3])[taken:])}")[0]).partition(" ")
         return [f"{taken + int(count)} {stop}"]
 
     def run(self) -> None:
@@ -229,30 +234,31 @@ class Call:
         """Refuses a growth. Whether it was refused to the call, and not to the probe itself."""
         with self.begin(growth) as probe:
             same([f"growth {growth}", *before], [f"growth {growth}", *self.look(probe)])
-            answer, is_own = self.answer(probe)
+            answer = self.answer(probe)
+            if answer is None:
+                return False
             if answer != wanted:
-                self.stands(probe, growth, answer[0], [] if is_own else wanted, before)
+                self.stands(probe, growth, answer[0], wanted, before)
             same([f"growth {growth}, done", *done], [f"growth {growth}, done", *self.look(probe)])
             same([f"growth {growth}, at the end", *end], [f"growth {growth}, at the end", *self.finish(probe)])
-            return not is_own
+            return True
 
-    def answer(self, probe: Refusing) -> tuple[list[str], bool]:
-        """What the call answers, and whether the probe itself had no memory."""
+    def answer(self, probe: Refusing) -> list[str] | None:
+        """What the call answers. None if the probe itself had no memory, for what it reads or prints."""
         try:
-            return Probe.ask(probe, f"! {self.call}", self.head.at), False
+            return first_plain(Probe.ask(probe, f"! {self.call}", self.head.at))
         except BadCase as error:
             if error.reason.startswith(NO_MEMORY):
-                return ["memory"], True
+                return None
             raise
 
     def stands(self, probe: Refusing, growth: int, answer: str, wanted: list[str], before: list[str]) -> None:
         """A call was refused memory. It stands as it should, and does all when it is made again."""
         if self.call != "run" and not answer.endswith("memory"):
             raise Difference(wanted, f"growth {growth}: {answer}")
-        as_before = answer == "memory" and (not self.taken or not wanted)
-        same([f"growth {growth}, refused", *(before if as_before else self.partly(answer))], [f"growth {growth}, refused", *self.look(probe)])
-        again = self.repeat(probe, answer)
-        same(wanted or again, again)
+        stand = before if answer == "memory" and not self.taken else self.partly(answer)
+        same([f"growth {growth}, refused", *stand], [f"growth {growth}, refused", *self.look(probe)])
+        same(wanted, self.repeat(probe, answer))
 
 
 def call_cases(calls: list[Call]) -> Iterator[Case]:

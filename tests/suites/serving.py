@@ -17,7 +17,7 @@ from collections.abc import Callable, Iterator
 from harness.case import CASES, BadCase, Case, Difference, Place, same
 from harness.data import Line, lines_of
 from harness.probe import Probe
-from harness.sights import parts_of, spelt
+from harness.sights import parts_of, plain, spelt
 
 PARTS = 4
 LUS = ["PNL01", "PNL02"]
@@ -93,7 +93,7 @@ class Fixture:
         self.script, self.probe = script, Probe("host")
         for line in script.panels:
             self.probe.ask(line)
-        self.probe.ask("serve")
+        same(["done"], self.probe.ask("serve"))
 
     def begin(self, pace: str) -> None:
         """The host restarts, and the connections of two new clients begin."""
@@ -105,7 +105,7 @@ class Fixture:
         client = self.clients[conn]
         *_, [came], [counts], [heard] = self.probe.ask_each(client.commands())
         client.follow(int(counts.split()[2]), bytes.fromhex(heard.removeprefix("heard ").strip("-")))
-        return came
+        return plain(came)
 
     def serve_on(self, conn: int) -> None:
         """Serves a connection a turn, in which it isn't lost."""
@@ -208,7 +208,7 @@ def cases_of(suite: Suite) -> Iterator[Case]:
     for conn in (0, 1):
         for line, place, way in script.troubles:
             for number in range(1, counts[place] + 1):
-                yield Case(f"client {conn}: {place} {number} {way}", line.at, functools.partial(suite.break_off, conn, f"{place} {number} {way}"))
+                yield Case(f"client {conn}: {place} {number} {way}", line.at, functools.partial(suite.break_off, conn, f"{place} {number} {str(way == 'ends').lower()}"))
 
 
 def cases() -> Iterator[Case]:

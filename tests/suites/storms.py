@@ -25,7 +25,7 @@ from collections.abc import Callable, Iterator
 from harness.case import CASES, Case, same
 from harness.data import Line, lines_of
 from harness.probe import Probe
-from harness.sights import parts_of, spelt
+from harness.sights import parts_of, plain, spelt
 
 PARTS = 4
 LONG = True
@@ -144,9 +144,9 @@ class End:
         cuts, stirs = random.Random(f"cuts {seed}"), random.Random(f"stirs {seed}")
         taken = 0
         for section in sections(data):
-            answers = self.probe.ask_each([f"{self.feed} {spelt(piece)}" for piece in pieces_of(cutting, cuts, section)])
+            answers = self.probe.ask_all([f"{self.feed} {spelt(piece)}" for piece in pieces_of(cutting, cuts, section)])
             for (answer,) in answers:
-                count, _, stop = answer.partition(" ")
+                count, _, stop = plain(answer).partition(" ")
                 taken += int(count)
                 if stop != "going":
                     return f"{taken} {stop}"
@@ -191,7 +191,7 @@ class Hosts:
         self.script, self.probe = script, Probe("host")
         for line in script.panels:
             self.probe.ask(line)
-        self.probe.ask("serve")
+        same(["done"], self.probe.ask("serve"))
         begin(self.probe, script)
         self.calm = beside(self.probe)
 

@@ -19,7 +19,7 @@ from collections.abc import Iterator
 from harness.case import CASES, BadCase, Case, Difference, same
 from harness.data import Line, lines_of
 from harness.probe import Probe
-from harness.sights import headline_fault, parts_of, spelt
+from harness.sights import cells_of, headline_fault, parts_of, plain, spelt
 
 PARTS = 4
 LONG = True
@@ -27,8 +27,6 @@ TERMINALS = 4
 CONNECTIONS = 64
 # More rounds than it takes until nothing is under way.
 MOST_ROUNDS = 64
-# How many commands are written at once: their answers must fit into a pipe.
-MOST_COMMANDS = 500
 AT_TERMINAL = {"connect", "key", "restartterm", "termsees"}
 ON_CONNECTION = {"up", "down", "act", "note", "keepalive", "lose", "hostsees"}
 
@@ -56,7 +54,7 @@ class State:
             elif word == "conn":
                 state.conns[int(rest)] = found = {}
             else:
-                found[word] = rest
+                found[word] = plain(rest)
         return state
 
     def decides(self, conn: int) -> bool:
@@ -108,7 +106,7 @@ class Run:
         self.page: list[str] = []
         for line in panels:
             probe.ask(line.text, line.at)
-        probe.ask("new", panels[0].at)
+        same(["done"], probe.ask("new", panels[0].at))
 
     def put_outcome(self, stepped: str) -> None:
         """An event that didn't just happen is printed."""
@@ -117,19 +115,30 @@ class Run:
 
     def put_answer(self, question: str, number: int) -> None:
         """The answer to a question is printed."""
-        if question in ("show", "status") and number >= TERMINALS:
+        if question in ("show", "status", "erased", "left") and number >= TERMINALS:
             self.page.append("no terminal")
         elif question == "show":
             self.page += [line[1:] for line in self.probe.ask(f"text {number}")]
+        elif question in ("erased", "left"):
+            self.page += self.left(question, number)
         elif question == "status":
-            self.page.append(State.of(self.probe.ask("state")).terminals[number])
+            self.page.append(State.of(self.probe.ask("states")).terminals[number])
         else:
             data = parts_of(self.probe.ask(f"queued {number}"))[question[:-1]].strip("-")
             self.page.append(" ".join(data[place : place + 2] for place in range(0, len(data), 2)))
 
+    def left(self, question: str, number: int) -> list[str]:
+        """Whether input was erased since a terminal's last write with restore, or the rows that this left, without blank ones at the end."""
+        parts = parts_of(self.probe.ask(f"left {number}"))
+        if question == "erased":
+            return [parts["erased"]]
+        cells = "".join(" " if len(it) == 4 or it == "00" else bytes.fromhex(it).decode("cp037") for it in cells_of(parts["cells"]))
+        columns = 132 if len(cells) == 3564 else 80
+        return "\n".join(cells[at : at + columns].rstrip() for at in range(0, len(cells), columns)).rstrip("\n").split("\n")
+
     def look(self) -> list[str]:
         """All that is to be seen of a world."""
-        commands = [f"terminal {it}" for it in range(TERMINALS)]
+        commands = [f"{word} {it}" for it in range(TERMINALS) for word in ("terminal", "left")]
         commands += [f"{word} {it}" for it in range(CONNECTIONS) for word in ("host", "queued")]
         return [f"{command}: {line}" for command in commands for line in self.probe.ask(command)]
 
@@ -139,18 +148,21 @@ class Later:
 
     def __init__(self, probe: Probe) -> None:
         self.probe = probe
-        self.commands: list[tuple[str, bool]] = []
+        # Each event's commands, and whether what it came to is printed.
+        self.events: list[tuple[list[str], bool]] = []
 
-    def add(self, command: str, prints: bool) -> None:
-        self.commands.append((command, prints))
+    def add(self, commands: list[str], prints: bool) -> None:
+        self.events.append((commands, prints))
 
     def answers(self) -> Iterator[tuple[str, bool]]:
-        """The first line of each answer, and whether it is printed."""
-        commands, self.commands = self.commands, []
-        for start in range(0, len(commands), MOST_COMMANDS):
-            part = commands[start : start + MOST_COMMANDS]
-            for (_, prints), answer in zip(part, self.probe.ask_each([command for command, _ in part])):
-                yield answer[0] if answer else "", prints
+        """What each event came to, and whether that is printed."""
+        events, self.events = self.events, []
+        commands = [command for group, _ in events for command in group]
+        answers = iter(self.probe.ask_all(commands))
+        for group, prints in events:
+            came = [plain(next(answers)[0]) for _ in group]
+            # Of a delivery byte by byte, what the last came to that wasn't skipped.
+            yield ([it for it in came if it != "skipped"] or came)[-1], prints
 
 
 class World:
@@ -173,6 +185,8 @@ class World:
     settle            rounds: on each connection all is delivered up, the host acts, and all is delivered down; up to a round without an event
     show T            what the terminal prints of its screen
     status T          how far it is with its host: idle, talking, bound LU, refused REASON, or closed CAUSE
+    left T            the rows that the last write with restore left there on this connection, without blank ones at the end
+    erased T          whether Erase Input was done since: yes or no
     up? C             the bytes under way to the host
     down? C           the bytes under way to the terminal
     > TEXT            the next line that is printed
@@ -181,11 +195,10 @@ class World:
 
     def __init__(self, probes: list[Probe], panels: list[Line]) -> None:
         self.by_event, self.by_list, self.by_byte = [Run(probe, panels) for probe in probes]
-        self.listed, self.in_bytes = Later(probes[1]), Later(probes[2])
+        self.listed: list[str] = []
+        self.in_bytes = Later(probes[2])
         self.watch = Watch()
         self.met = 0
-        # What the listed events came to, as the first run says, if that is printed.
-        self.outcomes: list[str] = []
         self.came = ""
         self.line: Line
 
@@ -207,7 +220,7 @@ class World:
             self.do_random(line.number(number), line.number(rest))
         elif word == "type":
             self.type(line.number(number), rest)
-        elif word in ("show", "status", "up?", "down?"):
+        elif word in ("show", "status", "erased", "left", "up?", "down?"):
             self.ask(word, line.number(words))
         elif word in AT_TERMINAL | ON_CONNECTION:
             self.happen(f"{word} {line.number(number)} {self.spelt(word, rest)}".rstrip(" "))
@@ -220,14 +233,23 @@ class World:
 
     def step(self, command: str, prints: bool = False) -> str:
         """An event happens in each run, in the first now. Answers what it came to there."""
-        came, state = self.by_event.probe.ask_each([command, "state"], self.line.at)
-        self.came = came[0]
-        self.listed.add(f"list {command}", False)
-        self.in_bytes.add(f"each {command}" if command.startswith(("up ", "down ")) else command, prints)
+        queued = self.queued(command)
+        came, states = self.by_event.probe.ask_each([command, "states"], self.line.at)
+        self.came = plain(came[0])
+        self.listed.append(command)
+        self.in_bytes.add(in_bytes(command, queued), prints)
         if self.came != "skipped":
-            self.watch.follow(command, State.of(state))
+            self.watch.follow(command, State.of(states))
             self.expect_headline(command)
         return self.came
+
+    def queued(self, command: str) -> int:
+        """How many bytes are under way, of which a command delivers some."""
+        word, _, rest = command.partition(" ")
+        conn = rest.partition(" ")[0]
+        if word not in ("up", "down") or int(conn) >= CONNECTIONS:
+            return 0
+        return len(parts_of(self.by_event.probe.ask(f"queued {conn}"))[word].strip("-")) // 2
 
     def expect_headline(self, command: str) -> None:
         """The headline holds of what is seen now."""
@@ -286,10 +308,9 @@ class World:
 
     def catch_up(self) -> None:
         """What happened in the first run happens in the others."""
-        count = len(self.listed.commands)
-        for _ in self.listed.answers():
-            pass
-        same([f"{count} 0"], self.by_list.probe.ask("run"), self.line.at)
+        listed, self.listed = self.listed, []
+        self.by_list.probe.ask_all([f"list {command}" for command in listed])
+        same(f"{len(listed)} 0", plain(self.by_list.probe.ask("run")[0]), self.line.at)
         for came, prints in self.in_bytes.answers():
             if prints:
                 self.by_byte.put_outcome(came)
@@ -321,6 +342,14 @@ class World:
         for run in (self.by_list, self.by_byte):
             for wanted, came in zip(world, run.look(), strict=True):
                 same(wanted, came, self.line.at)
+
+
+def in_bytes(command: str, queued: int) -> list[str]:
+    """The events of a delivery byte by byte. One of no bytes is as it is."""
+    word, conn, *count = command.split()[:3] if " " in command else (command, "")
+    if word not in ("up", "down") or not min(queued, int(count[0])):
+        return [command]
+    return [f"{word} {conn} 1"] * min(queued, int(count[0]))
 
 
 def random_loss(chance: random.Random) -> str:
