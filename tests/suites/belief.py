@@ -13,6 +13,8 @@ The steps of a case, which begins with nothing known:
     known ADDR CELL          a cell, ? if it isn't known
     again                    the wanted screen: each known cell with MDT off, nulls elsewhere, and the cursor in the first cell
     want, put, aim           make the wanted screen as the probe's lines do
+    wanted ADDR BOOL CELL .. the wanted screen has this cursor, resets MDT or not, and has these cells: in one walk, by
+                             address, and as the one behind an address, round the end
     fits BOOL                whether what is to be kept is believed to be there
     paints BYTES             these bytes paint the wanted screen
     paints-first BYTES       they begin so
@@ -21,7 +23,7 @@ The steps of a case, which begins with nothing known:
 from collections.abc import Iterator
 
 from harness.case import CASES, Case, same
-from harness.cells import appended, cases_of, line_of
+from harness.cells import appended, cases_of, line_of, tokens
 from harness.data import Line
 from harness.probe import Probe
 
@@ -82,6 +84,12 @@ class Belief:
         self.ask(f"want {model} 00", line)
         self.ask(f"put 0 {' '.join(map(want_again, cells))}", line)
         self.ask("aim 0 false", line)
+
+    def do_wanted(self, line: Line, words: list[str]) -> None:
+        answer, cells = self.probe.ask("wanted", line.at), tokens(" ".join(words[2:]))
+        came = [line_of(answer, it) for it in ("cursor", "reset", "cells", "each")]
+        each = [it for both in zip(cells, [*cells[1:], *cells[:1]]) for it in both]
+        same([words[:1], words[1:2], cells, each], came, line.at)
 
     def do_fits(self, line: Line, words: list[str]) -> None:
         same(line.text, self.ask("fits", line), line.at)

@@ -10,8 +10,8 @@ takes some:
     press BYTE               the AID of both screens
     clear; erase-input       the keys
 
-After each line both screens say the same of each cell, of the fields and of each read, and both beliefs the same of each cell and each fact, whether
-they fit six wanted screens, and which bytes paint these.
+After each line that can change them both screens say the same of each cell, of the fields and of each read, and both beliefs the same of each
+cell and each fact, whether six wanted screens fit them, and which bytes paint these.
 """
 import functools
 from collections.abc import Iterator
@@ -23,6 +23,8 @@ from harness.probe import Probe
 
 PARTS = 4
 FORMS = ("modified", "all", "buffer")
+# What changes the cells of a screen.
+CHANGES = ("write", "type", "clear", "erase-input")
 # The cells, by distance, in which another character is wanted.
 CHANGED_EVERY = 7
 
@@ -50,8 +52,9 @@ class Pair:
 
 
 def comparable(answer: list[str]) -> list[str]:
-    """An answer without what reference doesn't have: lock, insert mode and a belief's size."""
-    return [it for it in answer if it.split(" ")[0] not in ("lock", "inserting", "size")]
+    """An answer without what reference doesn't have: lock, insert mode, a belief's size, and the cells of a screen of which nothing is known."""
+    lines = [it for it in answer if it.split(" ")[0] not in ("lock", "inserting", "size")]
+    return ["cells" if it.startswith("cells") and set(it.split()[1:]) == {"?"} else it for it in lines]
 
 
 def is_open_at_first(cells: list[str]) -> bool:
@@ -126,10 +129,15 @@ class Held:
             raise line.bad("needs a word of these cases")
 
     def compare(self, line: Line) -> None:
-        self.screens.ask(["show", "look", *(it for form in FORMS for it in ("out 0 -", f"read {form}"))], line)
-        cells = line_of(self.beliefs.ask(["show"], line)[0], "cells")
-        for command in paints(cells + ["?"] * (1920 - len(cells))):
-            self.beliefs.ask([command], line)
+        """Compares what the line can have changed."""
+        word = line.text.split()[0]
+        if word in (*CHANGES, "press"):
+            looks = ["show", "look"] if word in CHANGES else ["show"]
+            self.screens.ask([*looks, *(it for form in FORMS for it in ("out 0 -", f"read {form}"))], line)
+        if word == "write" or word not in (*CHANGES, "press"):
+            cells = line_of(self.beliefs.ask(["show"], line)[0], "cells")
+            for command in paints(cells + ["?"] * (1920 - len(cells))):
+                self.beliefs.ask([command], line)
 
 
 def address_of(data: bytes) -> int:

@@ -1,6 +1,6 @@
-//! The screen and the belief as lists, in 24 by 80: a screen is its cells, which are searched for attributes, and a belief is a list
-//! of fields, made again whenever something is heard or taken. The tests compare them with presentation and shadow, which answer the
-//! same from packed cells.
+//! The screen and the belief as lists, in 24 by 80: a screen is its cells, which are searched for attributes, and a
+//! belief is a list of fields, made again whenever something is heard or taken. The tests compare them with presentation
+//! and shadow, which answer the same from packed cells.
 #![tactic(auto)]
 
 mod belief;

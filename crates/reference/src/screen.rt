@@ -55,15 +55,23 @@ fn fill(cells: &mut [Cell], from: u16, count: u16, new: Cell) {
     }
 }
 
-/// The address of the nearest attribute before a cell, round the end.
-fn attribute_place(cells: &[Cell], at: u16) -> Option<u16> {
-    for back in 0..CELLS {
-        let place = at.saturating_add(CELLS).saturating_sub(back) % CELLS;
-        if !cell_at(cells, place).is_character() {
-            return Some(place);
+/// The address of the last attribute among cells from the first one on.
+fn last_attribute(cells: &[Cell]) -> Option<u16> {
+    let mut last = None;
+    for (place, cell) in (0..CELLS).zip(cells) {
+        if !cell.is_character() {
+            last = Some(place);
         }
     }
-    None
+    last
+}
+
+/// The address of the nearest attribute before a cell or at it, round the end.
+fn attribute_place(cells: &[Cell], at: u16) -> Option<u16> {
+    match last_attribute(cells_before(cells, at.saturating_add(1))) {
+        Some(place) => Some(place),
+        None => last_attribute(cells),
+    }
 }
 
 /// The attribute that governs a cell.
@@ -153,7 +161,7 @@ impl ReferenceScreen {
         cell_at(&self.cells, at)
     }
 
-    /// Stores characters from an address on, as far as the cells have characters, and sets MDT in the field of the first.
+    /// Stores characters from an address on, as far as the cells have characters, and sets MDT in the first one's field.
     pub fn store(&mut self, first: u16, chars: &[u8]) {
         let mut place = first;
         for char in chars {
@@ -310,14 +318,9 @@ impl ReferenceScreen {
         Some((place, field_length(&self.cells, place)))
     }
 
-    /// The attribute that governs a cell.
-    pub fn attribute_over(&self, at: u16) -> Option<Attr> {
-        attribute_over(&self.cells, at)
-    }
-
-    /// The character that is printed for a cell.
-    pub fn glyph_at(&self, at: u16) -> char {
-        match self.attribute_over(at) {
+    /// The character that is printed for a cell under an attribute.
+    pub fn glyph_at(&self, at: u16, over: Option<Attr>) -> char {
+        match over {
             Some(attr) if attr.display == Display::Hidden => ' ',
             _ => glyph_of(self.cell(at)),
         }

@@ -1,17 +1,17 @@
 //! What shadow believes of a screen, and the paint of a wanted screen.
 //!
 //! ```text
-//! new; doubt                 nothing is known; the operator may have typed
-//! take MODEL BYTES           a terminal of a model carried out a command: taken; or not plain, or the fault
-//! hear FORM BYTES            inbound data of a form from a screen of the believed size: heard, or the fault
-//! show                       the size, none if nothing is known; each cell as far as it is known; each field's fact: the address of its
-//!                            attribute, its kind, and its text
-//! at ADDR                    the fact of the field whose attribute is there; the cell; and the text character by character
-//! want, put, aim             the wanted screen (`wanted`)
-//! wanted                     shows it
+//! new; doubt             nothing is known; the operator may have typed
+//! take MODEL BYTES       a terminal of a model carried out a command: taken; or not plain, or the fault
+//! hear FORM BYTES        inbound data of a form from a screen of the believed size: heard, or the fault
+//! show                   the size, none if nothing is known; each cell as far as it is known; each field's fact: the
+//!                        address of its attribute, its kind, and its text
+//! at ADDR                the fact of the field whose attribute is there; the cell; the text character by character
+//! want, put, aim         the wanted screen (`wanted`)
+//! wanted                 shows it
 //! fits
-//! out ROOM BYTES             a new vector for paints, with room for so many bytes and these in it
-//! paint                      appends what paints the wanted screen
+//! out ROOM BYTES         a new vector for paints, with room for ROOM bytes and these in it
+//! paint                  appends what paints the wanted screen
 //! ```
 ghost use Rattle.std.specs.Prelude.{◌<◌, ◌≡◌, IsTrue};
 ghost use Rattle.codes3270.specs.Size.{cells_in};

@@ -1,5 +1,5 @@
-//! What lines and answers of several subjects have: models, forms, addresses, cells (`C1` a character, `sf:60` an attribute), and the
-//! vector that calls append to.
+//! What lines and answers of several subjects have: models, forms, addresses, cells (`C1` a character, `sf:60` an
+//! attribute), and the vector that calls append to.
 ghost use Rattle.std.specs.Prelude.{◌<◌, ◌≡◌, true, All, IfOk};
 ghost use Rattle.codes3270.specs.Size.{cells_in};
 ghost use Rattle.codes3270.specs.Storable.{is_storable};

@@ -1,16 +1,19 @@
 //! Commands of datastream, read and written.
 //!
 //! ```text
-//! read NOW ALTERNATE BYTES    a command for a screen of model NOW's alternate size, whose own model is ALTERNATE: its code, size, write
-//!                             control character and orders, one by one and with runs of characters; or the fault
-//! out ROOM BYTES              a new vector with room for so many bytes, with these in it
+//! read NOW ALTERNATE BYTES    a command for a screen of model NOW's alternate size, whose own model is ALTERNATE: its
+//!                             code, size, write control character and orders, one by one and with runs of
+//!                             characters; or the fault
+//! out ROOM BYTES              a new vector with room for ROOM bytes, with these in it
 //! begin CODE WCC; sba ADDR; sf BYTE; chars BYTES; ra ADDR BYTE; ic
 //!                             appends by a writer: what it answers, and the vector's bytes
 //! ```
 use crate::fault::Fault;
 use crate::line::Words;
 use crate::subject::Subject;
-use crate::subjects::cells::{Out, addr, are_storable, character, code, model, put_attr, put_chars};
+use crate::subjects::cells::{
+    Out, addr, are_storable, character, code, model, put_attr, put_chars,
+};
 use codes3270::{Attr, Size, Wcc};
 use datastream::{Command, CommandCode, CommandWriter, Memory, Order, Orders, read_command};
 use std::alloc::{AllocError, Global};
@@ -72,10 +75,22 @@ fn put_runs(answer: &mut String, orders: Orders<'_>) -> Result<(), AllocError> {
 
 fn put_command(answer: &mut String, command: &Command<'_>) -> Result<(), AllocError> {
     let (code, size) = (command.code(), command.size());
-    write!(answer, "{code:?} has-orders {}\nsize {} {}\n", code.has_orders(), size.rows(), size.cols())?;
+    write!(
+        answer,
+        "{code:?} has-orders {}\nsize {} {}\n",
+        code.has_orders(),
+        size.rows(),
+        size.cols()
+    )?;
     match command.wcc() {
         Some(wcc) => {
-            write!(answer, "wcc alarm {} restore {} reset {}", wcc.alarm(), wcc.restore(), wcc.reset())?
+            write!(
+                answer,
+                "wcc alarm {} restore {} reset {}",
+                wcc.alarm(),
+                wcc.restore(),
+                wcc.reset()
+            )?
         }
         None => answer.push_str("wcc none")?,
     }
@@ -112,7 +127,10 @@ impl Commands {
         }
         let mut writer = CommandWriter::new(&mut self.out.bytes);
         match word {
-            "begin" => Ok(writer.begin(command_code(line.word()?)?, Wcc::from_byte(code(line.word()?)?))),
+            "begin" => Ok(writer.begin(
+                command_code(line.word()?)?,
+                Wcc::from_byte(code(line.word()?)?),
+            )),
             "sba" => Ok(writer.sba(addr(line, Size::base())?)),
             "sf" => Ok(writer.sf(Attr::from_code(code(line.word()?)?))),
             "ra" => Ok(writer.ra(addr(line, Size::base())?, character(line.word()?)?)),

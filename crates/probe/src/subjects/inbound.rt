@@ -1,9 +1,9 @@
 //! Inbound data of datastream.
 //!
 //! ```text
-//! read FORM MODEL BYTES    data of a form (modified, all, buffer) from a screen of a model's alternate size: form, size, AID, cursor,
-//!                          the text before any field, fields, parts, and what each part is as a cell; of a buffer the cells, one by
-//!                          one and with runs of characters; or the fault
+//! read FORM MODEL BYTES    data of a form (modified, all, buffer) from a screen of a model's alternate size: form,
+//!                          size, AID, cursor, the text before any field, fields, parts, and what each part is as a
+//!                          cell; of a buffer the cells, one by one and with runs of characters; or the fault
 //! ```
 use crate::fault::Fault;
 use crate::line::Words;
@@ -21,7 +21,12 @@ pub(crate) struct Inbounds {
 
 fn put_head(answer: &mut String, inbound: &Inbound<'_>) -> Result<(), AllocError> {
     let (form, size, aid) = (inbound.form(), inbound.size(), aid_byte(inbound.aid()));
-    write!(answer, "{form:?}\nsize {} {}\naid {aid:02X}\n", size.rows(), size.cols())?;
+    write!(
+        answer,
+        "{form:?}\nsize {} {}\naid {aid:02X}\n",
+        size.rows(),
+        size.cols()
+    )?;
     match inbound.cursor() {
         Some(cursor) => write!(answer, "cursor {}", cursor.get()),
         None => answer.push_str("cursor none"),

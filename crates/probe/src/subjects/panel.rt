@@ -3,8 +3,9 @@
 //! ```text
 //! read BYTES                   a text: its first panel, its number of panels, its LUs; or the fault
 //! panel INDEX                  name, model, size and fields of a panel, of which the next two speak; or none
-//! wanted BOOL MESSAGE          the screen that it asks for with its fields kept or not: fresh, plain, key-not-active, required N,
-//!                              told BYTES, told-at N BYTES; if they are kept, also what it is once their values are put
+//! wanted BOOL MESSAGE          the screen that it asks for with its fields kept or not: fresh, plain, key-not-active,
+//!                              required N, told BYTES, told-at N BYTES; if they are kept, also what it is once their
+//!                              values are put
 //! next BYTE                    where the key of an AID leads
 //! shown INDEX MODEL            the panel that is shown in a session of a model
 //! set FIELD BYTES              gives a field a value
@@ -75,7 +76,12 @@ fn is_fresh(message: &Message) -> bool
 }
 
 /// Puts the screen with the fields kept, and what it is once the values are put.
-fn put_kept(answer: &mut String, panel: &Panel, values: &Values, message: Message) -> Result<(), Fault> {
+fn put_kept(
+    answer: &mut String,
+    panel: &Panel,
+    values: &Values,
+    message: Message,
+) -> Result<(), Fault> {
     if is_fresh(&message) {
         return Err(Fault::Needs("no fresh panel"));
     }
@@ -87,10 +93,20 @@ fn put_kept(answer: &mut String, panel: &Panel, values: &Values, message: Messag
 
 fn put_panel(answer: &mut String, panel: &Panel) -> Result<(), AllocError> {
     let (size, model) = (panel.size(), panel.model());
-    write!(answer, "{} {model:?} size {} {}\n", panel.name().as_str(), size.rows(), size.cols())?;
+    write!(
+        answer,
+        "{} {model:?} size {} {}\n",
+        panel.name().as_str(),
+        size.rows(),
+        size.cols()
+    )?;
     for field in panel.fields() {
         let (attr, length) = (field.extent.attr().get(), field.extent.length);
-        write!(answer, "field {} at {attr}+{length} required {}\n", field.number, field.required)?;
+        write!(
+            answer,
+            "field {} at {attr}+{length} required {}\n",
+            field.number, field.required
+        )?;
     }
     Ok(())
 }

@@ -31,13 +31,18 @@ fn put_field(answer: &mut String, field: Option<(u16, usize)>) -> Result<(), All
 }
 
 fn put_look(answer: &mut String, screen: &ReferenceScreen, place: u16) -> Result<(), AllocError> {
+    let field = screen.field_at(place);
+    let over = match field {
+        Some((attr, _)) => screen.cell(attr).attribute(),
+        None => None,
+    };
     put_cell(answer, Some(screen.cell(place)))?;
-    put_field(answer, screen.field_at(place))?;
-    match screen.attribute_over(place) {
+    put_field(answer, field)?;
+    match over {
         Some(attr) => put_attr(answer, attr)?,
         None => answer.push_str(" -")?,
     }
-    let glyph = u32::from(screen.glyph_at(place));
+    let glyph = u32::from(screen.glyph_at(place, over));
     write!(answer, " {glyph} {glyph}\n")
 }
 
@@ -50,7 +55,12 @@ fn put_looks(answer: &mut String, screen: &ReferenceScreen) -> Result<(), AllocE
 
 fn put_screen(answer: &mut String, screen: &ReferenceScreen) -> Result<(), AllocError> {
     let aid = aid_byte(screen.aid);
-    write!(answer, "size 24 80\naid {aid:02X}\ncursor {}\nhome {}\nfields", screen.cursor, screen.home())?;
+    write!(
+        answer,
+        "size 24 80\naid {aid:02X}\ncursor {}\nhome {}\nfields",
+        screen.cursor,
+        screen.home()
+    )?;
     for place in 0..CELLS {
         if !screen.cell(place).is_character() {
             put_field(answer, screen.field_at(place))?;
@@ -73,7 +83,11 @@ impl ListedScreen {
         match read_command(bytes.as_slice(), Size::base(), Size::base()) {
             Ok(command) => {
                 let applied = self.screen.apply(&command);
-                Ok(write!(answer, "restore {} alarm {}\n", applied.restore, applied.alarm)?)
+                Ok(write!(
+                    answer,
+                    "restore {} alarm {}\n",
+                    applied.restore, applied.alarm
+                )?)
             }
             Err(fault) => Ok(write!(answer, "fault {fault:?}\n")?),
         }

@@ -4,14 +4,14 @@
 //! new MODEL                   a blank screen of a model, and a keyboard that waits
 //! apply BYTES                 a command: what it asks for, or the fault. If it restores, the keyboard is free
 //! press NAME; char NUMBER     a key by its name, the key of a character: done, refused or sends
-//! store ADDR BYTES            stores characters from an address on, as far as the cells have characters, and sets MDT in the field
-//!                             of the first
+//! store ADDR BYTES            stores characters from an address on, as far as the cells have characters, and sets MDT
+//!                             in the field of the first
 //! cursor ADDR; aid BYTE; clear; erase-input
 //! copy                        the screen's copy takes its place
 //! show                        size, cursor, home, AID, lock, insert mode, and the fields
-//! look                        each cell: what it is, its field, the attribute over it, and the number of the character that is
-//!                             displayed, as asked for this cell and in the walk over all
-//! out ROOM BYTES              a new vector for reads, with room for so many bytes and these in it
+//! look                        each cell: what it is, its field, the attribute over it, and the number of the character
+//!                             that is displayed, as asked for this cell and in the walk over all
+//! out ROOM BYTES              a new vector for reads, with room for ROOM bytes and these in it
 //! read FORM                   appends what a read is answered: modified, all, buffer
 //! refusals                    the number of each refusal
 //! ```
@@ -119,7 +119,11 @@ impl Display {
                 if applied.restore {
                     self.keyboard.restored();
                 }
-                Ok(write!(answer, "restore {} alarm {}\n", applied.restore, applied.alarm)?)
+                Ok(write!(
+                    answer,
+                    "restore {} alarm {}\n",
+                    applied.restore, applied.alarm
+                )?)
             }
             Err(fault) => Ok(write!(answer, "fault {fault:?}\n")?),
         }
@@ -163,9 +167,24 @@ impl Display {
 
     fn show(&self, answer: &mut String) -> Result<(), AllocError> {
         let (size, aid) = (self.screen.size(), aid_byte(self.screen.aid()));
-        write!(answer, "size {} {}\naid {aid:02X}\n", size.rows(), size.cols())?;
-        write!(answer, "cursor {}\nhome {}\n", self.screen.cursor().get(), self.screen.home().get())?;
-        write!(answer, "lock {}\ninserting {}\n", self.keyboard.lock(), self.keyboard.inserting())?;
+        write!(
+            answer,
+            "size {} {}\naid {aid:02X}\n",
+            size.rows(),
+            size.cols()
+        )?;
+        write!(
+            answer,
+            "cursor {}\nhome {}\n",
+            self.screen.cursor().get(),
+            self.screen.home().get()
+        )?;
+        write!(
+            answer,
+            "lock {}\ninserting {}\n",
+            self.keyboard.lock(),
+            self.keyboard.inserting()
+        )?;
         answer.push_str("fields")?;
         for field in self.screen.fields() {
             put_field(answer, Some(field))?;

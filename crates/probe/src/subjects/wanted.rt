@@ -103,14 +103,20 @@ fn put_want(answer: &mut String, want: Want) -> Result<(), AllocError> {
 /// Puts size, cursor, reset and cells, these in one walk.
 pub(crate) fn put_wanted(answer: &mut String, wanted: &Wanted) -> Result<(), AllocError> {
     let (size, cursor) = (wanted.size(), wanted.cursor().get());
-    write!(answer, "size {} {}\ncursor {cursor}\nreset {}\ncells", size.rows(), size.cols(), wanted.reset())?;
+    write!(
+        answer,
+        "size {} {}\ncursor {cursor}\nreset {}\ncells",
+        size.rows(),
+        size.cols(),
+        wanted.reset()
+    )?;
     for want in wanted.cells() {
         put_want(answer, want)?;
     }
     answer.push('\n')
 }
 
-/// Puts each cell as it is looked up by its address, and as the first from there on.
+/// Puts each cell as it is looked up by its address, and then the one behind it, round the end.
 pub(crate) fn put_each(answer: &mut String, wanted: &Wanted) -> Result<(), AllocError> {
     let size = wanted.size();
     answer.push_str("each")?;
