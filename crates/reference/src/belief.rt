@@ -1,0 +1,253 @@
+//! What is believed of a screen.
+use crate::fields::{Cells, Chars, Fields, Known, fields_of, laid_out, push_chars};
+use crate::hearing::{after_attention, any_other, heard_fields};
+use crate::painting::{fits_fields, put_cells, wants_of};
+use arrayvec::ArrayVec;
+use codes3270::{Aid, CELL_COUNT, Cell, Wcc};
+use datastream::{
+    Command, CommandCode, CommandWriter, Form, Inbound, Memory, Order, Orders, Wanted,
+};
+use shadow::{Fact, HeardFault, MdtState};
+
+/// What is believed of a screen.
+#[derive(Drop)]
+pub enum ReferenceBelief {
+    /// Nothing.
+    Nothing,
+    /// The characters of a screen without attributes, as far as they are known.
+    Unformatted(Chars),
+    /// Its fields.
+    Formatted(Fields),
+}
+
+/// A cell that was just stored, or read.
+fn stored_cell(cell: Cell) -> Known {
+    match cell {
+        Cell::Attr(attr) if attr.mdt => Known::Attr(attr.with_mdt(false), MdtState::On),
+        Cell::Attr(attr) => Known::Attr(attr, MdtState::Off),
+        Cell::Char(char) => Known::Char(Some(char), true),
+    }
+}
+
+/// Stores what the orders store, and answers whether a cell is stored before the first address.
+fn store(cells: &mut [Known], orders: Orders<'_>) -> bool {
+    let mut place = None;
+    let mut unplaced = false;
+    for order in orders {
+        let cell = match order {
+            Order::Sf(attr) => stored_cell(Cell::Attr(attr)),
+            Order::Char(char) => stored_cell(Cell::Char(char)),
+            Order::Sba(to) => {
+                place = Some(usize::from(to.get()));
+                continue;
+            }
+            _ => continue,
+        };
+        unplaced = unplaced || place.is_none();
+        let at = place.unwrap_or(0);
+        if let Some(kept) = cells.get_mut(at) {
+            *kept = cell;
+        }
+        place = Some(at.wrapping_add(1) % CELL_COUNT);
+    }
+    unplaced
+}
+
+fn marks_off(cells: &mut [Known]) {
+    for cell in cells.iter_mut() {
+        if let Known::Attr(attr, _) = *cell {
+            *cell = Known::Attr(attr, MdtState::Off);
+        }
+    }
+}
+
+fn unformatted(chars: &[Option<u8>]) -> Cells {
+    let mut cells = ArrayVec::new();
+    push_chars(&mut cells, chars);
+    cells
+}
+
+fn nulls_known() -> Chars {
+    ArrayVec::from_array_in((), [Some(0); CELL_COUNT])
+}
+
+/// What these cells are, of whose fields some may keep the facts that they had.
+fn belief_of(before: &Fields, cells: &[Known]) -> ReferenceBelief {
+    let after = fields_of(before, cells);
+    if !after.heads().is_empty() {
+        return ReferenceBelief::Formatted(after);
+    }
+    let mut chars = ArrayVec::new();
+    for cell in cells {
+        if let Known::Char(char, _) = *cell {
+            let _full = chars.try_push(char);
+        }
+    }
+    ReferenceBelief::Unformatted(chars)
+}
+
+/// What is believed after a write on these cells.
+fn after_write(before: &Fields, cells: &mut Cells, command: &Command<'_>) -> ReferenceBelief {
+    if command.wcc().is_some_and(|wcc| wcc.reset) {
+        marks_off(cells.as_mut_slice());
+    }
+    if store(cells.as_mut_slice(), command.orders()) {
+        return ReferenceBelief::Nothing;
+    }
+    belief_of(before, cells.as_slice())
+}
+
+fn after_erase(command: &Command<'_>) -> ReferenceBelief {
+    let mut cells: Cells = ArrayVec::from_array_in((), [Known::Char(Some(0), true); CELL_COUNT]);
+    let _unplaced = store(cells.as_mut_slice(), command.orders());
+    belief_of(&Fields::new(), cells.as_slice())
+}
+
+impl ReferenceBelief {
+    /// What is believed after a plain write.
+    fn taken(&self, command: &Command<'_>) -> ReferenceBelief {
+        match (command.code(), self) {
+            (CommandCode::EraseWrite | CommandCode::EraseWriteAlternate, _) => after_erase(command),
+            (CommandCode::Write, ReferenceBelief::Unformatted(chars)) => {
+                after_write(&Fields::new(), &mut unformatted(chars.as_slice()), command)
+            }
+            (CommandCode::Write, ReferenceBelief::Formatted(fields)) => {
+                after_write(fields, &mut laid_out(fields), command)
+            }
+            _ => ReferenceBelief::Nothing,
+        }
+    }
+
+    /// Takes in a plain write that was carried out.
+    pub fn sent_taken(&mut self, command: &Command<'_>) {
+        *self = self.taken(command);
+    }
+
+    fn after_short(&self, aid: Aid) -> ReferenceBelief {
+        match (aid, self) {
+            (Aid::Clear, _) => ReferenceBelief::Unformatted(nulls_known()),
+            (_, ReferenceBelief::Formatted(fields)) => ReferenceBelief::Formatted(after_attention(
+                fields,
+            )),
+            _ => ReferenceBelief::Nothing,
+        }
+    }
+
+    fn after_long(&self, inbound: &Inbound<'_>) -> Result<ReferenceBelief, HeardFault> {
+        if let ReferenceBelief::Formatted(fields) = self {
+            return Ok(ReferenceBelief::Formatted(heard_fields(fields, inbound)?));
+        }
+        if inbound.returned().next().is_some() {
+            return Err(HeardFault::NoSuchField);
+        }
+        match self {
+            ReferenceBelief::Unformatted(chars) if chars.len() < inbound.leading_text().len() => {
+                Err(HeardFault::Contradiction)
+            }
+            _ => Ok(ReferenceBelief::Nothing),
+        }
+    }
+
+    fn after_buffer(&self, inbound: &Inbound<'_>) -> Result<ReferenceBelief, HeardFault> {
+        let mut cells: Cells = ArrayVec::new();
+        for part in inbound.parts() {
+            if let Some(cell) = part.cell() {
+                let _full = cells.try_push(stored_cell(cell));
+            }
+        }
+        let read = fields_of(&Fields::new(), cells.as_slice());
+        let denied = match self {
+            ReferenceBelief::Nothing => false,
+            ReferenceBelief::Unformatted(_) => !read.heads().is_empty(),
+            ReferenceBelief::Formatted(fields) => any_other(fields, &read),
+        };
+        if denied {
+            return Err(HeardFault::Contradiction);
+        }
+        Ok(belief_of(&Fields::new(), cells.as_slice()))
+    }
+
+    /// Takes in what a terminal sent; on an error nothing changes.
+    pub fn heard(&mut self, inbound: &Inbound<'_>) -> Result<(), HeardFault> {
+        let next = match inbound.form() {
+            Form::Modified if inbound.aid().is_short() => Ok(self.after_short(inbound.aid())),
+            Form::Modified | Form::All => self.after_long(inbound),
+            Form::Buffer => self.after_buffer(inbound),
+        };
+        *self = next?;
+        Ok(())
+    }
+
+    /// All cells, as far as they are known; none if nothing is.
+    fn laid_out(&self) -> Cells {
+        match self {
+            ReferenceBelief::Nothing => ArrayVec::new(),
+            ReferenceBelief::Unformatted(chars) => unformatted(chars.as_slice()),
+            ReferenceBelief::Formatted(fields) => laid_out(fields),
+        }
+    }
+
+    /// Each cell, if it is known; none if nothing is. An attribute whose MDT isn't known has it off.
+    pub fn known(&self) -> ArrayVec<Option<Cell>, CELL_COUNT> {
+        let mut known = ArrayVec::new();
+        for cell in self.laid_out().as_slice() {
+            let _full = known.try_push(match *cell {
+                Known::Attr(attr, mark) => Some(Cell::Attr(attr.with_mdt(mark == MdtState::On))),
+                Known::Char(char, _) => char.map(Cell::Char),
+            });
+        }
+        known
+    }
+
+    /// The fact of the field whose attribute is at an address.
+    pub fn fact(&self, place: u16) -> Option<Fact> {
+        match self {
+            ReferenceBelief::Formatted(fields) => {
+                let head = fields.field_with(usize::from(place))?;
+                Some(head.fact)
+            }
+            _ => None,
+        }
+    }
+
+    /// The text that the fact of a field speaks of.
+    pub fn text(&self, place: u16) -> &[u8] {
+        match self {
+            ReferenceBelief::Formatted(fields) => match fields.field_with(usize::from(place)) {
+                Some(head) => fields.lent(head).text,
+                None => &[],
+            },
+            _ => &[],
+        }
+    }
+
+    /// Whether Keep stands only where it may.
+    pub fn fits(&self, wanted: &Wanted) -> bool {
+        let wants = wants_of(wanted);
+        match self {
+            ReferenceBelief::Formatted(fields) => fits_fields(fields, &wants),
+            _ => fits_fields(&Fields::new(), &wants),
+        }
+    }
+
+    /// Appends what paints a wanted screen, which fits or keeps nothing.
+    pub fn paint(&self, out: &mut Vec<u8>, wanted: &Wanted) -> Result<(), Memory> {
+        let (code, mut cells) = match self {
+            ReferenceBelief::Formatted(fields) => (CommandCode::Write, laid_out(fields)),
+            _ => (
+                CommandCode::EraseWrite,
+                unformatted(nulls_known().as_slice()),
+            ),
+        };
+        if wanted.reset() {
+            marks_off(cells.as_mut_slice());
+        }
+        let wcc = Wcc {
+            alarm: false,
+            restore: true,
+            reset: wanted.reset(),
+        };
+        CommandWriter::new(out).begin(code, wcc)?;
+        put_cells(out, &wants_of(wanted), wanted.cursor(), cells.as_slice())
+    }
+}

@@ -1,0 +1,274 @@
+//! The list of fields that a belief is, the cells that it is laid out to, and the fields that cells make.
+use arrayvec::ArrayVec;
+use codes3270::{Attr, CELL_COUNT, Display};
+use shadow::{Fact, MdtState};
+
+/// What is known of a cell.
+#[derive(Clone, Copy)]
+pub(crate) enum Known {
+    /// An attribute, without its modified data tag, and what is known of that.
+    Attr(Attr, MdtState),
+    /// A character, if it is known, and whether the write at hand stored it.
+    Char(Option<u8>, bool),
+}
+
+impl Default for Known {
+    fn default() -> Known {
+        Known::Char(None, false)
+    }
+}
+
+/// A field. Its text lies from `start` to `end` among the texts; where its fact is `Any`, its characters lie so.
+#[derive(Clone, Copy)]
+pub(crate) struct Head {
+    pub(crate) place: usize,
+    pub(crate) attr: Attr,
+    pub(crate) mark: MdtState,
+    pub(crate) length: usize,
+    pub(crate) fact: Fact,
+    pub(crate) start: usize,
+    pub(crate) end: usize,
+}
+
+impl Head {
+    /// A field of which nothing is known but where it is.
+    pub(crate) fn new(place: usize, attr: Attr, mark: MdtState, length: usize) -> Head {
+        Head {
+            place,
+            attr,
+            mark,
+            length,
+            fact: Fact::Any,
+            start: 0,
+            end: 0,
+        }
+    }
+}
+
+impl Default for Head {
+    fn default() -> Head {
+        let attr = Attr {
+            protected: false,
+            numeric: false,
+            display: Display::Normal,
+            mdt: false,
+        };
+        Head::new(0, attr, MdtState::Unknown, 0)
+    }
+}
+
+/// What is known of a field's characters.
+#[derive(Clone, Copy)]
+pub(crate) struct Lent<'a> {
+    pub(crate) fact: Fact,
+    /// What the fact speaks of, unless it is `Any`.
+    pub(crate) text: &'a [u8],
+    /// Where the fact is `Any`, each character that is known.
+    pub(crate) chars: &'a [Option<u8>],
+}
+
+impl<'a> Lent<'a> {
+    pub(crate) fn told(fact: Fact, text: &'a [u8]) -> Lent<'a> {
+        Lent {
+            fact,
+            text,
+            chars: &[],
+        }
+    }
+
+    pub(crate) fn partly(chars: &'a [Option<u8>]) -> Lent<'a> {
+        Lent {
+            fact: Fact::Any,
+            text: &[],
+            chars,
+        }
+    }
+}
+
+/// Fields, by the addresses of their attributes.
+#[derive(Drop)]
+pub struct Fields {
+    heads: ArrayVec<Head, CELL_COUNT>,
+    texts: ArrayVec<u8, CELL_COUNT>,
+    pub(crate) chars: ArrayVec<Option<u8>, CELL_COUNT>,
+}
+
+impl Fields {
+    pub(crate) fn new() -> Fields {
+        Fields {
+            heads: ArrayVec::new(),
+            texts: ArrayVec::new(),
+            chars: ArrayVec::new(),
+        }
+    }
+
+    pub(crate) fn heads(&self) -> &[Head] {
+        self.heads.as_slice()
+    }
+
+    /// What is known of a field's characters.
+    pub(crate) fn lent(&self, head: Head) -> Lent<'_> {
+        let span = head.start..head.end;
+        if head.fact == Fact::Any {
+            Lent::partly(self.chars.as_slice().get(span).unwrap_or(&[]))
+        } else {
+            Lent::told(head.fact, self.texts.as_slice().get(span).unwrap_or(&[]))
+        }
+    }
+
+    /// Adds a field, of whose characters that is known. There is room for as many as a screen has cells.
+    pub(crate) fn push(&mut self, head: Head, lent: Lent<'_>) {
+        let start = if lent.fact == Fact::Any {
+            self.chars.len()
+        } else {
+            self.texts.len()
+        };
+        let _chars = self.chars.try_extend_from_slice(lent.chars);
+        let _texts = self.texts.try_extend_from_slice(lent.text);
+        let count = lent.text.len().max(lent.chars.len());
+        let _head = self.heads.try_push(Head {
+            fact: lent.fact,
+            start,
+            end: start.saturating_add(count),
+            ..head
+        });
+    }
+
+    /// The field whose attribute is at an address.
+    pub(crate) fn field_with(&self, place: usize) -> Option<Head> {
+        self.heads()
+            .iter()
+            .find(|head| head.place == place)
+            .copied()
+    }
+}
+
+/// Characters, as far as they are known.
+pub type Chars = ArrayVec<Option<u8>, CELL_COUNT>;
+
+/// Each cell of a screen.
+pub(crate) type Cells = ArrayVec<Known, CELL_COUNT>;
+
+const RING: usize = 2 * CELL_COUNT;
+
+/// The cells twice.
+type Ring = ArrayVec<Known, RING>;
+
+/// Adds characters, as far as they are known.
+pub(crate) fn push_chars(cells: &mut Cells, chars: &[Option<u8>]) {
+    for char in chars {
+        let _full = cells.try_push(Known::Char(*char, false));
+    }
+}
+
+fn push_cells(cells: &mut Cells, fields: &Fields, head: Head) {
+    let lent = fields.lent(head);
+    let _full = cells.try_push(Known::Attr(head.attr, head.mark));
+    match head.fact {
+        Fact::Exact => {
+            for char in lent.text {
+                let _full = cells.try_push(Known::Char(Some(*char), false));
+            }
+        }
+        Fact::Any => push_chars(cells, lent.chars),
+        _ => {
+            for _ in 0..head.length {
+                let _full = cells.try_push(Known::Char(None, false));
+            }
+        }
+    }
+}
+
+/// The fields' cells, by address.
+pub(crate) fn laid_out(fields: &Fields) -> Cells {
+    let mut cells = ArrayVec::new();
+    for head in fields.heads() {
+        push_cells(&mut cells, fields, *head);
+    }
+    let first = match fields.heads().first() {
+        Some(head) => head.place.min(cells.len()),
+        None => 0,
+    };
+    cells.as_mut_slice().rotate_right(first);
+    cells
+}
+
+/// The characters up to the first attribute, and their text as far as it is known.
+#[derive(Drop)]
+struct Gathered {
+    pub(crate) chars: Chars,
+    pub(crate) text: ArrayVec<u8, CELL_COUNT>,
+    /// Whether one of them was just stored.
+    fresh: bool,
+}
+
+fn gather(gathered: &mut Gathered, behind: &[Known]) {
+    gathered.chars.clear();
+    gathered.text.clear();
+    gathered.fresh = false;
+    for cell in behind {
+        let Known::Char(char, fresh) = *cell else {
+            return;
+        };
+        let _full = gathered.chars.try_push(char);
+        if let Some(char) = char {
+            let _full = gathered.text.try_push(char);
+        }
+        gathered.fresh = gathered.fresh || fresh;
+    }
+}
+
+/// What was known of the field that had this address and length.
+fn lent_before<'a>(before: &'a Fields, place: usize, length: usize) -> Option<Lent<'a>> {
+    let mut heads = before.heads().iter();
+    let head = heads.find(|head| head.place == place && head.length == length)?;
+    Some(before.lent(*head))
+}
+
+/// What is known of the field that was gathered, if it doesn't keep what was known.
+fn lent_now(gathered: &Gathered) -> Lent<'_> {
+    if gathered.text.len() == gathered.chars.len() {
+        Lent::told(Fact::Exact, gathered.text.as_slice())
+    } else {
+        Lent::partly(gathered.chars.as_slice())
+    }
+}
+
+/// Adds the field that was gathered. It keeps its fact, where none of its characters was just stored.
+fn push_field(after: &mut Fields, gathered: &Gathered, before: &Fields, head: Head) {
+    let length = gathered.chars.len();
+    let kept = if gathered.fresh {
+        None
+    } else {
+        lent_before(before, head.place, length)
+    };
+    let lent = kept.unwrap_or(lent_now(gathered));
+    after.push(Head { length, ..head }, lent);
+}
+
+fn ring_of(cells: &[Known]) -> Ring {
+    let mut ring = ArrayVec::new();
+    let _first = ring.try_extend_from_slice(cells);
+    let _second = ring.try_extend_from_slice(cells);
+    ring
+}
+
+/// The fields that the cells make, of which some may keep the facts that they had.
+pub(crate) fn fields_of(fields: &Fields, cells: &[Known]) -> Fields {
+    let ring = ring_of(cells);
+    let mut gathered = Gathered {
+        chars: ArrayVec::new(),
+        text: ArrayVec::new(),
+        fresh: false,
+    };
+    let mut after = Fields::new();
+    for (place, cell) in cells.iter().enumerate() {
+        if let Known::Attr(attr, mark) = *cell {
+            let behind = ring.as_slice().get(place.saturating_add(1)..);
+            gather(&mut gathered, behind.unwrap_or(&[]));
+            let head = Head::new(place, attr, mark, 0);
+            push_field(&mut after, &gathered, fields, head);
+        }
+    }
+    after
+}

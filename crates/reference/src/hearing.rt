@@ -1,0 +1,242 @@
+//! The fields of a belief after what a terminal sent.
+use crate::fields::{Fields, Head, Lent};
+use arrayvec::ArrayVec;
+use codes3270::{CELL_COUNT, attr_code};
+use datastream::{Inbound, ReturnedFields};
+use shadow::{Fact, HeardFault, MdtState};
+
+/// The returned text of each field.
+type Texts<'a> = ArrayVec<Option<&'a [u8]>, CELL_COUNT>;
+
+/// Nulls, and characters of which none is known.
+#[derive(Drop)]
+struct Blank {
+    nulls: [u8; CELL_COUNT],
+    unknown: [Option<u8>; CELL_COUNT],
+}
+
+fn nulls() -> [u8; CELL_COUNT] {
+    [0; CELL_COUNT]
+}
+
+fn unknown() -> [Option<u8>; CELL_COUNT] {
+    [None; CELL_COUNT]
+}
+
+impl Blank {
+    fn new() -> Blank {
+        Blank {
+            nulls: nulls(),
+            unknown: unknown(),
+        }
+    }
+
+    fn null(&self, count: usize) -> Lent<'_> {
+        Lent::told(Fact::Exact, self.nulls.get(..count).unwrap_or(&[]))
+    }
+
+    fn unknown(&self, count: usize) -> Lent<'_> {
+        Lent::partly(self.unknown.get(..count).unwrap_or(&[]))
+    }
+}
+
+fn first_address(place: usize) -> usize {
+    place.wrapping_add(1) % CELL_COUNT
+}
+
+/// Whether one of the returned fields begins where no field does.
+fn any_nowhere(fields: &Fields, returned: ReturnedFields<'_>) -> bool {
+    for field in returned {
+        let first = usize::from(field.first.get());
+        if !fields
+            .heads()
+            .iter()
+            .any(|head| first_address(head.place) == first)
+        {
+            return true;
+        }
+    }
+    false
+}
+
+/// A returned field: the address of its first cell, and its text.
+#[derive(Clone, Copy)]
+struct Came<'a> {
+    first: usize,
+    text: &'a [u8],
+}
+
+/// The first of the fields that are left.
+fn next_of<'a>(rest: &mut ReturnedFields<'a>) -> Option<Came<'a>> {
+    match rest.next() {
+        Some(field) => Some(Came {
+            first: usize::from(field.first.get()),
+            text: field.text,
+        }),
+        None => None,
+    }
+}
+
+/// Each field's text; None if the returned fields are out of order, or one is there twice.
+fn texts_of<'a>(fields: &Fields, returned: ReturnedFields<'a>) -> Option<Texts<'a>> {
+    let mut rest = returned;
+    let mut next = next_of(&mut rest);
+    let mut texts = ArrayVec::new();
+    for head in fields.heads() {
+        let mut found = None;
+        match next {
+            Some(came) if came.first == first_address(head.place) => {
+                found = Some(came.text);
+                next = next_of(&mut rest);
+            }
+            _ => {}
+        }
+        let _full = texts.try_push(found);
+    }
+    if next.is_some() { None } else { Some(texts) }
+}
+
+/// Whether a text without its nulls is this one.
+fn is_without_nulls(value: &[u8], text: &[u8]) -> bool {
+    let mut rest = text;
+    for char in value {
+        if *char != 0 {
+            match rest {
+                [first, others @ ..] if *first == *char => rest = others,
+                _ => return false,
+            }
+        }
+    }
+    rest.is_empty()
+}
+
+/// Whether it can't be that a text, or none, came for a field.
+fn contradicts(head: Head, lent: Lent<'_>, came: Option<&[u8]>) -> bool {
+    let Some(text) = came else {
+        return head.attr.protected && head.mark == MdtState::On;
+    };
+    let denies = lent.fact == Fact::Exact && !is_without_nulls(lent.text, text);
+    head.length < text.len() || head.attr.protected && (head.mark == MdtState::Off || denies)
+}
+
+fn any_contradicts(fields: &Fields, texts: &Texts<'_>) -> bool {
+    fields.heads().iter().zip(texts.as_slice()).any(|(head, text)| contradicts(
+        *head,
+        fields.lent(*head),
+        *text,
+    ))
+}
+
+/// Whether some field's input was erased, since it was on and isn't returned.
+fn any_erased(fields: &Fields, texts: &Texts<'_>) -> bool {
+    fields.heads().iter().zip(texts.as_slice()).any(|(head, text)| text.is_none()
+        && !head.attr.protected
+        && head.mark == MdtState::On)
+}
+
+/// What is known of a field that a terminal didn't return.
+fn or_nulls<'a>(length: usize, lent: Lent<'a>, blank: &'a Blank) -> Lent<'a> {
+    match lent.fact {
+        Fact::Exact if lent.text.iter().any(|char| *char != 0) => {
+            Lent::told(Fact::ExactOrNulls, lent.text)
+        }
+        Fact::Text => Lent::told(Fact::TextOrNulls, lent.text),
+        Fact::Any => blank.unknown(length),
+        _ => lent,
+    }
+}
+
+/// What is known of a field after its data was heard.
+fn lent_after<'a>(
+    head: Head,
+    lent: Lent<'a>,
+    erased: bool,
+    came: Option<&'a [u8]>,
+    blank: &'a Blank,
+) -> Lent<'a> {
+    match came {
+        _ if head.attr.protected => lent,
+        Some([]) => blank.null(head.length),
+        Some(text) => Lent::told(Fact::Text, text),
+        None if erased => blank.null(head.length),
+        None => or_nulls(head.length, lent, blank),
+    }
+}
+
+/// The fields after data that lists those with MDT on.
+fn after_long(fields: &Fields, texts: &Texts<'_>) -> Fields {
+    let blank = Blank::new();
+    let erased = any_erased(fields, texts);
+    let mut after = Fields::new();
+    for (head, text) in fields.heads().iter().zip(texts.as_slice()) {
+        let mark = if text.is_some() {
+            MdtState::On
+        } else {
+            MdtState::Off
+        };
+        let lent = lent_after(*head, fields.lent(*head), erased, *text, &blank);
+        after.push(Head { mark, ..*head }, lent);
+    }
+    after
+}
+
+/// The fields after a key that sends none.
+pub(crate) fn after_attention(fields: &Fields) -> Fields {
+    let blank = Blank::new();
+    let mut after = Fields::new();
+    for head in fields.heads() {
+        if head.attr.protected {
+            after.push(*head, fields.lent(*head));
+        } else if head.length == 0 {
+            let mark = MdtState::Unknown;
+            after.push(Head { mark, ..*head }, blank.null(0));
+        } else {
+            let mark = MdtState::Unknown;
+            after.push(Head { mark, ..*head }, blank.unknown(head.length));
+        }
+    }
+    after
+}
+
+/// The fields after those came that have MDT on.
+pub(crate) fn heard_fields(fields: &Fields, inbound: &Inbound<'_>) -> Result<Fields, HeardFault> {
+    if any_nowhere(fields, inbound.returned()) {
+        return Err(HeardFault::NoSuchField);
+    }
+    if !inbound.leading_text().is_empty() {
+        return Err(HeardFault::Contradiction);
+    }
+    match texts_of(fields, inbound.returned()) {
+        Some(texts) if !any_contradicts(fields, &texts) => Ok(after_long(fields, &texts)),
+        _ => Err(HeardFault::Contradiction),
+    }
+}
+
+/// Whether the characters that are known aren't those that were read.
+fn denies_read(length: usize, lent: Lent<'_>, read: Lent<'_>) -> bool {
+    match lent.fact {
+        Fact::Exact => lent.text != read.text,
+        Fact::Any => {
+            lent.chars.len() != read.text.len()
+                || lent
+                    .chars
+                    .iter()
+                    .zip(read.text)
+                    .any(|(known, char)| known.is_some_and(|known| known != *char))
+        }
+        _ => length != read.text.len(),
+    }
+}
+
+/// Whether the fields that were read aren't those that are believed.
+pub(crate) fn any_other(fields: &Fields, read: &Fields) -> bool {
+    if fields.heads().len() != read.heads().len() {
+        return true;
+    }
+    fields.heads().iter().zip(read.heads()).any(|(head, other)| {
+        other.place != head.place
+            || attr_code(other.attr) != attr_code(head.attr)
+            || head.attr.protected
+                && denies_read(head.length, fields.lent(*head), read.lent(*other))
+    })
+}

@@ -1,0 +1,133 @@
+//! The bytes of a paint, and whether what is to be kept is believed to be there.
+use crate::at;
+use crate::fields::{Fields, Known};
+use codes3270::{Addr, Attr, CELL_COUNT, CELLS, Cell, attr_code, storable};
+use datastream::{CommandWriter, Memory, Want, Wanted};
+use shadow::MdtState;
+
+/// What is wanted of each cell of a screen of 24 by 80.
+pub(crate) fn wants_of(wanted: &Wanted) -> [Want; CELL_COUNT] {
+    let mut wants = [Want::Keep; CELL_COUNT];
+    for (cell, want) in wants.iter_mut().zip(wanted.cells()) {
+        *cell = want;
+    }
+    wants
+}
+
+fn is_attribute(want: &Want) -> bool {
+    matches!(want, Want::Attr(_))
+}
+
+/// Whether there is a Keep before the first attribute, in these and then in all wants.
+fn keeps_round(behind: &[Want], whole: &[Want]) -> bool {
+    let ends = |want: &&Want| !matches!(want, Want::Char(_));
+    match behind.iter().chain(whole).find(ends) {
+        Some(Want::Keep) => true,
+        _ => false,
+    }
+}
+
+/// The number of cells before the first attribute, in these and then in all wants.
+fn count_round(behind: &[Want], whole: &[Want]) -> usize {
+    behind
+        .iter()
+        .chain(whole)
+        .take_while(|want| !is_attribute(want))
+        .count()
+}
+
+fn same_attr(one: Attr, other: Attr) -> bool {
+    attr_code(one.with_mdt(false)) == attr_code(other.with_mdt(false))
+}
+
+/// Whether a field is believed to be.
+fn any_field(fields: &Fields, place: usize, attr: Attr, count: usize) -> bool {
+    fields.heads().iter().any(|head| {
+        head.place == place && same_attr(head.attr, attr) && head.length == count
+    })
+}
+
+/// Whether there is a Keep only in fields, and each of these fits.
+pub(crate) fn fits_fields(fields: &Fields, wants: &[Want]) -> bool {
+    let mut keeps = false;
+    let mut attributes = false;
+    for (place, want) in wants.iter().enumerate() {
+        keeps = keeps || matches!(want, Want::Keep);
+        let Want::Attr(attr) = *want else { continue };
+        attributes = true;
+        let behind = wants.get(place.saturating_add(1)..).unwrap_or(&[]);
+        if keeps_round(behind, wants)
+            && (attr.protected || !any_field(fields, place, attr, count_round(behind, wants)))
+        {
+            return false;
+        }
+    }
+    !keeps || attributes
+}
+
+/// Whether a cell is known to be the wanted one.
+fn is_there(known: Known, cell: Cell) -> bool {
+    match (known, cell) {
+        (Known::Attr(believed, mark), Cell::Attr(attr)) => {
+            let wanted = if attr.mdt {
+                MdtState::On
+            } else {
+                MdtState::Off
+            };
+            same_attr(believed, attr) && mark == wanted
+        }
+        (Known::Char(char, _), Cell::Char(byte)) => char == Some(byte),
+        _ => false,
+    }
+}
+
+/// What a paint stores in a cell; `behind` has the wants of the cells after it.
+fn cell_to_store(want: Want, known: Known, behind: &[Want], whole: &[Want]) -> Option<Cell> {
+    let cell = match want {
+        Want::Keep => return None,
+        Want::Attr(_) if keeps_round(behind, whole) => return None,
+        Want::Attr(attr) => Cell::Attr(attr),
+        Want::Char(byte) => Cell::Char(byte),
+    };
+    if is_there(known, cell) {
+        None
+    } else {
+        Some(cell)
+    }
+}
+
+/// Puts a cell, with its address unless the write is at it.
+fn put_store(out: &mut Vec<u8>, next: Option<u16>, place: u16, cell: Cell) -> Result<(), Memory> {
+    let mut writer = CommandWriter::new(out);
+    if next != Some(place) {
+        writer.sba(at(place))?;
+    }
+    match cell {
+        Cell::Attr(attr) => writer.sf(attr),
+        Cell::Char(byte) if storable(byte) => writer.chars(&[byte]),
+        Cell::Char(_) => Ok(()),
+    }
+}
+
+/// Puts the cells that aren't known to be right, and then the cursor.
+pub(crate) fn put_cells(
+    out: &mut Vec<u8>,
+    wants: &[Want],
+    cursor: Addr,
+    known: &[Known],
+) -> Result<(), Memory> {
+    let mut next = None;
+    for place in 0..CELLS {
+        let index = usize::from(place);
+        let want = wants.get(index).copied().unwrap_or(Want::Keep);
+        let known = known.get(index).copied().unwrap_or_default();
+        let behind = wants.get(index.saturating_add(1)..).unwrap_or(&[]);
+        if let Some(cell) = cell_to_store(want, known, behind, wants) {
+            put_store(out, next, place, cell)?;
+            next = Some(place.wrapping_add(1) % CELLS);
+        }
+    }
+    let mut writer = CommandWriter::new(out);
+    writer.sba(cursor)?;
+    writer.ic()
+}

@@ -1,0 +1,112 @@
+"""The answers of the probe's subjects that speak of cells: their lines have tokens, `C1` a character, `sf:60` an attribute."""
+import functools
+import pathlib
+from collections.abc import Callable, Iterator
+
+from harness.case import Case, Difference, same
+from harness.data import Line, blocks_of, lines_of
+from harness.probe import Probe
+
+# A step of a case: does what a line says with what the case speaks of.
+Step = Callable[[object, Line, list[str]], None]
+
+
+def tokens(text: str) -> list[str]:
+    """The tokens of a line, where TOKEN*N is N of them."""
+    found: list[str] = []
+    for word in text.split():
+        token, star, times = word.partition("*")
+        found += [token] * int(times) if star else [token]
+    return found
+
+
+def is_character(token: str) -> bool:
+    return len(token) == 2 and token != "pt" and token != "ic"
+
+
+def in_runs(single: list[str]) -> list[str]:
+    """Single items as runs of characters, `-` for none, with the item behind each."""
+    found, run = [], ""
+    for token in single:
+        if is_character(token):
+            run += token
+        else:
+            found += [run or "-", token]
+            run = ""
+    return [*found, run or "-"]
+
+
+def line_of(answer: list[str], word: str) -> list[str]:
+    """The tokens behind a word that begins a line of an answer."""
+    return next((line.split()[1:] for line in answer if line.split(" ", 1)[0] == word), [])
+
+
+def check_part(wanted: list[str], answer: list[str], line: Line) -> None:
+    """Looks for wanted lines in an answer: each is the line that begins with its word, or else the first one."""
+    for text in wanted:
+        first = text.split(" ", 1)[0]
+        came = next((it for it in answer if it.split(" ", 1)[0] == first), answer[0] if answer else "")
+        same(" ".join(tokens(text)), came.rstrip(), line.at)
+
+
+def check_row(probe: Callable[[], Probe], line: Line) -> None:
+    command, equals, wanted = line.text.partition(" = ")
+    if not equals:
+        raise line.bad("needs COMMAND = LINE; LINE")
+    answer = probe().ask(command, line.at)
+    check_part(wanted.split("; "), answer, line)
+    for single in ("orders", "cells"):
+        if any(it.split(" ", 1)[0] == single for it in answer):
+            same(" ".join(in_runs(line_of(answer, single))), " ".join(line_of(answer, "runs")), line.at)
+    parts = ["?" if it.startswith("at:") else it for it in line_of(answer, "parts")]
+    same(" ".join(parts), " ".join(line_of(answer, "as-cells")), line.at)
+
+
+def rows_in_part(path: pathlib.Path, subject: str) -> Iterator[Case]:
+    """The cases of a file of lines `COMMAND = LINE; LINE`, where the answer may have other lines too. What an answer has as runs or as cells
+    follows from what it has one by one."""
+    probe = functools.cache(lambda: Probe(subject))
+    for line in lines_of(path):
+        if line.text.strip() and not line.text.startswith("#"):
+            yield Case(line.text.partition(" = ")[0], line.at, functools.partial(check_row, probe, line))
+
+
+def take_step(steps: dict[str, Step], subject: object, line: Line) -> None:
+    """Does the step of a line."""
+    word, *words = line.text.split()
+    if word not in steps:
+        raise line.bad("needs a step's word")
+    try:
+        steps[word](subject, line, words)
+    except (IndexError, ValueError):
+        raise line.bad(f"isn't a step {word}") from None
+
+
+def steps_of(cls: type) -> dict[str, Step]:
+    """The steps that a class has as methods, `do_` and the word."""
+    return {name[3:].replace("_", "-"): step for name, step in vars(cls).items() if name.startswith("do_")}
+
+
+def cases_of(path: pathlib.Path, make: Callable[[], object]) -> Iterator[Case]:
+    """The cases of a file of blocks `case NAME`, whose lines are steps of what `make` makes, which is closed at the end."""
+    for head, name, lines in blocks_of(path, "case"):
+        yield Case(name, head.at, functools.partial(check_steps, make, lines, head))
+
+
+def check_steps(make: Callable[[], object], lines: list[Line], head: Line) -> None:
+    if not lines:
+        raise head.bad("needs steps")
+    subject = make()
+    try:
+        for line in lines:
+            take_step(steps_of(type(subject)), subject, line)
+    finally:
+        subject.probe.close()
+
+
+def appended(answer: list[str], line: Line) -> bytes:
+    """The bytes of an answer `ok BYTES`."""
+    word, _, data = answer[0].partition(" ")
+    if word != "ok":
+        raise Difference("ok and bytes", answer[0], line.at)
+    return line.data(data)

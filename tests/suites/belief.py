@@ -1,0 +1,115 @@
+"""What a host believes of a screen, and what it paints: tests/cases/belief.cases and paint.cases.
+
+The steps of a case, which begins with nothing known:
+
+    new                      nothing is known
+    take MODEL BYTES         a terminal of a model carried out a plain write
+    hear FORM BYTES          data of a form is heard: modified, all, buffer
+    refuse FAULT FORM BYTES  data is refused
+    no-data FAULT FORM BYTES bytes are no inbound data
+    size ROWS COLUMNS        something is known of a screen of this size; `size none`: nothing is
+    fact ADDR FACT BYTES     the fact of the field whose attribute is there, and the text that it speaks of, unless that isn't said;
+                             `none`: there is none
+    known ADDR CELL          a cell, ? if it isn't known
+    again                    the wanted screen: each known cell with MDT off, nulls elsewhere, and the cursor in the first cell
+    want, put, aim           make the wanted screen as the probe's lines do
+    wanted ADDR BOOL CELL .. the wanted screen has this cursor, resets MDT or not, and has these cells: in one walk, by
+                             address, and as the one behind an address, round the end
+    fits BOOL                whether what is to be kept is believed to be there
+    paints BYTES             these bytes paint the wanted screen
+    paints-first BYTES       they begin so
+    appends ROOM BEFORE BYTES  they are appended to a vector with room for so many bytes and these in it
+"""
+from collections.abc import Iterator
+
+from harness.case import CASES, Case, same
+from harness.cells import appended, cases_of, line_of, tokens
+from harness.data import Line
+from harness.probe import Probe
+
+
+def want_again(token: str) -> str:
+    """What is wanted of a cell that is believed to be this one: itself with MDT off. Bit 7 of an attribute is MDT, and bits 0 and 1 make the
+    code a graphic (GA23-0059-07 on the field attribute)."""
+    graphic = {0x40: 0x40, 0xC1: 0x40}
+    if token.startswith("sf:"):
+        code = int(token[3:], 16) & ~1
+        return f"sf:{graphic.get(code, code):02X}"
+    return "00" if token == "?" else token
+
+
+class Belief:
+    """A belief, which the probe has."""
+
+    def __init__(self) -> None:
+        self.probe = Probe("belief")
+
+    def ask(self, command: str, line: Line) -> str:
+        return "\n".join(self.probe.ask(command, line.at))
+
+    def silent(self, line: Line, words: list[str]) -> None:
+        same("", self.ask(line.text, line), line.at)
+
+    do_new = do_want = do_put = do_aim = silent
+
+    def do_take(self, line: Line, words: list[str]) -> None:
+        same("taken", self.ask(line.text, line), line.at)
+
+    def do_hear(self, line: Line, words: list[str]) -> None:
+        same("heard", self.ask(line.text, line), line.at)
+
+    def do_refuse(self, line: Line, words: list[str]) -> None:
+        same(f"refused {words[0]}", self.ask(f"hear {' '.join(words[1:])}", line), line.at)
+
+    def do_no_data(self, line: Line, words: list[str]) -> None:
+        same(f"fault {words[0]}", self.ask(f"hear {' '.join(words[1:])}", line), line.at)
+
+    def do_size(self, line: Line, words: list[str]) -> None:
+        same(line.text, self.probe.ask("show", line.at)[0], line.at)
+
+    def do_fact(self, line: Line, words: list[str]) -> None:
+        fact, *others = self.probe.ask(f"at {words[0]}", line.at)
+        kind, text = fact.split(" ")[1:] if fact[0].isdigit() else ("none", "")
+        same(words[1], kind, line.at)
+        if len(words) > 2:
+            wanted = line.data(" ".join(words[2:])).hex().upper()
+            same([wanted, f"values {wanted}"], [text, others[-1]], line.at)
+
+    def do_known(self, line: Line, words: list[str]) -> None:
+        same(f"known {words[1]}", self.probe.ask(f"at {words[0]}", line.at)[-2], line.at)
+
+    def do_again(self, line: Line, words: list[str]) -> None:
+        cells = line_of(self.probe.ask("show", line.at), "cells")
+        model = {1920: 2, 2560: 3, 3440: 4, 3564: 5}[len(cells)]
+        self.ask(f"want {model} 00", line)
+        self.ask(f"put 0 {' '.join(map(want_again, cells))}", line)
+        self.ask("aim 0 false", line)
+
+    def do_wanted(self, line: Line, words: list[str]) -> None:
+        answer, cells = self.probe.ask("wanted", line.at), tokens(" ".join(words[2:]))
+        came = [line_of(answer, it) for it in ("cursor", "reset", "cells", "each")]
+        each = [it for both in zip(cells, [*cells[1:], *cells[:1]]) for it in both]
+        same([words[:1], words[1:2], cells, each], came, line.at)
+
+    def do_fits(self, line: Line, words: list[str]) -> None:
+        same(line.text, self.ask("fits", line), line.at)
+
+    def paint(self, line: Line, room: str = "0", before: str = "-") -> bytes:
+        self.ask(f"out {room} {before}", line)
+        return appended(self.probe.ask("paint", line.at), line)
+
+    def do_paints(self, line: Line, words: list[str]) -> None:
+        same(line.data(" ".join(words)).hex().upper(), self.paint(line).hex().upper(), line.at)
+
+    def do_paints_first(self, line: Line, words: list[str]) -> None:
+        wanted = line.data(" ".join(words))
+        same(wanted.hex().upper(), self.paint(line)[: len(wanted)].hex().upper(), line.at)
+
+    def do_appends(self, line: Line, words: list[str]) -> None:
+        wanted = line.data(words[1]) + line.data(" ".join(words[2:]))
+        same(wanted.hex().upper(), self.paint(line, *words[:2]).hex().upper(), line.at)
+
+
+def cases() -> Iterator[Case]:
+    yield from cases_of(CASES / "belief.cases", Belief)
+    yield from cases_of(CASES / "paint.cases", Belief)
