@@ -1,4 +1,0 @@
-use Rattle.library_tests.proofs.pools.ask.Goals as goal
-
-pub ask-requires : goal.ask-requires
-ask-requires c = c.in-None.ensures.none
