@@ -22,9 +22,6 @@ use Rattle.tn3270e_msg.specs.declared.host_talk.HostState.{HostState}
 use Rattle.host_core.specs.Acts.{Act, Decision, Sent as Sending, after_key, decided, decision_on, wanted_by, done, may_act, acted, painted, known_despite, unheard_next, when_shown}
 use Rattle.host_core.specs.Application.{Application, IsApplication, IsSizeOf}
 use Rattle.host_core.specs.Laws.{IsPaintable}
-use Rattle.host_core.specs.Messages.{ToTerminal}
-use Rattle.host_core.specs.NoteLaws.{IsNoteOf}
-use Rattle.host_core.specs.Notes.{IsNoteText, note_command, may_note, noted_as, noted}
 use Rattle.host_core.specs.Takes.{may_have_changed}
 use Rattle.host_core.specs.declared.turn.Turn.{Turn}
 use Rattle.host_core.specs.declared.turn.Turn.TheVariants as whose
@@ -36,7 +33,7 @@ use Rattle.host_core.specs.declared.question.Answer.{Answer as Said}
 use Rattle.std.specs.Prelude.{◌&&◌, not}
 use Rattle.world3270.specs.Given.{Given}
 use Rattle.world3270.specs.Link.{Link, sent, host_sent}
-use Rattle.world3270.specs.Moments.{Kind, UnderWay, Talking, Serving, Moment, IsAgreed, IsAt, IsHostTalk, IsTermTalk, turn_at, pending_at, down_at, up_at, served_down, served_up}
+use Rattle.world3270.specs.Moments.{UnderWay, Talking, Serving, Moment, IsAgreed, IsAt, IsHostTalk, IsTermTalk, turn_at, pending_at, down_at, up_at}
 use Rattle.world3270.specs.TurnReasons.{IsOccasion, IsOpenBy, IsOpenFor}
 use Rattle.host_core.specs.declared.unheard.Unheard.{Unheard}
 use Rattle.host_core.specs.declared.unheard.Unheard.TheVariants as unheards
@@ -81,12 +78,12 @@ closed_despite unheards.Input shadow closed = λ relies. absurd (cc)
 closed_despite unheards.Clear shadow closed = λ relies. absurd (cc)
 
 -- what a sending leaves of the host's end
-record Sends (link : Link) (sending : Sending) : Type 0 where
-  talk : sending.conn.talk ≡ link.host.talk
-  exact : FactsAreExact sending.conn.shadow
+pub record Sends (link : Link) (sending : Sending) : Type 0 where
+  pub talk : sending.conn.talk ≡ link.host.talk
+  pub exact : FactsAreExact sending.conn.shadow
 
 -- what is under way then
-sent_at : (link : Link) (sending : Sending) (wanted : Option (List ℕ)) (from to : Moment) → Sends link sending → IsAt (view_of link) wanted from
+pub sent_at : (link : Link) (sending : Sending) (wanted : Option (List ℕ)) (from to : Moment) → Sends link sending → IsAt (view_of link) wanted from
     → ((talk : Talk HostState) → IsHostTalk link.term.display.model from talk → IsHostTalk link.term.display.model to talk) → (IsTermTalk link.term.display.model wanted from link.term.talk → IsTermTalk link.term.display.model wanted to link.term.talk) → sending.conn.turn ≡ turn_at to → sending.conn.pending ≡ pending_at to
     → down_at link.term.display.model from ++ sending.message ∷ [] ≡ down_at link.term.display.model to → up_at link.term.display.model wanted to ≡ up_at link.term.display.model wanted from → IsAt (view_of (sent_view sending link)) wanted to
 sent_at link sending wanted from to same at host term turn pending down up = record {
@@ -99,7 +96,7 @@ sent_at link sending wanted from to same at host term turn pending down up = rec
 }
 
 -- a sending that leads to a moment
-kept_sent : (app : Application) (link : Link) (sending : Sending) (k : Kept app (view_of link)) (to : Moment) → Sends link sending → IsSizeOf app link.term.display.model sending.conn.shape
+pub kept_sent : (app : Application) (link : Link) (sending : Sending) (k : Kept app (view_of link)) (to : Moment) → Sends link sending → IsSizeOf app link.term.display.model sending.conn.shape
     → (may_differ_at to ≡ false → link.term.display.shape ≡ sending.conn.shape) → IsAt (view_of (sent_view sending link)) k.wanted to
     → Fact k.wanted (scene_of (view_of (sent_view sending link))) to → ShownAt app link.term.waits sending.conn link.term.display.before_restored link.term.display.last_restored link.term.display.screen to
     → Kept app (view_of (sent_view sending link))
@@ -426,73 +423,6 @@ module _ (given : Given) (app : Application) (is : IsApplication app) (link : Li
   pub asks_deciding : is_asking app link.host ≡ true → Asks
   asks_deciding open_now =
       asks_by link.host.turn link.host.pending (is_agreed link.host.talk.state) (is_ask (decision_on app link.host link.host.turn_reason)) refl refl refl refl open_now
-
--- ---- the host sends a note
-
-module _ (app : Application) (text : List ℕ) (is : IsNoteText text) (link : Link) (k : Kept app (view_of link)) where
-  abbrev noting : Sending
-  noting = noted_as text link.host
-
-  abbrev command : CommandParts
-  command = note_command link.host.shape text
-
-  same_end : Sends link noting
-  same_end = record { talk = refl; exact = k.exact }
-
-  is_note : IsNoteOf link.host.shape command
-  is_note = record { text = text; is_text = is; is = refl }
-
-  notes_at : (lu : List ℕ) (from to : Serving) → link.term.display.shape ≡ link.host.shape → IsAt (view_of link) k.wanted (Moment.Serves lu from) → turn_at (Moment.Serves lu from) ≡ turn_at (Moment.Serves lu to)
-      → Pending.Noting link.host.next_seq command ≡ pending_at (Moment.Serves lu to)
-      → served_down from ++ ToTerminal.Note link.host.next_seq command ∷ [] ≡ served_down to → served_up to ≡ served_up from
-      → Fact k.wanted (scene_of (view_of (sent_view noting link))) (Moment.Serves lu to) → ShownIn app link.term.waits noting.conn link.term.display.before_restored link.term.display.last_restored link.term.display.screen to → Kept app (view_of (sent_view noting link))
-  notes_at lu from to steady at turn pending down up fact showing =
-      kept_sent app link noting k (Moment.Serves lu to) same_end k.sizes.host (λ s. steady) (sent_at link noting k.wanted (Moment.Serves lu from) (Moment.Serves lu to) same_end at (λ talk is. is) (λ is. is) (at.turn ∙ turn) pending down up) fact showing
-
-  -- it may do so at two moments alone
-  may_note_at : link.host.turn ≡ whose.Terminal → link.host.pending ≡ Pending.Nothing → Kept app (view_of (sent_view noting link))
-  may_note_at turns pends = by_moment k.moment k.sizes k.at k.fact k.shown
-    where
-      by_serving : (lu : List ℕ) (serving : Serving) → Sizes app (view_of link) (Moment.Serves lu serving) → IsAt (view_of link) k.wanted (Moment.Serves lu serving) → Fact k.wanted (scene_of (view_of link)) (Moment.Serves lu serving)
-          → ShownIn app link.term.waits link.host link.term.display.before_restored link.term.display.last_restored link.term.display.screen serving → turn_at (Moment.Serves lu serving) ≡ whose.Terminal
-          → pending_at (Moment.Serves lu serving) ≡ Pending.Nothing → Kept app (view_of (sent_view noting link))
-      by_serving lu Serving.Operating s at f showing t p =
-          notes_at lu Serving.Operating (Serving.Noting link.host.next_seq command) (s.same refl) at refl refl refl refl
-          (f, is_note) showing
-      by_serving lu (Serving.KeyAlone parts) s at f showing t p =
-          notes_at lu (Serving.KeyAlone parts) (Serving.KeyNoted link.host.next_seq command parts) (s.same refl) at refl refl refl refl
-          (f.0, f.1, record { note = is_note; takes = f.2 }) showing
-      by_serving lu Serving.Deciding s at f showing t p = absurd (cc)
-      by_serving lu (Serving.Reading number) s at f showing t p = absurd (cc)
-      by_serving lu (Serving.Reported number parts) s at f showing t p = absurd (cc)
-      by_serving lu (Serving.NotedLate number command) s at f showing t p = absurd (cc)
-      by_serving lu (Serving.AnsweredLate number command) s at f showing t p = absurd (cc)
-      by_serving lu (Serving.Painting number command wants over) s at f showing t p = absurd (cc)
-      by_serving lu (Serving.Answering Kind.APaint number command) s at f showing t p = absurd (cc)
-      by_serving lu (Serving.Answering Kind.ANote number command) s at f showing t p = absurd (cc)
-      by_serving lu (Serving.Noting number command) s at f showing t p = absurd (cc)
-      by_serving lu (Serving.KeyBehind Kind.APaint number command parts) s at f showing t p = absurd (cc)
-      by_serving lu (Serving.KeyBehind Kind.ANote number command parts) s at f showing t p = absurd (cc)
-      by_serving lu (Serving.KeyNoted number command parts) s at f showing t p = absurd (cc)
-      by_serving lu (Serving.KeyBefore number command parts) s at f showing t p = absurd (cc)
-
-      by_moment : (moment : Moment) → Sizes app (view_of link) moment → IsAt (view_of link) k.wanted moment → Fact k.wanted (scene_of (view_of link)) moment
-          → ShownAt app link.term.waits link.host link.term.display.before_restored link.term.display.last_restored link.term.display.screen moment → Kept app (view_of (sent_view noting link))
-      by_moment (Moment.Talks talking) s at f showing = let t = sym at.turn ∙ turns in absurd (cc)
-      by_moment (Moment.Begins lu number command wants over) s at f showing = let p = sym at.pending ∙ pends in absurd (cc)
-      by_moment (Moment.Serves lu serving) s at f showing = by_serving lu serving s at f showing (sym at.turn ∙ turns) (sym at.pending ∙ pends)
-
-  notes_by : (turn : Turn) (pending : Pending) (agreed : Bool) → link.host.turn ≡ turn → link.host.pending ≡ pending
-      → Kept app (view_of (host_sent (if may_note turn pending agreed then Some (noted_as text link.host) else None) link))
-  notes_by whose.Terminal Pending.Nothing true turns pends = may_note_at turns pends
-  notes_by whose.Terminal Pending.Nothing false turns pends = k
-  notes_by whose.Terminal (Pending.Writing number what) agreed turns pends = k
-  notes_by whose.Terminal (Pending.Reading number) agreed turns pends = k
-  notes_by whose.Terminal (Pending.Noting number what) agreed turns pends = k
-  notes_by whose.Host pending agreed turns pends = k
-
-  pub notes : Kept app (view_of (host_sent (noted text link.host) link))
-  notes = notes_by link.host.turn link.host.pending (is_agreed link.host.talk.state) refl refl
 
 -- ---- a connection that is lost
 

@@ -8,7 +8,6 @@ use Rattle.std.specs.Str.{bytes_eq}
 use Rattle.std.proofs.lemmas.Bool.{eqb-true}
 use Rattle.std.proofs.lemmas.List.{length-replicate}
 use Rattle.std.proofs.lemmas.List.Elements.{All-nil, All-cons}
-use Rattle.codes3270.specs.Aid.{is_short_aid}
 use Rattle.codes3270.specs.Size.{Shape, cells_in}
 use Rattle.codes3270.specs.declared.attention.Aid.{Aid}
 use Rattle.codes3270.specs.declared.attention.Aid.TheVariants.{NoAid, Enter, Clear, Pf, Pa}
@@ -34,17 +33,16 @@ use Rattle.shadow.specs.Openness.{IsNotOpen, NothingIsOpen}
 use Rattle.shadow.specs.Paint.{paint}
 use Rattle.shadow.specs.Painted.{cells_under, painted_from, plainly_painted}
 use Rattle.shadow.specs.Taken.{taken}
-use Rattle.telnet_wire.specs.declared.wire.Verb.TheVariants.{Will, Do}
 use Rattle.tn3270e_msg.specs.Lu.{lu_of}
 use Rattle.tn3270e_msg.specs.Talk.{Comes, Talk, start_at, follow, Saying, says, sayings, closing}
 use Rattle.tn3270e_msg.specs.TermTable.{Term, term_transition, grant_transition}
 use Rattle.tn3270e_msg.specs.declared.reply.Reply.{Reply}
 use Rattle.tn3270e_msg.specs.declared.reply.Reply.TheVariants as reply
 use Rattle.tn3270e_msg.specs.declared.reply.After.TheVariants.{Going}
-use Rattle.tn3270e_msg.specs.declared.reply.OwnedMessage.TheVariants.{SendType, TypeRequest, TypeIs, TypeReject, FunRequest, FunIs}
+use Rattle.tn3270e_msg.specs.declared.reply.OwnedMessage.TheVariants.{TypeIs, FunRequest, FunIs}
 use Rattle.tn3270e_msg.specs.declared.term_talk.TermState.{TermState}
 use Rattle.tn3270e_msg.specs.declared.host_talk.HostState.{HostState}
-use Rattle.tn3270e_msg.specs.declared.term_talk.TermState.TheVariants.{Waiting, Willing, TypeAsked, FunctionsAsked, Agreed, Refused, Closed}
+use Rattle.tn3270e_msg.specs.declared.term_talk.TermState.TheVariants.{TypeAsked, FunctionsAsked, Agreed, Closed}
 use Rattle.tn3270e_msg.proofs.Agreement.{responses_alone, same_bytes}
 use Rattle.host_core.specs.Application.{Application, IsShape, IsApplication, IsSizeOf, message_place}
 use Rattle.host_core.specs.Messages.{ToTerminal, ToHost}
@@ -61,12 +59,12 @@ use Rattle.world3270.specs.Showing.{WantsItsPanelOn}
 use Rattle.world3270.specs.AsLeft.{ProtectedIsAsLeft}
 use Rattle.world3270.specs.Unreturned.{UnmodifiedIsKept}
 use Rattle.world3270.specs.Link.{Link, sent}
-use Rattle.world3270.specs.Moments.{Kind, Talking, Serving, Moment, UnderWay, IsAt, IsHostTalk, IsTermTalk, talk_in, turn_at, pending_at, down_at, up_at}
-use Rattle.world3270.specs.TurnReasons.{IsOccasion, IsCursorFor, IsOpenBy, IsOpenFor, IsCleared}
-use Rattle.world3270.specs.Stages.{Scene, IsNew, Decides, scene_of, once_taken, FactsAreExact, Suits, IsPainted, Operates, Sees, IsRead, Fact, Kept, Sizes, may_differ_at, IsKnownIfRead, ShownAt}
+use Rattle.world3270.specs.Moments.{Kind, Serving, Moment, UnderWay, IsAt, IsHostTalk, IsTermTalk, talk_in, turn_at, pending_at, down_at, up_at}
+use Rattle.world3270.specs.TurnReasons.{IsOpenBy, IsOpenFor, IsCleared}
+use Rattle.world3270.specs.Stages.{scene_of, once_taken, FactsAreExact, Suits, IsPainted, Operates, Sees, IsRead, Fact, Kept, may_differ_at, ShownAt}
 use Rattle.world3270.specs.Terminal.{TermEnd, TermStep, with_talk, is_bound, bound_to, once_bound, paint_came, note_came, read_came, talked, took}
 use Rattle.world3270.specs.View.{view_of}
-use Rattle.world3270.proofs.Queues.{more, front, nothing}
+use Rattle.world3270.proofs.Queues.{more}
 use Rattle.world3270.proofs.Unreturned.{all_as_left, all_kept, as_left_noted, noted_on, kept_noted, kept_bare, still_bare, still_one}
 
 -- the connection once the terminal took the message before the rest
@@ -104,15 +102,15 @@ leads link step rest wanted from to same at l talk left =
 
 -- ---- the talk
 
-abbrev talk_step : Link → Talk TermState → List ToHost → TermStep
+abbrev pub talk_step : Link → Talk TermState → List ToHost → TermStep
 talk_step link next sends = record { end = with_talk link.term next; sends = sends; closes = None }
 
 -- a line of the terminal's table, that leads to a state with a reply
-record TalkTransition (term : Term) (saying : Saying) (next : Talk TermState) (sends : List ToHost) : Type 0 where
-  reply : Reply
-  leads : follow Closed term.talk (term_transition term.model term.wanted term.talk.state (says saying)) ≡ (next, reply)
-  quiet : closing reply ≡ None
-  sends_is : map ToHost.TalksUp (sayings reply) ≡ sends
+pub record TalkTransition (term : Term) (saying : Saying) (next : Talk TermState) (sends : List ToHost) : Type 0 where
+  pub reply : Reply
+  pub leads : follow Closed term.talk (term_transition term.model term.wanted term.talk.state (says saying)) ≡ (next, reply)
+  pub quiet : closing reply ≡ None
+  pub sends_is : map ToHost.TalksUp (sayings reply) ≡ sends
 
 talk_took : (link : Link) (term : Term) (next : Talk TermState) (saying : Saying) (sends : List ToHost) → link.term.talk ≡ term
     → TalkTransition term saying next sends → took link.term (ToTerminal.TalksDown saying) ≡ talk_step link next sends
@@ -123,7 +121,7 @@ talk_took link term next saying sends e transition =
     ∙ ap (λ s. record { end = with_talk link.term next; sends = s; closes = None }) transition.sends_is
 
 -- the talk moves on
-talks : (app : Application) (link : Link) (rest : List ToTerminal) (k : Kept app (view_of link)) (from to : Moment) (term : Term) (next : Talk TermState) (saying : Saying) (sends : List ToHost) (message : ToTerminal)
+pub talks : (app : Application) (link : Link) (rest : List ToTerminal) (k : Kept app (view_of link)) (from to : Moment) (term : Term) (next : Talk TermState) (saying : Saying) (sends : List ToHost) (message : ToTerminal)
     → (may_differ_at to ≡ false → link.term.display.shape ≡ link.host.shape)
     → IsAt (view_of link) k.wanted from → link.term.talk ≡ term → message ≡ ToTerminal.TalksDown saying → TalkTransition term saying next sends
     → IsTermTalk link.term.display.model k.wanted to (record link.term.talk { talk = next })
@@ -158,7 +156,7 @@ own_type M3 = refl
 own_type M4 = refl
 own_type M5 = refl
 
-granted_transition : Given → (model : Model) (wanted : Option (List ℕ)) (lu : List ℕ) → Suits wanted lu
+pub granted_transition : Given → (model : Model) (wanted : Option (List ℕ)) (lu : List ℕ) → Suits wanted lu
     → TalkTransition (talk_in model wanted TypeAsked) (Saying.Sub (TypeIs (device_for model) lu)) (start_at (FunctionsAsked lu)) (ToHost.TalksUp (Saying.Sub FunRequest) ∷ [])
 granted_transition given model None lu suits = record {
   reply = reply.Sub FunRequest Going;
@@ -179,7 +177,7 @@ granted_transition given model (Some name) lu suits =
     }
 
 -- in any talk that asked for functions
-agreed_transition : (term : Term) (lu : List ℕ) → term.talk.state ≡ FunctionsAsked lu → TalkTransition term (Saying.Sub FunIs) (record term.talk { state = Agreed lu }) []
+pub agreed_transition : (term : Term) (lu : List ℕ) → term.talk.state ≡ FunctionsAsked lu → TalkTransition term (Saying.Sub FunIs) (record term.talk { state = Agreed lu }) []
 agreed_transition term lu asked = record {
   reply = _;
   leads = ap (λ state. follow Closed term.talk (term_transition term.model term.wanted state (says (Saying.Sub FunIs)))) asked
@@ -270,7 +268,7 @@ paints_on given app is link rest k lu number command wants over at f asked left 
       shown = record { wanted = wants; over = over; wanted_for = asked.wants; told = told; meets = meets; fits = fits; is = refl };
     }
 
-takes_paint : Given → (app : Application) → IsApplication app → (link : Link) (rest : List ToTerminal) (k : Kept app (view_of link)) (lu : List ℕ) (number : ℕ) (command : CommandParts) (wants : WantedScreen) (over : Shadow)
+pub takes_paint : Given → (app : Application) → IsApplication app → (link : Link) (rest : List ToTerminal) (k : Kept app (view_of link)) (lu : List ℕ) (number : ℕ) (command : CommandParts) (wants : WantedScreen) (over : Shadow)
     → IsAt (view_of link) k.wanted (Moment.Serves lu (Serving.Painting number command wants over)) → IsPainted (scene_of (view_of link)) command wants over → WantsItsPanelOn app link.term.waits link.host over wants link.term.display.screen
     → UnderWay link.lost rest [] → Obeyed app link rest (took link.term (ToTerminal.Paint number wants over))
 takes_paint given app is link rest k lu number command wants over at f asked left =
@@ -320,7 +318,7 @@ reads_on app link rest k same lu number at f shown left screen erased whole on u
       shown = shown;
     }
 
-takes_read : Given → (app : Application) (link : Link) (rest : List ToTerminal) (k : Kept app (view_of link)) → link.term.display.shape ≡ link.host.shape → (lu : List ℕ) (number : ℕ) → IsAt (view_of link) k.wanted (Moment.Serves lu (Serving.Reading number))
+pub takes_read : Given → (app : Application) (link : Link) (rest : List ToTerminal) (k : Kept app (view_of link)) → link.term.display.shape ≡ link.host.shape → (lu : List ℕ) (number : ℕ) → IsAt (view_of link) k.wanted (Moment.Serves lu (Serving.Reading number))
     → IsRead (scene_of (view_of link)) → ShownAt app link.term.waits link.host link.term.display.before_restored link.term.display.last_restored link.term.display.screen (Moment.Serves lu (Serving.Reading number)) → UnderWay link.lost rest []
     → Obeyed app link rest (took link.term (ToTerminal.ReadBuffer number))
 takes_read given app link rest k same lu number at f shown left =
@@ -335,14 +333,14 @@ takes_read given app link rest k same lu number at f shown left =
 -- ---- notes
 
 -- a note on a screen that takes notes
-record Noted (command : CommandParts) (screen : Screen) : Type 0 where
-  over : OverwritesProtected command screen
-  characters : OverCharacters command screen.cells
-  size : length (after_command command screen).cells ≡ length screen.cells
-  cursor : (after_command command screen).cursor ≡ screen.cursor
-  aid : (after_command command screen).aid ≡ screen.aid
+pub record Noted (command : CommandParts) (screen : Screen) : Type 0 where
+  pub over : OverwritesProtected command screen
+  pub characters : OverCharacters command screen.cells
+  pub size : length (after_command command screen).cells ≡ length screen.cells
+  pub cursor : (after_command command screen).cursor ≡ screen.cursor
+  pub aid : (after_command command screen).aid ≡ screen.aid
 
-noted_on_it : Given → (shape : Shape) (command : CommandParts) (screen : Screen) → IsShape shape → IsNoteOf shape command → length screen.cells ≡ cells_in shape → TakesNotes shape screen.cells → Noted command screen
+pub noted_on_it : Given → (shape : Shape) (command : CommandParts) (screen : Screen) → IsShape shape → IsNoteOf shape command → length screen.cells ≡ cells_in shape → TakesNotes shape screen.cells → Noted command screen
 noted_on_it given shape command screen is note whole takes =
     let bounds = given.notes.bounds command screen (given.notes.are_notes shape command is note).note in
     record {
@@ -389,13 +387,13 @@ open_by (Pf key) buffered old new f o = f o
 open_noted : (aid after : Aid) (buffered : Bool) (old new : Shadow) → after ≡ aid → (NothingIsOpen old → NothingIsOpen new) → IsOpenBy aid buffered old → IsOpenBy after buffered new
 open_noted aid after buffered old new same f o = subst (λ a. IsOpenBy a buffered new) (sym same) (open_by aid buffered old new f o)
 
-open_for : (turn_reason : TurnReason) (old new : Shadow) → (NothingIsOpen old → NothingIsOpen new) → IsOpenFor turn_reason old → IsOpenFor turn_reason new
+pub open_for : (turn_reason : TurnReason) (old new : Shadow) → (NothingIsOpen old → NothingIsOpen new) → IsOpenFor turn_reason old → IsOpenFor turn_reason new
 open_for turn_reasons.Agreement old new f o = f o
 open_for (turn_reasons.Key aid buffered) old new f o = open_by aid buffered old new f o
 open_for turn_reasons.Refusal old new f o = absurd o
 
 -- the host will see the screen with the note on it
-sees_noted : Given → (unheard : Unheard) (shape : Shape) (command : CommandParts) (screen : Screen) (shadow : Shadow) → IsNoteOf shape command → length screen.cells ≡ cells_in shape → Noted command screen → Sees unheard shape screen shadow
+pub sees_noted : Given → (unheard : Unheard) (shape : Shape) (command : CommandParts) (screen : Screen) (shadow : Shadow) → IsNoteOf shape command → length screen.cells ≡ cells_in shape → Noted command screen → Sees unheard shape screen shadow
     → Sees unheard shape (after_command command screen) (taken (cells_in shape) command shadow)
 sees_noted given unheard shape command screen shadow note whole noted s =
     subst (λ n. Sees unheard shape (after_command command screen) (taken n command shadow)) whole
@@ -434,14 +432,14 @@ module _ (given : Given) (app : Application) (is : IsApplication app) (link : Li
   abbrev shape : Shape
   shape = link.host.shape
 
-  is_shape : IsShape link.host.shape
+  pub is_shape : IsShape link.host.shape
   is_shape = shape_of_model app link.term.display.model link.host.shape is k.sizes.host
 
-  whole_here : length screen.cells ≡ cells_in shape
+  pub whole_here : length screen.cells ≡ cells_in shape
   whole_here = k.whole ∙ ap (λ (s : Shape). cells_in s) same
 
   -- at any moment of the session at which a note goes down
-  takes_note : (lu : List ℕ) (number : ℕ) (command : CommandParts) (from to : Serving) → IsAt (view_of link) k.wanted (Moment.Serves lu from) → IsNoteOf shape command → TakesNotes shape screen.cells
+  pub takes_note : (lu : List ℕ) (number : ℕ) (command : CommandParts) (from to : Serving) → IsAt (view_of link) k.wanted (Moment.Serves lu from) → IsNoteOf shape command → TakesNotes shape screen.cells
       → Leads link.term.display.model k.wanted (Moment.Serves lu from) (Moment.Serves lu to) (note_came number command link.term).sends
       → UnderWay link.lost rest (down_at link.term.display.model (Moment.Serves lu to))
       → Fact k.wanted (scene_of (view_of (term_view (note_came number command link.term) rest link))) (Moment.Serves lu to)
@@ -470,7 +468,7 @@ module _ (given : Given) (app : Application) (is : IsApplication app) (link : Li
       })
 
   -- while the operator types: the note is written over what was shown, too
-  operates_noted : (command : CommandParts) → IsNoteOf shape command → (f : Operates link.host.shadow (scene_of (view_of link))) → (number : ℕ)
+  pub operates_noted : (command : CommandParts) → IsNoteOf shape command → (f : Operates link.host.shadow (scene_of (view_of link))) → (number : ℕ)
       → Operates (once_taken link.host.shape command link.host.shadow) (scene_of (view_of (term_view (note_came number command link.term) rest link)))
   operates_noted command note f number =
       let shown : Screen = f.shown in
@@ -494,124 +492,3 @@ module _ (given : Given) (app : Application) (is : IsApplication app) (link : Li
         noted = noted_on given.notes.form command (message_place shape) link.term.display.last_restored.cells shown noted.characters writes (behind_row shape command shown is_shape note whole)
             (still_one given.notes.composes command shown noted.characters) f.noted;
       }
-
--- at agreement nothing is known, and no key was pressed
-pub decides_new : (s : Scene) → IsNew s → FactsAreExact s.shadow → Decides s s.shadow
-decides_new s new exact = record {
-  lock = new.lock;
-  turn_reason = subst (λ o. IsOccasion o s.screen.aid) (sym new.turn_reason) new.aid;
-  cursor = subst (λ o. IsCursorFor o s.cursor s.screen.cursor) (sym new.turn_reason) tt;
-  closed = λ relies. subst (λ o. IsOpenFor o s.shadow) (sym new.turn_reason) (none_open s.shadow new.shadow);
-  sees = record {
-    exact = exact;
-    closed = λ relies. subst (λ a. IsOpenBy a false s.shadow) (sym new.aid) (none_open s.shadow new.shadow);
-    cleared = λ clear. absurd (let x = sym new.aid ∙ clear in cc);
-    meets = subst (λ known. Meets known s.screen) (sym new.shadow) tt;
-    lists = λ some. absurd (some new.no_fields);
-    told = λ sent. absurd (subst SentFields new.aid sent);
-  };
-}
-
--- ---- any message, at any moment
-
-as_message : (app : Application) (link : Link) (rest : List ToTerminal) (m message : ToTerminal) → message ≡ m → Obeyed app link rest (took link.term m) → Obeyed app link rest (took link.term message)
-as_message app link rest m message e o = subst (λ x. Obeyed app link rest (took link.term x)) (sym e) o
-
-pub obeys : Given → (app : Application) → IsApplication app → (link : Link) (message : ToTerminal) (rest : List ToTerminal) → link.down ≡ message ∷ rest → Kept app (view_of link) → Obeyed app link rest (took link.term message)
-obeys given app is link message rest e k = by_moment k.moment k.sizes k.at k.fact k.shown
-  where
-    screen : Screen
-    screen = link.term.display.screen
-
-    no_more : UnderWay link.lost link.down [] → Obeyed app link rest (took link.term message)
-    no_more way = absurd (nothing link.lost link.down message rest e way)
-
-    by_talk : (talking : Talking) → link.term.display.shape ≡ link.host.shape → IsAt (view_of link) k.wanted (Moment.Talks talking) → Fact k.wanted (scene_of (view_of link)) (Moment.Talks talking) → Obeyed app link rest (took link.term message)
-    by_talk Talking.Offering same at f =
-        let first = front link.lost link.down message rest _ [] e at.goes_down in
-        talks app link rest k (Moment.Talks Talking.Offering) (Moment.Talks Talking.Accepting) (talk_in link.term.display.model k.wanted Waiting) (start_at Willing) (Saying.Opt Do 40) (ToHost.TalksUp (Saying.Opt Will 40) ∷ []) message (λ steady. same) at at.term_talk first.0
-        (record { reply = reply.Opt Will 40; leads = refl; quiet = refl; sends_is = refl }) (ap (λ (t : Term). record t { talk = start_at Willing }) at.term_talk) (record { host_talk = λ talk is. is; turn = refl; pending = refl; up = refl }) refl first.1
-        (f.0, f.1) tt
-    by_talk Talking.AskingType same at f =
-        let first = front link.lost link.down message rest _ [] e at.goes_down in
-        talks app link rest k (Moment.Talks Talking.AskingType) (Moment.Talks Talking.NamingType) (talk_in link.term.display.model k.wanted Willing) (start_at TypeAsked) (Saying.Sub SendType) (ToHost.TalksUp (Saying.Sub (TypeRequest link.term.display.model k.wanted)) ∷ []) message (λ steady. same) at at.term_talk first.0
-        (record { reply = reply.Sub (TypeRequest link.term.display.model k.wanted) Going; leads = refl; quiet = refl; sends_is = refl }) (ap (λ (t : Term). record t { talk = start_at TypeAsked }) at.term_talk) (record { host_talk = λ talk is. is; turn = refl; pending = refl; up = refl }) refl first.1
-        (f.0, f.1) tt
-    by_talk (Talking.Granting lu) same at f =
-        let first = front link.lost link.down message rest _ [] e at.goes_down in
-        talks app link rest k (Moment.Talks (Talking.Granting lu)) (Moment.Talks (Talking.AskingFunctions lu)) (talk_in link.term.display.model k.wanted TypeAsked) (start_at (FunctionsAsked lu)) (Saying.Sub (TypeIs (device_for link.term.display.model) lu)) (ToHost.TalksUp (Saying.Sub FunRequest) ∷ []) message (λ steady. same) at at.term_talk first.0
-        (granted_transition given link.term.display.model k.wanted lu f.1) (ap (λ (t : Term). record t { talk = start_at (FunctionsAsked lu) }) at.term_talk) (record { host_talk = λ talk is. is; turn = refl; pending = refl; up = refl }) refl first.1
-        (f.0, tt) tt
-    by_talk (Talking.Agreeing lu) same at f =
-        let first = front link.lost link.down message rest _ [] e at.goes_down in
-        talks app link rest k (Moment.Talks (Talking.Agreeing lu)) (Moment.Serves lu Serving.Deciding) link.term.talk (record link.term.talk.talk { state = Agreed lu }) (Saying.Sub FunIs) [] message (λ steady. same) at refl first.0
-        (agreed_transition link.term.talk lu at.term_talk) refl (record { host_talk = λ talk is. is; turn = refl; pending = refl; up = refl }) refl first.1
-        (decides_new (scene_of (view_of link)) f.0 k.exact)
-        (λ shown_before. absurd (shown_before f.0.turn_reason), subst (λ o. IsKnownIfRead o link.host.shadow) (sym f.0.turn_reason) tt)
-    by_talk (Talking.Rejecting reason) same at f =
-        let first = front link.lost link.down message rest _ [] e at.goes_down in
-        talks app link rest k (Moment.Talks (Talking.Rejecting reason)) (Moment.Talks (Talking.Rejected reason)) (talk_in link.term.display.model k.wanted TypeAsked) (start_at (Refused reason)) (Saying.Sub (TypeReject reason)) [] message (λ steady. same) at at.term_talk first.0
-        (record { reply = reply.Refused reason; leads = refl; quiet = refl; sends_is = refl }) (ap (λ (t : Term). record t { talk = start_at (Refused reason) }) at.term_talk) (record { host_talk = λ talk is. is; turn = refl; pending = refl; up = refl }) refl first.1
-        (f.0, tt) tt
-    by_talk Talking.Accepting same at f = no_more at.goes_down
-    by_talk Talking.NamingType same at f = no_more at.goes_down
-    by_talk (Talking.AskingFunctions lu) same at f = no_more at.goes_down
-    by_talk (Talking.Rejected reason) same at f = no_more at.goes_down
-
-    by_serving : (lu : List ℕ) (serving : Serving) → Sizes app (view_of link) (Moment.Serves lu serving) → IsAt (view_of link) k.wanted (Moment.Serves lu serving) → Fact k.wanted (scene_of (view_of link)) (Moment.Serves lu serving)
-        → ShownAt app link.term.waits link.host link.term.display.before_restored link.term.display.last_restored link.term.display.screen (Moment.Serves lu serving) → Obeyed app link rest (took link.term message)
-    by_serving lu (Serving.Reading number) s at f shown =
-        let first = front link.lost link.down message rest _ [] e at.goes_down in
-        as_message app link rest (ToTerminal.ReadBuffer number) message first.0 (takes_read given app link rest k (s.same refl) lu number at f shown first.1)
-    by_serving lu (Serving.Painting number command wants over) s at f shown =
-        let first = front link.lost link.down message rest _ [] e at.goes_down in
-        as_message app link rest (ToTerminal.Paint number wants over) message first.0 (takes_paint given app is link rest k lu number command wants over at f shown first.1)
-    by_serving lu (Serving.Noting number command) s at f shown =
-        let first = front link.lost link.down message rest _ [] e at.goes_down in
-        let row = given.notes.held_takes link.host.shape link.term.display.erased f.0.shown.cells screen.cells f.0.held f.0.messages in
-        as_message app link rest (ToTerminal.Note number command) message first.0
-        (takes_note given app is link rest k (s.same refl) lu number command (Serving.Noting number command) (Serving.Answering Kind.ANote number command) at f.1 (TakesNotes.formatted row)
-        (record { host_talk = λ talk is. is; turn = refl; pending = refl; up = refl }) first.1 (operates_noted given app is link rest k (s.same refl) command f.1 f.0 number) shown)
-    by_serving lu (Serving.KeyNoted number command parts) s at f shown =
-        let first = front link.lost link.down message rest _ [] e at.goes_down in
-        let noted = noted_on_it given link.host.shape command screen (is_shape given app is link rest k (s.same refl)) f.2.note (whole_here given app is link rest k (s.same refl)) f.2.takes in
-        as_message app link rest (ToTerminal.Note number command) message first.0
-        (takes_note given app is link rest k (s.same refl) lu number command (Serving.KeyNoted number command parts) (Serving.KeyBefore number command parts) at f.2.note f.2.takes
-        (record { host_talk = λ talk is. is; turn = refl; pending = refl; up = refl }) first.1 (
-          record { lock = f.0.lock; form = f.0.form; size = f.0.size; pressed = f.0.pressed ∙ sym noted.aid; cursor = λ long. f.0.cursor (sym (ap is_short_aid noted.aid) ∙ long) ∙ ap (λ (n : ℕ). Some n) (sym noted.cursor); some = λ none. f.0.some (sym noted.aid ∙ none) },
-          ok_map (Sees link.host.unheard link.host.shape screen) (λ shadow. Sees link.host.unheard link.host.shape (after_command command screen) (once_taken link.host.shape command shadow)) (heard (cells_in link.host.shape) link.host.shadow parts)
-              (λ shadow seen. sees_noted given link.host.unheard link.host.shape command screen shadow f.2.note (whole_here given app is link rest k (s.same refl)) noted seen) f.1,
-        ) shown)
-    by_serving lu (Serving.NotedLate number command) s at f shown =
-        let first = front link.lost link.down message rest _ [] e at.goes_down in
-        let noted = noted_on_it given link.host.shape command screen (is_shape given app is link rest k (s.same refl)) f.1.note (whole_here given app is link rest k (s.same refl)) f.1.takes in
-        as_message app link rest (ToTerminal.Note number command) message first.0
-        (takes_note given app is link rest k (s.same refl) lu number command (Serving.NotedLate number command) (Serving.AnsweredLate number command) at f.1.note f.1.takes
-        (record { host_talk = λ talk is. is; turn = refl; pending = refl; up = refl }) first.1
-        (record {
-          lock = f.0.lock;
-          turn_reason = subst (IsOccasion link.host.turn_reason) (sym noted.aid) f.0.turn_reason;
-          cursor = subst (λ (n : ℕ). IsCursorFor link.host.turn_reason link.host.cursor n) (sym noted.cursor) f.0.cursor;
-          closed = λ relies. open_for link.host.turn_reason link.host.shadow (once_taken link.host.shape command link.host.shadow)
-              (λ o. subst (λ n. NothingIsOpen (taken n command link.host.shadow)) (whole_here given app is link rest k (s.same refl)) (given.notes.opens command link.host.shadow screen noted.over f.0.sees.meets o)) (f.0.closed relies);
-          sees = sees_noted given link.host.unheard link.host.shape command screen link.host.shadow f.1.note (whole_here given app is link rest k (s.same refl)) noted f.0.sees;
-        }) shown)
-    by_serving lu Serving.Deciding s at f shown = no_more at.goes_down
-    by_serving lu (Serving.Reported number parts) s at f shown = no_more at.goes_down
-    by_serving lu (Serving.AnsweredLate number command) s at f shown = no_more at.goes_down
-    by_serving lu (Serving.Answering kind number command) s at f shown = no_more at.goes_down
-    by_serving lu Serving.Operating s at f shown = no_more at.goes_down
-    by_serving lu (Serving.KeyAlone parts) s at f shown = no_more at.goes_down
-    by_serving lu (Serving.KeyBehind kind number command parts) s at f shown = no_more at.goes_down
-    by_serving lu (Serving.KeyBefore number command parts) s at f shown = no_more at.goes_down
-
-    by_moment : (moment : Moment) → Sizes app (view_of link) moment → IsAt (view_of link) k.wanted moment → Fact k.wanted (scene_of (view_of link)) moment
-        → ShownAt app link.term.waits link.host link.term.display.before_restored link.term.display.last_restored link.term.display.screen moment → Obeyed app link rest (took link.term message)
-    by_moment (Moment.Talks talking) s at f shown = by_talk talking (s.same refl) at f
-    by_moment (Moment.Begins lu number command wants over) s at f shown =
-        let first = front link.lost link.down message rest _ _ e at.goes_down in
-        talks app link rest k (Moment.Begins lu number command wants over) (Moment.Serves lu (Serving.Painting number command wants over)) link.term.talk (record link.term.talk.talk { state = Agreed lu }) (Saying.Sub FunIs) [] message
-        (λ steady. absurd (cc)) at refl first.0
-        (agreed_transition link.term.talk lu at.term_talk) refl (record { host_talk = λ talk is. is; turn = refl; pending = refl; up = refl }) refl first.1
-        f shown
-    by_moment (Moment.Serves lu serving) s at f shown = by_serving lu serving s at f shown

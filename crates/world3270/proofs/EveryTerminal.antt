@@ -42,7 +42,7 @@ use Rattle.world3270.specs.Stages.{Fact, FactsAreExact, IsNew, Kept, ShownAt, sc
 use Rattle.world3270.specs.Terminal.{Display, TermEnd, bound_to, new_display}
 use Rattle.world3270.specs.View.{view_of}
 use Rattle.world3270.proofs.Asked.{asked_seen, each_asked}
-use Rattle.world3270.proofs.Down.{decides_new}
+use Rattle.world3270.proofs.Obeys.{decides_new}
 use Rattle.world3270.proofs.Headline.{Knows, agrees, bound_agrees, host_attached, knows_at, nothing_waits}
 use Rattle.world3270.proofs.ReadsInput.{still_unformatted}
 use Rattle.world3270.proofs.ShownFields.{cursor_shown, fields_shown}

@@ -7,8 +7,10 @@ pub mod AsLeft
 pub mod Asked
 pub mod AskedOverBytes
 pub mod Down
+pub mod Obeys
 pub mod Up
 pub mod Acting
+pub mod Noting
 pub mod Answered
 pub mod Keys
 pub mod RuleKeys

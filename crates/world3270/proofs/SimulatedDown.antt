@@ -24,7 +24,8 @@ use Rattle.world3270.specs.Stages.{Kept}
 use Rattle.world3270.specs.Terminal.{Display, TermEnd, TermStep, bound_to, is_bound, note_came, once_bound, paint_came, read_came, talked}
 use Rattle.world3270.specs.View.{view_of}
 use Rattle.world3270.proofs.ComesDown.{note_comes, paint_comes, read_comes}
-use Rattle.world3270.proofs.Down.{bound, obeys, paints_on, read_of, reads_on, shape_of_model, showing, term_view}
+use Rattle.world3270.proofs.Down.{bound, paints_on, read_of, reads_on, shape_of_model, showing, term_view}
+use Rattle.world3270.proofs.Obeys.{obeys}
 use Rattle.world3270.proofs.Keys.{or_false}
 use Rattle.world3270.proofs.NotesHeld.{note_held}
 use Rattle.world3270.proofs.ReadsInput.{reads_input}

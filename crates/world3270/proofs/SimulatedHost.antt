@@ -22,7 +22,8 @@ use Rattle.world3270.specs.Link.{Link, cut, host_left_if, host_sent, host_steppe
 use Rattle.world3270.specs.Moments.{IsAt, Moment, Serving, Talking, UnderWay, pending_at, turn_at}
 use Rattle.world3270.specs.Stages.{Kept}
 use Rattle.world3270.specs.View.{view_of}
-use Rattle.world3270.proofs.Acting.{acts, answers_are_shown, loses, notes}
+use Rattle.world3270.proofs.Acting.{acts, answers_are_shown, loses}
+use Rattle.world3270.proofs.Noting.{notes}
 use Rattle.world3270.proofs.HeardTurns.{goes_on}
 use Rattle.world3270.proofs.HostSteps.{just_talks}
 use Rattle.world3270.proofs.Queues.{nothing_sent}

@@ -24,7 +24,8 @@ use Rattle.world3270.specs.StandsLinks.{MayComeAll, NoneCloses, WhatComesMayCome
 use Rattle.world3270.specs.Terminal.{took}
 use Rattle.world3270.specs.View.{view_of}
 use Rattle.world3270.specs.World.{World, new_world}
-use Rattle.world3270.proofs.Down.{term_view, obeys, shape_of_model}
+use Rattle.world3270.proofs.Down.{term_view, shape_of_model}
+use Rattle.world3270.proofs.Obeys.{obeys}
 use Rattle.world3270.proofs.Queues.{front, nothing}
 use Rattle.world3270.proofs.Worlds.{run_good, new_good}
 use Rattle.world3270.proofs.TalkStates.{term_state}

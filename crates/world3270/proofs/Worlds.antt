@@ -36,8 +36,10 @@ use Rattle.world3270.specs.Stages.{Kept}
 use Rattle.world3270.specs.Terminal.{Display, TermStep, new_display, after_key, key_came, took as term_took}
 use Rattle.world3270.specs.View.{view_of}
 use Rattle.world3270.specs.World.{Place, World, Event, IsEvent, AreEvents, new_world, with_at, with_link, display_at}
-use Rattle.world3270.proofs.Acting.{acts, notes, loses, answers_are_shown}
-use Rattle.world3270.proofs.Down.{term_view, obeys}
+use Rattle.world3270.proofs.Acting.{acts, loses, answers_are_shown}
+use Rattle.world3270.proofs.Noting.{notes}
+use Rattle.world3270.proofs.Down.{term_view}
+use Rattle.world3270.proofs.Obeys.{obeys}
 use Rattle.world3270.proofs.Keys.{keys}
 use Rattle.world3270.proofs.OneOfMany.{all_with, differs}
 use Rattle.world3270.proofs.Unreturned.{all_as_left, all_kept}

@@ -40,7 +40,7 @@ use Rattle.world3270.specs.Terminal.{Display, TermEnd, TermStep, bound_to, is_bo
 
 -- `told`: what the terminal displayed when the first key was pressed that sent data since the last paint; or what it displays, if none was. A
 -- Read Buffer's answer tells the whole screen as it is then, but the AID stays that key's. Notes are written over it too.
--- `waits`: such a key was pressed, so that a 3278 would wait. What the ends do doesn't depend on either.
+-- `waits`: such a key was pressed, so that a 3278 would wait, as it does until the first paint. What the ends do doesn't depend on either.
 pub record Told : Type 0 where
   pub link : Link
   pub told : Display
