@@ -9,7 +9,7 @@ A call may get over a refusal and be done. A file has these blocks, without blan
     on SUBJECT         the subject of the probe
     COMMAND            a command before the call
     ! COMMAND          the call
-    = ANSWER           what it answers, in its first line; - if there is none
+    = LINE             the first line that it answers; - if there is none
     meets none         the call meets no growth
     taken COMMAND      if memory is refused to the call, it stands as after this command, and not as before
     + COMMAND          what goes on after the call
