@@ -4,7 +4,7 @@ ghost use Rattle.std.specs.Prelude.{◌≡◌, ◌<◌, ◌≤◌, length};
 use crate::fault::Fault;
 use crate::subjects::host::read_parts;
 use codes3270::Model;
-use host_core::{Host, MOST_CONNECTIONS, Terminals};
+use host_core::{Host, Terminals};
 use presentation::Screen;
 use std::alloc::Global;
 use term_core::Terminal;
@@ -64,21 +64,15 @@ impl Four {
         self.world.erased(number)
     }
 
-    /// The bytes under way to the host: none on a number that no connection has.
-    pub(crate) fn queued_up(&self, conn: usize) -> &[u8] {
-        if conn < MOST_CONNECTIONS {
-            self.world.queued_up(conn)
-        } else {
-            &[]
-        }
+    pub(crate) fn queued_up(&self, conn: usize) -> &[u8]
+        requires { conn < 64 }
+    {
+        self.world.queued_up(conn)
     }
 
-    /// The bytes under way to the terminal, likewise.
-    pub(crate) fn queued_down(&self, conn: usize) -> &[u8] {
-        if conn < MOST_CONNECTIONS {
-            self.world.queued_down(conn)
-        } else {
-            &[]
-        }
+    pub(crate) fn queued_down(&self, conn: usize) -> &[u8]
+        requires { conn < 64 }
+    {
+        self.world.queued_down(conn)
     }
 }

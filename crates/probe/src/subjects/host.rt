@@ -1,25 +1,19 @@
-//! A host: host_core's `Host`. C is a connection's number, 0 to 63.
+//! A host: host_core's `Host`, and `serve_turn`. C is a connection's number, 0 to 63. What calls answer is printed by Debug.
 //!
 //! ```text
 //! | TEXT              a line of the panel text
 //! serve [any]         a host begins to serve these panels, to terminals that wait or to any: done, or memory
-//! restart             it restarts
-//! open C              begins a connection: done, or memory
-//! feed C BYTES        how many bytes were taken, and what stopped it: going, memory, or closed CAUSE
-//! each C BYTES        the same, fed byte by byte
-//! act C               sent, nothing, or memory
-//! note C BYTES        the same, with the note's codes
-//! keepalive C         the same
-//! out C               what there is to send
-//! sent C N            the first N bytes of that were sent
-//! closed C            the connection is lost: what wasn't sent
-//! rejected C          the oldest rejection that wasn't reported: [LU] REASON, or none
-//! dropped C           the AID of the oldest dropped key that wasn't reported, or none
-//! question C          none, memory, or the question's parts
-//! answer C SESSION TURN PANEL CURSOR MESSAGE [FIELD=VALUE]..    sent, nothing, or memory; - for no panel, no cursor
+//! restart
+//! open C              done, or memory
+//! feed C BYTES
+//! act C; keepalive C; note C BYTES
+//! out C; sent C N; closed C
+//! rejected C; dropped C    the oldest rejection, or dropped key, that wasn't reported
+//! question C          Nothing, memory, or the question's parts
+//! answer C SESSION TURN PANEL CURSOR MESSAGE [FIELD=BYTES]..    - for no panel, no cursor
 //! state C             phase, model, turn, and the command that waits for its answer
 //! see C               all of this, what there is to send, and the belief
-//! turn C              a turn of serving: going, lost, or memory; further words for its connections: `links`
+//! turn C              a turn of serving; further words for its connections: `links`
 //! ```
 ghost use Rattle.std.specs.Prelude.{◌≡◌, ◌<◌, true, IfOk};
 ghost use Rattle.host_core.specs.Notes.{IsNoteText};
@@ -30,14 +24,14 @@ use crate::fault::Fault;
 use crate::line::Words;
 use crate::subject::Subject;
 use crate::subjects::links::{Memory, is_link_word};
-use crate::subjects::seen::{model_number, put_belief, put_byte, put_fed};
+use crate::subjects::seen::put_belief;
+use crate::subjects::terminal::put_made;
 use codes3270::aid_byte;
 use host_core::{
     Acted, Answer, Host, MOST_CONNECTIONS, MessageText, PanelFault, PanelSet, Phase, Pool,
-    PoolFault, Question, Rejection, Served, Terminals, Ticket, Turn, Values, serve_turn,
+    PoolFault, Question, Rejection, Terminals, Ticket, Values, serve_turn,
 };
 use std::alloc::{AllocError, Global};
-use tn3270e_msg::{Fed, Stop};
 
 /// The characters that a note has at most.
 const LONGEST_NOTE: usize = 131;
@@ -87,9 +81,9 @@ pub(crate) fn read_parts(alloc: Global, text: &str) -> Result<(PanelSet, Pool), 
     Ok((panels, pool))
 }
 
-/// Puts whether something was made: done, or memory.
-pub(crate) fn put_made(answer: &mut String, made: Result<(), Fault>) -> Result<(), Fault> {
-    match made {
+/// Puts whether something was made of a text: done, or memory.
+pub(crate) fn put_begun(answer: &mut String, begun: Result<(), Fault>) -> Result<(), Fault> {
+    match begun {
         Ok(()) => Ok(answer.push_str("done\n")?),
         Err(Fault::NoMemory(_)) => Ok(answer.push_str("memory\n")?),
         Err(fault) => Err(fault),
@@ -123,35 +117,10 @@ fn is_note_text(codes: &[u8]) -> bool
     codes.len() <= LONGEST_NOTE && codes.iter().all(|code| (0x40..0xFF).contains(code))
 }
 
-fn acted_word(acted: Acted) -> &'static str {
-    match acted {
-        Acted::Sent => "sent\n",
-        Acted::Nothing => "nothing\n",
-        Acted::Memory => "memory\n",
-    }
-}
-
 fn put_phase(answer: &mut String, phase: Phase) -> Result<(), AllocError> {
     match phase {
-        Phase::Free => answer.push_str("phase free\n"),
-        Phase::Talking => answer.push_str("phase talking\n"),
-        Phase::Bound(lu) => write!(answer, "phase bound {lu}\n"),
-        Phase::Closed(cause) => write!(answer, "phase closed {cause}\n"),
-    }
-}
-
-fn turn_word(turn: Turn) -> &'static str {
-    match turn {
-        Turn::Host => "turn host\n",
-        Turn::Terminal => "turn terminal\n",
-    }
-}
-
-/// Puts a name and a number, or `none`.
-fn put_number(answer: &mut String, name: &str, number: Option<u16>) -> Result<(), AllocError> {
-    match number {
-        Some(number) => write!(answer, "{name} {number}\n"),
-        None => write!(answer, "{name} none\n"),
+        Phase::Bound(lu) => write!(answer, "phase Bound {lu}\n"),
+        _ => write!(answer, "phase {phase:?}\n"),
     }
 }
 
@@ -160,13 +129,11 @@ pub(crate) fn put_state(answer: &mut String, host: &Host, conn: usize) -> Result
     requires { conn < most_connections }
 {
     put_phase(answer, host.phase(conn))?;
-    put_number(
+    let (model, turn, pending) = (host.model(conn), host.turn(conn), host.pending(conn));
+    write!(
         answer,
-        "model",
-        host.model(conn).map(model_number).map(u16::from),
-    )?;
-    answer.push_str(turn_word(host.turn(conn)))?;
-    put_number(answer, "pending", host.pending(conn))
+        "model {model:?}\nturn {turn:?}\npending {pending:?}\n"
+    )
 }
 
 /// Puts all that is to be seen of a connection.
@@ -183,38 +150,11 @@ pub(crate) fn put_connection(
     put_belief(answer, host.shadow(conn))
 }
 
-fn put_rejection(answer: &mut String, rejection: Option<Rejection>) -> Result<(), AllocError> {
-    match rejection {
-        Some(
-            Rejection {
-                lu: Some(lu),
-                reason,
-            },
-        ) => write!(answer, "{lu} {reason}\n"),
-        Some(Rejection { lu: None, reason }) => write!(answer, "{reason}\n"),
-        None => answer.push_str("none\n"),
+fn put_rejection(answer: &mut String, rejection: Rejection) -> Result<(), AllocError> {
+    if let Some(lu) = rejection.lu {
+        write!(answer, "{lu} ")?;
     }
-}
-
-/// Feeds bytes one by one, up to one at which the host stops.
-fn feed_each(host: &mut Host, conn: usize, bytes: &[u8]) -> Fed
-    requires { conn < most_connections }
-{
-    let mut taken = 0usize;
-    for byte in bytes {
-        let fed = host.feed(conn, &[*byte]);
-        taken = taken.saturating_add(fed.taken);
-        if fed.stop != Stop::Going {
-            return Fed {
-                taken,
-                stop: fed.stop,
-            };
-        }
-    }
-    Fed {
-        taken,
-        stop: Stop::Going,
-    }
+    write!(answer, "{}\n", rejection.reason)
 }
 
 /// Puts a question's parts, and the text of each field of its panel.
@@ -225,16 +165,14 @@ fn put_question(
     question: &Question,
 ) -> Result<(), AllocError> {
     let Ticket { session, turn } = question.ticket;
-    write!(answer, "ticket {session} {turn}\nlu {}\n", question.lu)?;
-    write!(
-        answer,
-        "panel {}\ncursor {}\naid ",
+    let (panel, cursor, aid) = (
         question.panel,
-        question.cursor.get()
-    )?;
-    put_byte(answer, aid_byte(question.aid))?;
-    answer.push('\n')?;
-    if let Some(panel) = host.panels().panel(question.panel) {
+        question.cursor.get(),
+        aid_byte(question.aid),
+    );
+    write!(answer, "ticket {session} {turn}\nlu {}\n", question.lu)?;
+    write!(answer, "panel {panel}\ncursor {cursor}\naid {aid:02X}\n")?;
+    if let Some(panel) = host.panels().panel(panel) {
         for field in panel.fields() {
             if let Some(value) = question.values.get(field.number) {
                 put_named(alloc, answer, field.name.as_str(), value)?;
@@ -248,10 +186,7 @@ fn put_question(
 fn read_index(line: &mut Words<'_>) -> Result<Option<usize>, Fault> {
     match line.word()? {
         "-" => Ok(None),
-        word => match word.parse::<usize>() {
-            Ok(number) => Ok(Some(number)),
-            Err(_) => Err(Fault::Needs("a number, or -")),
-        },
+        word => Ok(Some(Words::new(word).number()?)),
     }
 }
 
@@ -291,25 +226,22 @@ impl Serving {
         })
     }
 
-    fn open(&mut self, conn: usize) -> &'static str
+    fn open(&mut self, conn: usize, answer: &mut String) -> Result<(), Fault>
         requires { conn < most_connections }
     {
         if self.host.phase(conn) != Phase::Free {
-            return "not free\n";
+            return Err(Fault::Needs("a number that is free"));
         }
-        match self.host.open(conn) {
-            Ok(()) => "done\n",
-            Err(_) => "memory\n",
-        }
+        Ok(put_made(answer, &self.host.open(conn))?)
     }
 
-    fn note(&mut self, conn: usize, codes: &[u8]) -> Result<&'static str, Fault>
+    fn note(&mut self, conn: usize, codes: &[u8]) -> Result<Acted, Fault>
         requires { conn < most_connections }
     {
         if !is_note_text(codes) {
             return Err(Fault::Needs("a text for a note"));
         }
-        Ok(acted_word(self.host.note(conn, codes)))
+        Ok(self.host.note(conn, codes))
     }
 
     fn sent(&mut self, conn: usize, count: usize) -> Result<(), Fault>
@@ -322,14 +254,25 @@ impl Serving {
         Ok(())
     }
 
+    fn put_rejected(&mut self, conn: usize, answer: &mut String) -> Result<(), AllocError>
+        requires { conn < most_connections }
+    {
+        match self.host.next_rejection(conn) {
+            Some(rejection) => put_rejection(answer, rejection),
+            None => answer.push_str("none\n"),
+        }
+    }
+
     fn put_dropped(&mut self, conn: usize, answer: &mut String) -> Result<(), AllocError>
         requires { conn < most_connections }
     {
         match self.host.next_dropped_key(conn) {
-            Some(key) => put_byte(answer, aid_byte(key.aid))?,
-            None => answer.push_str("none")?,
+            Some(key) => {
+                let aid = aid_byte(key.aid);
+                write!(answer, "{aid:02X}\n")
+            }
+            None => answer.push_str("none\n"),
         }
-        answer.push('\n')
     }
 
     fn ask(&self, conn: usize, answer: &mut String) -> Result<(), AllocError>
@@ -337,12 +280,12 @@ impl Serving {
     {
         match self.host.question(conn) {
             Ok(Some(question)) => put_question(self.alloc, answer, &self.host, &question),
-            Ok(None) => answer.push_str("none\n"),
+            Ok(None) => answer.push_str("Nothing\n"),
             Err(_) => answer.push_str("memory\n"),
         }
     }
 
-    fn answer(&mut self, conn: usize, line: &mut Words<'_>) -> Result<&'static str, Fault>
+    fn answer(&mut self, conn: usize, line: &mut Words<'_>) -> Result<Acted, Fault>
         requires { conn < most_connections }
     {
         let ticket = Ticket {
@@ -350,20 +293,22 @@ impl Serving {
             turn: line.number()?,
         };
         let reply = read_answer(self.alloc, line)?;
-        Ok(acted_word(self.host.answer(conn, ticket, &reply)))
+        Ok(self.host.answer(conn, ticket, &reply))
     }
 
-    fn turn(&mut self, conn: usize) -> &'static str
+    /// What has the host act.
+    fn act(&mut self, conn: usize, word: &str, line: &mut Words<'_>) -> Result<Acted, Fault>
         requires { conn < most_connections }
     {
-        match serve_turn(&mut self.host, &mut self.links, conn) {
-            Served::Going => "going\n",
-            Served::Lost => "lost\n",
-            Served::Memory => "memory\n",
+        match word {
+            "act" => Ok(self.host.act(conn)),
+            "keepalive" => Ok(self.host.keep_alive(conn)),
+            "note" => self.note(conn, line.bytes(self.alloc)?.as_slice()),
+            _ => self.answer(conn, line),
         }
     }
 
-    /// Does what feeds the host, or has it act.
+    /// Does what a line says on a connection.
     fn work(
         &mut self,
         conn: usize,
@@ -374,23 +319,19 @@ impl Serving {
         requires { conn < most_connections }
     {
         match word {
-            "feed" => put_fed(
-                answer,
-                self.host.feed(conn, line.all_bytes(self.alloc)?.as_slice()),
-            )?,
-            "each" => put_fed(
-                answer,
-                feed_each(&mut self.host, conn, line.all_bytes(self.alloc)?.as_slice()),
-            )?,
-            "open" => answer.push_str(self.open(conn))?,
-            "act" => answer.push_str(acted_word(self.host.act(conn)))?,
-            "keepalive" => answer.push_str(acted_word(self.host.keep_alive(conn)))?,
-            "note" => {
-                let codes = line.bytes(self.alloc)?;
-                answer.push_str(self.note(conn, codes.as_slice())?)?
+            "open" => self.open(conn, answer)?,
+            "feed" => {
+                let bytes = line.all_bytes(self.alloc)?;
+                write!(answer, "{:?}\n", self.host.feed(conn, bytes.as_slice()))?
             }
-            "answer" => answer.push_str(self.answer(conn, line)?)?,
-            "turn" => answer.push_str(self.turn(conn))?,
+            "act" | "keepalive" | "note" | "answer" => {
+                write!(answer, "{:?}\n", self.act(conn, word, line)?)?
+            }
+            "turn" => write!(
+                answer,
+                "{:?}\n",
+                serve_turn(&mut self.host, &mut self.links, conn)
+            )?,
             _ => return self.look(conn, word, line, answer),
         }
         Ok(())
@@ -415,7 +356,7 @@ impl Serving {
                 "unsent",
                 self.host.closed(conn).as_slice(),
             )?,
-            "rejected" => put_rejection(answer, self.host.next_rejection(conn))?,
+            "rejected" => self.put_rejected(conn, answer)?,
             "dropped" => self.put_dropped(conn, answer)?,
             "question" => self.ask(conn, answer)?,
             "state" => put_state(answer, &self.host, conn)?,
@@ -448,8 +389,7 @@ impl Hosts {
 
     /// A host begins to serve the panels of the text, which is taken.
     fn serve(&mut self, terminals: &str) -> Result<(), Fault> {
-        let serving = Serving::new(self.alloc, terminals, self.panels.as_str())?;
-        self.serving = Some(serving);
+        self.serving = Some(Serving::new(self.alloc, terminals, self.panels.as_str())?);
         self.panels.clear();
         Ok(())
     }
@@ -459,7 +399,7 @@ impl Subject for Hosts {
     fn take(&mut self, line: &mut Words<'_>, answer: &mut String) -> Result<(), Fault> {
         match line.word()? {
             "|" => Ok(add_line(&mut self.panels, line.rest())?),
-            "serve" => put_made(answer, self.serve(line.rest())),
+            "serve" => put_begun(answer, self.serve(line.rest())),
             word => match &mut self.serving {
                 Some(serving) => serving.take(word, line, answer),
                 None => Err(Fault::Needs("a host that serves")),

@@ -1,13 +1,13 @@
-//! Connections in memory, on which bytes come as they are said, and which end or fail at a read, a write, or a byte.
+//! Two connections in memory, on which bytes come as they are said, and which end or fail at a read, a write, or a byte.
 //!
 //! ```text
-//! plug READS WRITES PAUSES    two new clients, 0 and 1: a read gives READS bytes at most, and a write takes WRITES; PAUSES is yes if
+//! plug READS WRITES PAUSES    new clients, 0 and 1: a read gives READS bytes at most, and a write takes WRITES; PAUSES is true if
 //!                      every second read, and every second write, gives or takes nothing
 //! fresh C              a new client C
-//! trouble C PLACE N WAY    C ends or fails (WAY ends, fails) at its Nth read or write, or after its Nth byte (PLACE read, write, byte)
+//! trouble C PLACE N ENDS    C ends or fails (ENDS true or false) at its Nth read or write, or after its Nth byte
 //! say C BYTES          C says these, after what it said before
 //! heard C              what was written to C since this was last asked
-//! counts C             its reads, its writes, its bytes that were read, and how often it ended and failed
+//! counts C             its reads, its writes, its bytes that were read, and how often it ended or failed
 //! ```
 ghost use Rattle.std.specs.Prelude.{◌≡◌, ◌≤◌, ⊤, length};
 ghost use Rattle.host_core.specs.Serves.{GotWithin, TookWithin, ReadCounts, WriteCounts};
@@ -19,50 +19,47 @@ use crate::line::Words;
 use host_core::{LinkRead, LinkWrite, Links};
 use std::alloc::{AllocError, Global};
 
-const WORDS: [&str; 6] = ["plug", "fresh", "trouble", "say", "heard", "counts"];
-
 /// Whether a word is one of these commands.
 pub(crate) fn is_link_word(word: &str) -> bool {
-    WORDS.iter().any(|known| *known == word)
+    matches!(
+        word,
+        "plug" | "fresh" | "trouble" | "say" | "heard" | "counts"
+    )
 }
 
-/// Where a connection ends.
-#[derive(Clone, Copy)]
+/// What is counted of a client, from 1 on.
+#[derive(Clone, Copy, PartialEq, Eq)]
 enum Place {
-    Nowhere,
     Read,
     Write,
     Byte,
 }
 
-/// Where and how a connection ends: at the read or write with this number from 1 on, or after this number of bytes.
+/// How bytes cross, and where the connection ends or fails.
 #[derive(Clone, Copy)]
-struct Trouble {
+struct Way {
+    reads: usize,
+    writes: usize,
+    pauses: bool,
     place: Place,
     number: usize,
     ends: bool,
 }
 
-/// How bytes cross.
-#[derive(Clone, Copy)]
-struct Pace {
-    /// How many bytes a read gives, and a write takes, at most.
-    reads: usize,
-    writes: usize,
-    pauses: bool,
-}
-
-const NO_TROUBLE: Trouble = Trouble {
-    place: Place::Nowhere,
-    number: 0,
+/// All at once, to an end that never comes.
+const FREELY: Way = Way {
+    reads: usize::MAX,
+    writes: usize::MAX,
+    pauses: false,
+    place: Place::Read,
+    number: usize::MAX,
     ends: false,
 };
 
-/// A client: what it says that wasn't read, and what it heard.
+/// A client: what it says that wasn't read, what it heard, and how often it was read and written.
 #[derive(Drop)]
 struct Client {
-    pace: Pace,
-    trouble: Trouble,
+    way: Way,
     said: Vec<u8>,
     heard: Vec<u8>,
     reads: usize,
@@ -71,10 +68,9 @@ struct Client {
 }
 
 impl Client {
-    fn new(alloc: Global, pace: Pace) -> Client {
+    fn new(alloc: Global, way: Way) -> Client {
         Client {
-            pace,
-            trouble: NO_TROUBLE,
+            way,
             said: Vec::new(alloc),
             heard: Vec::new(alloc),
             reads: 0,
@@ -85,10 +81,10 @@ impl Client {
 
     /// Whether the read that is made now ends or fails.
     fn is_struck(&self) -> bool {
-        match self.trouble.place {
-            Place::Read => self.reads == self.trouble.number,
-            Place::Byte => self.read == self.trouble.number,
-            Place::Write | Place::Nowhere => false,
+        match self.way.place {
+            Place::Read => self.reads == self.way.number,
+            Place::Byte => self.read == self.way.number,
+            Place::Write => false,
         }
     }
 
@@ -96,11 +92,12 @@ impl Client {
     fn count(&self, room: usize) -> usize
         ensures { result ≤ room }
     {
-        let most = match self.trouble.place {
-            Place::Byte => self.trouble.number.saturating_sub(self.read),
-            Place::Read | Place::Write | Place::Nowhere => usize::MAX,
+        let most = if self.way.place == Place::Byte {
+            self.way.number.saturating_sub(self.read)
+        } else {
+            usize::MAX
         };
-        room.min(self.said.len()).min(self.pace.reads).min(most)
+        room.min(self.said.len()).min(self.way.reads).min(most)
     }
 
     /// Puts the next bytes into the buffer, and answers how many.
@@ -108,10 +105,10 @@ impl Client {
         ensures { result ≤ length buffer.new }
     {
         let count = self.count(buffer.len());
-        let left = self.said.len().saturating_sub(count);
         for place in 0..count {
             buffer[place] = self.said.get(place).copied().unwrap_or(0);
         }
+        let left = self.said.len().saturating_sub(count);
         self.said.rotate_left(count.min(self.said.len()));
         self.said.truncate(left);
         self.read = self.read.saturating_add(count);
@@ -123,13 +120,13 @@ impl Client {
     {
         self.reads = self.reads.saturating_add(1);
         if self.is_struck() {
-            return if self.trouble.ends {
+            return if self.way.ends {
                 LinkRead::Ended
             } else {
                 LinkRead::Failed
             };
         }
-        if self.pace.pauses && self.reads % 2 == 0 {
+        if self.way.pauses && self.reads % 2 == 0 {
             return LinkRead::NotNow;
         }
         match self.give(buffer) {
@@ -142,17 +139,16 @@ impl Client {
         ensures { TookWithin result (length bytes.now) }
     {
         self.writes = self.writes.saturating_add(1);
-        if matches!(self.trouble.place, Place::Write) && self.writes == self.trouble.number {
+        if self.way.place == Place::Write && self.writes == self.way.number {
             return LinkWrite::Failed;
         }
-        if self.pace.pauses && self.writes % 2 == 0 {
+        let count = bytes.len().min(self.way.writes);
+        if self.way.pauses && self.writes % 2 == 0
+            || self.heard.extend_from_slice(&bytes[..count]).is_err()
+        {
             return LinkWrite::NotNow;
         }
-        let count = bytes.len().min(self.pace.writes);
-        match self.heard.extend_from_slice(&bytes[..count]) {
-            Ok(()) => LinkWrite::Took(count),
-            Err(_) => LinkWrite::NotNow,
-        }
+        LinkWrite::Took(count)
     }
 }
 
@@ -227,14 +223,6 @@ impl Links for Memory {
     }
 }
 
-fn read_pace(line: &mut Words<'_>) -> Result<Pace, Fault> {
-    Ok(Pace {
-        reads: line.number()?,
-        writes: line.number()?,
-        pauses: line.word()? == "yes",
-    })
-}
-
 fn read_place(word: &str) -> Result<Place, Fault> {
     match word {
         "read" => Ok(Place::Read),
@@ -244,33 +232,35 @@ fn read_place(word: &str) -> Result<Place, Fault> {
     }
 }
 
-fn read_trouble(line: &mut Words<'_>) -> Result<Trouble, Fault> {
-    Ok(Trouble {
-        place: read_place(line.word()?)?,
-        number: line.number()?,
-        ends: line.word()? == "ends",
-    })
+fn put_counts(answer: &mut String, client: &Client, lost: u64) -> Result<(), AllocError> {
+    write!(
+        answer,
+        "{} {} {} {lost}\n",
+        client.reads, client.writes, client.read
+    )
 }
 
 impl Memory {
     /// Two clients that have nothing to say.
     pub(crate) fn new(alloc: Global) -> Memory {
-        let pace = Pace {
-            reads: usize::MAX,
-            writes: usize::MAX,
-            pauses: false,
-        };
         Memory {
-            clients: [Client::new(alloc, pace), Client::new(alloc, pace)],
+            clients: [Client::new(alloc, FREELY), Client::new(alloc, FREELY)],
             ends: [0; 2],
             failures: [0; 2],
         }
     }
 
-    fn plug(&mut self, alloc: Global, pace: Pace) {
-        self.clients = [Client::new(alloc, pace), Client::new(alloc, pace)];
+    fn plug(&mut self, alloc: Global, line: &mut Words<'_>) -> Result<(), Fault> {
+        let way = Way {
+            reads: line.number()?,
+            writes: line.number()?,
+            pauses: line.number()?,
+            ..FREELY
+        };
+        self.clients = [Client::new(alloc, way), Client::new(alloc, way)];
         self.ends = [0; 2];
         self.failures = [0; 2];
+        Ok(())
     }
 
     /// Does what a line says of the connections.
@@ -282,8 +272,7 @@ impl Memory {
         answer: &mut String,
     ) -> Result<(), Fault> {
         if word == "plug" {
-            self.plug(alloc, read_pace(line)?);
-            return Ok(());
+            return self.plug(alloc, line);
         }
         let conn = line.number::<usize>()?;
         if conn >= self.clients.len() {
@@ -297,15 +286,14 @@ impl Memory {
     }
 }
 
-fn put_counts(answer: &mut String, client: &Client, lost: u64) -> Result<(), AllocError> {
-    write!(
-        answer,
-        "{} {} {} {lost}\n",
-        client.reads, client.writes, client.read
-    )
-}
-
 impl Client {
+    fn meet_trouble(&mut self, line: &mut Words<'_>) -> Result<(), Fault> {
+        self.way.place = read_place(line.word()?)?;
+        self.way.number = line.number()?;
+        self.way.ends = line.number()?;
+        Ok(())
+    }
+
     fn take(
         &mut self,
         alloc: Global,
@@ -314,8 +302,14 @@ impl Client {
         answer: &mut String,
     ) -> Result<(), Fault> {
         match word {
-            "fresh" => *self = Client::new(alloc, self.pace),
-            "trouble" => self.trouble = read_trouble(line)?,
+            "fresh" => *self = Client::new(
+                alloc,
+                Way {
+                    number: usize::MAX,
+                    ..self.way
+                },
+            ),
+            "trouble" => self.meet_trouble(line)?,
             "say" => self
                 .said
                 .extend_from_slice(line.all_bytes(alloc)?.as_slice())?,

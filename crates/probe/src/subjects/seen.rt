@@ -2,38 +2,28 @@
 ghost use Rattle.std.specs.Prelude.{IfSome};
 ghost use Rattle.shadow.specs.Belief.{HasCell};
 
-use codes3270::{Addr, Cell, Model, Size, aid_byte, attr_code};
+use codes3270::{Addr, Cell, Size, aid_byte, attr_code};
 use presentation::Screen;
-use shadow::{Fact, Shadow};
+use shadow::Shadow;
 use std::alloc::AllocError;
-use tn3270e_msg::{Fed, Stop};
 
-const DIGITS: [char; 16] = [
-    '0', '1', '2', '3', '4', '5', '6', '7', '8', '9', 'A', 'B', 'C', 'D', 'E', 'F',
-];
-
-/// The number of a model.
-pub(crate) fn model_number(model: Model) -> u8 {
-    match model {
-        Model::M2 => 2,
-        Model::M3 => 3,
-        Model::M4 => 4,
-        Model::M5 => 5,
-    }
-}
-
-/// Puts a byte. It needs no memory beside the answer's.
-pub(crate) fn put_byte(answer: &mut String, byte: u8) -> Result<(), AllocError> {
-    answer.push(DIGITS[usize::from(byte / 16)])?;
-    answer.push(DIGITS[usize::from(byte % 16)])
+/// Puts a size, a cursor and an AID.
+pub(crate) fn put_screen(answer: &mut String, screen: &Screen) -> Result<(), AllocError> {
+    let size = screen.size();
+    let (rows, cols, cursor) = (size.rows(), size.cols(), screen.cursor().get());
+    let aid = aid_byte(screen.aid());
+    write!(
+        answer,
+        "size {rows} {cols}\ncursor {cursor}\naid {aid:02X}\n"
+    )
 }
 
 fn put_cell(answer: &mut String, cell: Option<Cell>) -> Result<(), AllocError> {
     match cell {
-        Some(Cell::Char(code)) => put_byte(answer, code),
+        Some(Cell::Char(code)) => write!(answer, "{code:02X}"),
         Some(Cell::Attr(attr)) => {
-            answer.push_str("1D")?;
-            put_byte(answer, attr_code(attr))
+            let code = attr_code(attr);
+            write!(answer, "1D{code:02X}")
         }
         None => answer.push_str("??"),
     }
@@ -48,26 +38,6 @@ pub(crate) fn put_cells(answer: &mut String, screen: &Screen) -> Result<(), Allo
         }
     }
     answer.push('\n')
-}
-
-/// Puts a screen's size, cursor and AID.
-pub(crate) fn put_screen(answer: &mut String, screen: &Screen) -> Result<(), AllocError> {
-    let size = screen.size();
-    write!(answer, "size {} {}\n", size.rows(), size.cols())?;
-    write!(answer, "cursor {}\n", screen.cursor().get())?;
-    answer.push_str("aid ")?;
-    put_byte(answer, aid_byte(screen.aid()))?;
-    answer.push('\n')
-}
-
-fn fact_word(fact: Fact) -> &'static str {
-    match fact {
-        Fact::Exact => "Exact",
-        Fact::ExactOrNulls => "ExactOrNulls",
-        Fact::Text => "Text",
-        Fact::TextOrNulls => "TextOrNulls",
-        Fact::Any => "Any",
-    }
 }
 
 /// The address of a place on the screen of which something is known.
@@ -87,27 +57,19 @@ fn put_known(answer: &mut String, shadow: &Shadow, place: u16) -> Result<(), All
     }
 }
 
-fn put_text(answer: &mut String, shadow: &Shadow, place: u16) -> Result<(), AllocError> {
-    if let Some(at) = address_on(shadow, place) {
-        for code in shadow.text(at) {
-            put_byte(answer, code)?;
-        }
-    }
-    answer.push('\n')
-}
-
 /// Puts what is believed of the field whose attribute is at a place, if one is believed to be there: a fact, and its text.
 fn put_field(answer: &mut String, shadow: &Shadow, place: u16) -> Result<(), AllocError> {
-    let fact = match address_on(shadow, place) {
-        Some(at) => shadow.fact(at),
-        None => None,
-    };
-    let Some(fact) = fact else {
+    let Some(at) = address_on(shadow, place) else {
         return Ok(());
     };
-    let fact = fact_word(fact);
-    write!(answer, "field {place} {fact} ")?;
-    put_text(answer, shadow, place)
+    let Some(fact) = shadow.fact(at) else {
+        return Ok(());
+    };
+    write!(answer, "field {place} {fact:?} ")?;
+    for code in shadow.text(at) {
+        write!(answer, "{code:02X}")?;
+    }
+    answer.push('\n')
 }
 
 fn put_places(answer: &mut String, shadow: &Shadow, size: Size) -> Result<(), AllocError> {
@@ -127,15 +89,5 @@ pub(crate) fn put_belief(answer: &mut String, shadow: &Shadow) -> Result<(), All
     match shadow.size() {
         Some(size) => put_places(answer, shadow, size),
         None => answer.push('\n'),
-    }
-}
-
-/// Puts how many bytes were taken, and what stopped an end after them.
-pub(crate) fn put_fed(answer: &mut String, fed: Fed) -> Result<(), AllocError> {
-    let taken = fed.taken;
-    match fed.stop {
-        Stop::Going => write!(answer, "{taken} going\n"),
-        Stop::Memory => write!(answer, "{taken} memory\n"),
-        Stop::Closed(cause) => write!(answer, "{taken} closed {cause}\n"),
     }
 }

@@ -1,15 +1,14 @@
 //! A world: world3270's `World` of a host and four terminals, 0 to 3, of the models 2 to 5. T is a terminal's number, C a connection's.
+//! What calls answer is printed by Debug.
 //!
 //! ```text
 //! | TEXT              a line of the panel text
 //! new [any]           a world whose host serves these panels, to terminals that wait or to any: done, or memory
-//! EVENT               an event happens: done, refused N, skipped, part N, or memory. The events:
-//!                     connect T [LU], key T NAME, char T CHARACTER, up C N, down C N, act C, note C BYTES, keepalive C, lose C,
+//! EVENT               connect T [LU], key T NAME, char T CHARACTER, up C N, down C N, act C, note C BYTES, keepalive C, lose C,
 //!                     hostsees C, termsees T, restartterm T, restarthost
-//! each up|down C N    such a delivery, byte by byte
 //! list EVENT          puts an event at the end of a list
-//! run                 the list's events happen: how many whole, and how many bytes of the next; the list is empty then
-//! state               how far each terminal is, and the host on each number that isn't free
+//! run                 the list's events happen; the list is empty then
+//! states              how far each terminal is, and the host on each number that isn't free
 //! host C              all that is to be seen of the host on a connection
 //! terminal T          phase, lock and screen of a terminal
 //! left T              whether input was erased since the last write with restore, and the cells that this left
@@ -24,15 +23,16 @@ use crate::line::Words;
 use crate::subject::Subject;
 use crate::subjects::four::{Four, TERMINALS};
 use crate::subjects::host::{
-    add_line, put_connection, put_made, put_state, read_conn, terminals_of,
+    add_line, put_begun, put_connection, put_state, read_conn, terminals_of,
 };
 use crate::subjects::seen::put_cells;
-use crate::subjects::terminal::{put_page, put_terminal};
+use crate::subjects::terminal;
+use crate::subjects::terminal::put_page;
 use host_core::{Host, MOST_CONNECTIONS, Phase};
 use keyboard::Key;
 use std::alloc::{AllocError, Global};
 use tn3270e_msg::Lu;
-use world3270::{Event, NoteText, Stepped};
+use world3270::{Event, NoteText};
 
 /// A panel text, a world, and a list of events.
 #[derive(Drop)]
@@ -101,58 +101,6 @@ fn read_event(alloc: Global, word: &str, line: &mut Words<'_>) -> Result<Event, 
     read_event_at(alloc, word, line)
 }
 
-fn put_stepped(answer: &mut String, stepped: Stepped) -> Result<(), AllocError> {
-    match stepped {
-        Stepped::Done => answer.push_str("done\n"),
-        Stepped::Refused(refusal) => write!(answer, "refused {}\n", refusal.number()),
-        Stepped::Skipped => answer.push_str("skipped\n"),
-        Stepped::Part(taken) => write!(answer, "part {taken}\n"),
-        Stepped::Memory => answer.push_str("memory\n"),
-    }
-}
-
-/// Some of the bytes under way.
-fn delivery(is_up: bool, conn: usize, count: usize) -> Event {
-    if is_up {
-        Event::Up(conn, count)
-    } else {
-        Event::Down(conn, count)
-    }
-}
-
-/// A delivery of one byte as often as said, or until no byte is left. Answers what the last came to that wasn't skipped.
-fn deliver_each(world: &mut Four, is_up: bool, conn: usize, count: usize) -> Stepped {
-    let mut came = Stepped::Skipped;
-    for _ in 0..count {
-        match world.step(delivery(is_up, conn, 1)) {
-            Stepped::Skipped => return came,
-            stepped => came = stepped,
-        }
-    }
-    came
-}
-
-/// A delivery comes byte by byte. One of no bytes happens as it is.
-fn deliver(world: &mut Four, is_up: bool, conn: usize, most: usize) -> Stepped {
-    let queued = if is_up {
-        world.queued_up(conn).len()
-    } else {
-        world.queued_down(conn).len()
-    };
-    match queued.min(most) {
-        0 => world.step(delivery(is_up, conn, most)),
-        count => deliver_each(world, is_up, conn, count),
-    }
-}
-
-fn read_is_up(word: &str) -> Result<bool, Fault> {
-    match word {
-        "up" => Ok(true),
-        "down" => Ok(false),
-        _ => Err(Fault::Needs("up or down")),
-    }
-}
-
 fn read_terminal(line: &mut Words<'_>) -> Result<usize, Fault>
     ensures { IfOk result (λ terminal. terminal < 4) }
 {
@@ -174,21 +122,24 @@ fn put_conns(answer: &mut String, host: &Host) -> Result<(), AllocError> {
     Ok(())
 }
 
-fn put_world(answer: &mut String, world: &Four) -> Result<(), AllocError> {
+fn put_states(answer: &mut String, world: &Four) -> Result<(), AllocError> {
     for terminal in 0..TERMINALS {
         write!(answer, "terminal {}\n", world.terminal(terminal).phase())?;
     }
     put_conns(answer, world.host())
 }
 
+fn put_terminal(answer: &mut String, world: &Four, terminal: usize) -> Result<(), AllocError>
+    requires { terminal < 4 }
+{
+    terminal::put_state(answer, world.terminal(terminal))?;
+    put_cells(answer, world.terminal(terminal).screen())
+}
+
 fn put_left(answer: &mut String, world: &Four, terminal: usize) -> Result<(), AllocError>
     requires { terminal < 4 }
 {
-    answer.push_str(if world.erased(terminal) {
-        "erased yes\n"
-    } else {
-        "erased no\n"
-    })?;
+    write!(answer, "erased {}\n", world.erased(terminal))?;
     put_cells(answer, world.last_restored(terminal))
 }
 
@@ -197,31 +148,41 @@ fn put_queued(
     answer: &mut String,
     world: &Four,
     conn: usize,
-) -> Result<(), AllocError> {
+) -> Result<(), AllocError>
+    requires { conn < 64 }
+{
     put_named(alloc, answer, "up", world.queued_up(conn))?;
     put_named(alloc, answer, "down", world.queued_down(conn))
 }
 
-/// Puts what a line asks for.
-fn look_at(
+/// Does what a line says to a world, or puts what it asks for.
+fn take_on(
     alloc: Global,
-    world: &Four,
+    world: &mut Four,
     word: &str,
     line: &mut Words<'_>,
     answer: &mut String,
 ) -> Result<(), Fault> {
     match word {
-        "state" => put_world(answer, world)?,
+        "states" => put_states(answer, world)?,
         "host" => put_connection(alloc, answer, world.host(), read_conn(line)?)?,
-        "terminal" => put_terminal(answer, world.terminal(read_terminal(line)?))?,
+        "terminal" => put_terminal(answer, world, read_terminal(line)?)?,
         "left" => put_left(answer, world, read_terminal(line)?)?,
         "text" => put_page(
             answer,
-            world.terminal(read_terminal(line)?).screen_text(alloc),
+            &world.terminal(read_terminal(line)?).screen_text(alloc),
         )?,
-        _ => put_queued(alloc, answer, world, line.number()?)?,
+        "queued" => put_queued(alloc, answer, world, read_conn(line)?)?,
+        _ => write!(answer, "{:?}\n", world.step(read_event(alloc, word, line)?))?,
     }
     Ok(())
+}
+
+/// A list of events happens.
+fn run(world: &mut Four, events: &mut Vec<Event>, answer: &mut String) -> Result<(), AllocError> {
+    let ran = world.run(events.as_slice());
+    events.clear();
+    write!(answer, "{ran:?}\n")
 }
 
 impl Worlds {
@@ -236,7 +197,6 @@ impl Worlds {
 
     fn begin(&mut self, terminals: &str) -> Result<(), Fault> {
         let terminals = terminals_of(terminals)?;
-        self.events.clear();
         self.world = Some(Four::new(self.alloc, terminals, self.panels.as_str())?);
         self.panels.clear();
         Ok(())
@@ -250,51 +210,17 @@ impl Worlds {
     }
 }
 
-/// Does what a line says to a world.
-fn take_on(
-    alloc: Global,
-    world: &mut Four,
-    word: &str,
-    line: &mut Words<'_>,
-    answer: &mut String,
-) -> Result<(), Fault> {
-    match word {
-        "each" => {
-            let is_up = read_is_up(line.word()?)?;
-            let conn = line.number::<usize>()?;
-            put_stepped(answer, deliver(world, is_up, conn, line.number()?))?
-        }
-        "state" | "host" | "terminal" | "left" | "text" | "queued" => {
-            return look_at(alloc, world, word, line, answer);
-        }
-        _ => {
-            let event = read_event(alloc, word, line)?;
-            put_stepped(answer, world.step(event))?
-        }
-    }
-    Ok(())
-}
-
-/// A list of events happens.
-fn run(world: &mut Four, events: &mut Vec<Event>, answer: &mut String) -> Result<(), AllocError> {
-    let ran = world.run(events.as_slice());
-    events.clear();
-    write!(answer, "{} {}\n", ran.whole, ran.part)
-}
-
 impl Subject for Worlds {
     fn take(&mut self, line: &mut Words<'_>, answer: &mut String) -> Result<(), Fault> {
-        let word = line.word()?;
-        match word {
-            "|" => return Ok(add_line(&mut self.panels, line.rest())?),
-            "new" => return put_made(answer, self.begin(line.rest())),
-            "list" => return self.list(line),
-            _ => {}
-        }
-        match &mut self.world {
-            Some(world) if word == "run" => Ok(run(world, &mut self.events, answer)?),
-            Some(world) => take_on(self.alloc, world, word, line, answer),
-            None => Err(Fault::Needs("a world")),
+        match line.word()? {
+            "|" => Ok(add_line(&mut self.panels, line.rest())?),
+            "new" => put_begun(answer, self.begin(line.rest())),
+            "list" => self.list(line),
+            word => match &mut self.world {
+                Some(world) if word == "run" => Ok(run(world, &mut self.events, answer)?),
+                Some(world) => take_on(self.alloc, world, word, line, answer),
+                None => Err(Fault::Needs("a world")),
+            },
         }
     }
 }
