@@ -1,5 +1,5 @@
--- One connection of a host that serves any terminal, once the host has agreed on an LU, with a terminal that keeps the rules (our profile):
--- what may happen on it, and what holds then. Other clients change the pool of LUs alone.
+-- One connection of a host that serves any terminal, once the host has agreed on an LU, with a terminal that keeps the
+-- rules (our profile): what may happen on it, and what holds then. Other clients change the pool of LUs alone.
 use Rattle.std.specs.Prelude.{◌≡◌, ◌≢◌, ⊤, ◌||◌, ℕ, Bool, true, false, List, [], ◌∷◌, None, Some, if◌then◌else◌, is_some}
 use Rattle.codes3270.specs.Size.{cells_in}
 use Rattle.codes3270.specs.declared.attention.Aid.{Aid}
@@ -38,9 +38,11 @@ use Rattle.world3270.specs.Terminal.{Display, TermEnd, TermStep, bound_to, is_bo
 
 -- ---- the connection, and the screen of which the host has data
 
--- `told`: what the terminal displayed when the first key was pressed that sent data since the last paint; or what it displays, if none was. A
--- Read Buffer's answer tells the whole screen as it is then, but the AID stays that key's. Notes are written over it too.
--- `waits`: such a key was pressed, so that a 3278 would wait, as it does until the first paint. What the ends do doesn't depend on either.
+-- `told`: what the terminal displayed when the first key was pressed that sent data since the last paint; or what it
+-- displays, if none was. A Read Buffer's answer tells the whole screen as it is then, but the AID stays that key's.
+-- Notes are written over it too.
+-- `waits`: such a key was pressed, so that a 3278 would wait, as it does until the first paint. What the ends do
+-- doesn't depend on either.
 pub record Told : Type 0 where
   pub link : Link
   pub told : Display
@@ -67,7 +69,8 @@ paint_executed number wanted over end =
       closes = None;
     }
 
--- All else is as in a world: there a paint leaves the wanted screen at once, as it does on each screen that the host's belief allows.
+-- All else is as in a world: there a paint leaves the wanted screen at once, as it does on each screen that the host's
+-- belief allows.
 abbrev pub executed : TermEnd → ToTerminal → TermStep
 executed end (ToTerminal.Paint number wanted over) = once_bound (is_bound end) (paint_executed number wanted over end) end
 executed end (ToTerminal.TalksDown saying) = term_took end (ToTerminal.TalksDown saying)
@@ -95,8 +98,8 @@ told_if false message t link = record t { link = link }
 
 -- ---- what may happen
 
--- The next message is delivered, up or down, while the pool is this; the host acts, is answered by the application, or sends a note; the
--- operator does something; the connection is lost.
+-- The next message is delivered, up or down, while the pool is this; the host acts, is answered by the application, or
+-- sends a note; the operator does something; the connection is lost.
 pub data Move : Type 0 where
   Up : (pool : List Entry) → Move
   Down : Move
@@ -141,8 +144,8 @@ abbrev pub key_pressed : {end : TermEnd} {step : TermStep} → Operates end step
 key_pressed (Operates.edits keyboard cells cursor erases held on is) = NoAid
 key_pressed (Operates.sends keyboard aid some is) = aid
 
--- The pool is sound, what the operator does keeps the rules, and notes are texts. Clear isn't pressed in the wait: it nulls the screen, and the
--- host closes if a command is on its way, since what it wrote by what it knew is lost.
+-- The pool is sound, what the operator does keeps the rules, and notes are texts. Clear isn't pressed in the wait: it
+-- nulls the screen, and the host closes if a command is on its way, since what it wrote by what it knew is lost.
 abbrev pub IsByTheRules : Move → Told → Type 0
 IsByTheRules (Move.Up pool) t = IsSound pool
 IsByTheRules (Move.Operate step) t = (does : Operates t.link.term step) × (t.waits ≡ true → key_pressed does ≢ Clear)
@@ -158,9 +161,10 @@ AreByTheRules app (move ∷ moves) t = IsByTheRules move t × AreByTheRules app 
 
 -- ---- agreement
 
--- Both ends as they are once the host has agreed on this LU (RFC 1647, section 7): the host as at the begin of the connection, but for its
--- talk; the terminal bound, or about to be, with a blank screen of the size at which each connection begins, and of the model of the type that
--- it asked for, with -E or without. Which functions were asked for and countered is of no matter.
+-- Both ends as they are once the host has agreed on this LU (RFC 1647, section 7): the host as at the begin of the
+-- connection, but for its talk; the terminal bound, or about to be, with a blank screen of the size at which each
+-- connection begins, and of the model of the type that it asked for, with -E or without. Which functions were asked
+-- for and countered is of no matter.
 pub record Begins (app : Application) (lu : List ℕ) (t : Told) : Type 0 where
   pub device : Device
   pub agreed : t.link.host.talk.state ≡ HostAgreed device lu
@@ -181,9 +185,9 @@ told_link t = record t.link { term = record t.link.term { display = t.told } }
 
 -- The headline, and what is asked and shown, of this connection:
 -- (a) A terminal that is bound to an LU is bound to the one that the host granted.
--- (b) to (d) Whenever the host decides, the headline's three parts hold of what it was told. And of the screen as it is at that moment what the
--- host believes is so, but for the characters and MDT of input fields: the attributes are where it believes them, and so is each protected
--- character.
+-- (b) to (d) Whenever the host decides, the headline's three parts hold of what it was told. And of the screen as it
+-- is at that moment what the host believes is so, but for the characters and MDT of input fields: the attributes are
+-- where it believes them, and so is each protected character.
 -- An open question has the key, the cursor and the text of each field of its panel of what the host was told.
 -- Once a paint is answered, the screen that it left shows the panel, whatever was typed in the wait before it.
 -- Neither end has closed the connection by a cause.
