@@ -14,8 +14,8 @@ mod terminal;
 mod wire;
 mod world;
 
-use codes::Codes;
 use crate::subject::serve;
+use codes::Codes;
 use host::Hosts;
 use lines::Lines;
 use messages::Messages;
