@@ -108,8 +108,8 @@ def check_written(line: Line) -> None:
     with Probe("wire") as probe:
         for old in ("-", "0707"):
             probe.ask(f"out {len(old) // 2} {old}")
-            wanted = f"Ok(()) out {old.strip('-')}{spelling}"
-            same(wanted, "\n".join(probe.ask(command, line.at)))
+            same(["ok"], probe.ask(command, line.at))
+            same([f"out {old.strip('-')}{spelling}"], probe.ask("left"))
         probe.ask(f"out {len(spelling) // 2} -")
         room = probe.ask("room")
         probe.ask(command, line.at)

@@ -22,10 +22,10 @@ mod wanted;
 mod wire;
 mod world;
 
-use crate::subject::serve;
 use belief::Belief;
 use codes::Codes;
 use commands::Commands;
+use crate::subject::serve;
 use host::Hosts;
 use inbound::Inbounds;
 use lines::Lines;

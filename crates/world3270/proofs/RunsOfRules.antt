@@ -13,7 +13,7 @@ use Rattle.tn3270e_msg.specs.Device.{device_for}
 use Rattle.host_core.specs.declared.terminals.Terminals.TheVariants.{Any, Waiting}
 use Rattle.world3270.specs.EveryTerminal.{AreByTheRules, Begins, RightOf, Told, after_moves, told_link}
 use Rattle.world3270.specs.ExampleApplication.{example, example_pool, l1, l2}
-use Rattle.world3270.specs.ExampleRules.{BrokenRules, KeptRules, WaitingRun, acts, after, agreed_with, decides_behind, does, enters, entered, goes_up, ignores, kept_moves, left_behind, pasted_behind, presses, relabels, renamed_seen, sends_what_was_left, shown_by, signs_on, small_greeting, types_in_the_wait}
+use Rattle.world3270.specs.ExampleRules.{BrokenRules, KeptRules, ToldRun, WaitingRun, acts, after, agreed_with, decides_behind, does, enters, enters_twice, entered, goes_up, ignores, kept_moves, left_behind, pasted_behind, presses, relabels, renamed_seen, sends_what_was_left, shown_by, signs_on, small_greeting, told_the_newest, types_in_the_wait}
 use Rattle.keyboard.specs.declared.key.Key.TheVariants as key
 use Rattle.world3270.specs.Headline.{IsHostsTurn}
 use Rattle.world3270.proofs.ExampleGiven.{is_pool}
@@ -46,6 +46,19 @@ relying_decides right =
 
 pub waiting_run : WaitingRun
 waiting_run = record { any = any_is_right; relying = relying_is_wrong; wrong = relying_decides }
+
+-- ---- what was told
+
+newest_is_wrong : RightOf example l1 (told_the_newest (after enters_twice (agreed_with Any l1))) → ⊥
+unfolding onward backward
+newest_is_wrong right =
+    let t : Told = told_the_newest (after enters_twice (agreed_with Any l1)) in
+    let turn : IsHostsTurn (seen_link (told_link t)) = record { host = conn_seen t.link.host; host_is = refl; terminal = end_seen 0 (told_link t).term; terminal_is = refl; turn = refl; answered = refl } in
+    let second = (right.agrees turn).sees.meets.1.1.0 in
+    unlike (ap (λ (text : List ℕ). slice_index_or text 1 0 == 0xC2) second.holds)
+
+pub told_run : ToldRun
+told_run = record { newest = newest_is_wrong }
 
 -- ---- a rule is broken
 

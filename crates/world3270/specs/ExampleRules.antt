@@ -114,6 +114,20 @@ pub record WaitingRun : Type 0 where
   pub relying : shown_by (after types_in_the_wait (agreed_with Waiting l1)) ≡ small_greeting left_behind
   pub wrong : RightOf example l1 (after decides_behind (agreed_with Waiting l1)) → ⊥
 
+-- ---- what was told
+
+-- `A`, and Enter, which the host hears; then Reset, `B` behind the `A`, and Enter again, which the host drops
+abbrev pub enters_twice : List Deed
+enters_twice = signs_on ++ presses (key.Char 0x41) ∷ presses key.Enter ∷ goes_up ∷ presses key.Reset ∷ presses (key.Char 0x42) ∷ presses key.Enter ∷ goes_up ∷ []
+
+-- with what is displayed now in place of what was told
+abbrev pub told_the_newest : Told → Told
+told_the_newest t = record t { told = t.link.term.display }
+
+-- The host was told what the first Enter sent. Of what the second one sent the promise would be wrong.
+pub record ToldRun : Type 0 where
+  pub newest : RightOf example l1 (told_the_newest (after enters_twice (agreed_with Any l1))) → ⊥
+
 -- ---- a rule is broken
 
 -- Enter, which comes up to the host

@@ -233,7 +233,8 @@ pub fn a_lost_connection_takes_nothing()
 /// more rows than the first, so the size of the screen changes on the way there and back. When the
 /// host decides it knows what was typed. And runs of one connection: of a terminal whose Reset ends
 /// the wait, with a host that serves any terminal, and with one that relies on the wait, whose panel
-/// keeps what was typed in it; of four terminals that break one rule each; and of one that keeps all.
+/// keeps what was typed in it; one whose second Enter the host drops, which doesn't tell it anything;
+/// of four terminals that break one rule each; and of one that keeps all.
 pub fn the_runs_end_so()
     ensures { TheRunsEndSo }
 {}

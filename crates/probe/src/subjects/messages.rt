@@ -3,7 +3,9 @@
 //! ```text
 //! header BYTES            `read_header`, with the bytes that `header_bytes` answers for it
 //! sub BYTES               `read_sub`, with what `put_sub_message` puts into an empty vector for it
-//! out ROOM, room          that vector has this room; its capacity
+//! put BYTES               it appends to what the vector has
+//! out ROOM                that vector is a new one with this room
+//! left, room              what it has, and its capacity
 //! next NUMBER             `next_seq`
 //! lu BYTES                `Lu::read`
 //! device BYTES            `Device::read`, its text and model, and whether BYTES are its text
@@ -78,9 +80,19 @@ impl Messages {
     fn put_sub(&mut self, message: &SubMessage<'_>, answer: &mut String) -> Result<(), AllocError> {
         writeln!(answer, "{message:?}")?;
         self.out.clear();
-        let put = put_sub_message(&mut self.out, message);
-        let name = if put.is_ok() { "bytes" } else { "no memory" };
-        put_named(self.alloc, answer, name, self.out.as_slice())
+        put_sub_message(&mut self.out, message)?;
+        put_named(self.alloc, answer, "bytes", self.out.as_slice())
+    }
+
+    fn append(&mut self, bytes: &[u8], answer: &mut String) -> Result<(), Fault> {
+        let Ok(message) = read_sub(bytes) else {
+            return Err(Fault::Needs("a message"));
+        };
+        match put_sub_message(&mut self.out, &message) {
+            Ok(()) => answer.push_str("ok\n")?,
+            Err(_) => answer.push_str("memory\n")?,
+        }
+        Ok(())
     }
 }
 
@@ -132,6 +144,8 @@ impl Subject for Messages {
             }
             "reason" => put_reason(answer, Reason(line.byte(self.alloc)?))?,
             "out" => self.out = Vec::with_capacity(self.alloc, line.number()?)?,
+            "put" => self.append(line.all_bytes(self.alloc)?.as_slice(), answer)?,
+            "left" => put_named(self.alloc, answer, "out", self.out.as_slice())?,
             "room" => writeln!(answer, "{}", self.out.capacity())?,
             "causes" => put_causes(answer)?,
             "constants" => put_constants(answer)?,

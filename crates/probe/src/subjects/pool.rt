@@ -80,7 +80,10 @@ impl Pools {
             texts.push(name_of(self.alloc, word)?)?;
         }
         match Pool::read(self.alloc, texts.as_slice()) {
-            Ok(pool) => self.pool = Some(pool),
+            Ok(pool) => {
+                self.pool = Some(pool);
+                answer.push_str("ok\n")?;
+            }
             Err(fault) => writeln!(answer, "{fault}")?,
         }
         Ok(())

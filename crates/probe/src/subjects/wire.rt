@@ -7,8 +7,8 @@
 //! data BYTES              one `push_data`: how many bytes it takes
 //! reset
 //! out ROOM BYTES          the vector that the calls below append to has this room, and these bytes
-//! room                    its capacity
-//! record BYTES            `put_record`, and then the vector
+//! left, room              what it has, and its capacity
+//! record BYTES            `put_record`
 //! option VERB BYTE        `put_option`
 //! sub BYTES               `put_sub`
 //! parts BYTES BYTES ..    `put_sub_parts`
@@ -83,7 +83,7 @@ impl Wire {
         match Decoder::new(self.alloc, limit) {
             Ok(decoder) => {
                 self.decoder = decoder;
-                Ok(())
+                answer.push_str("ok\n")
             }
             Err(fault) => writeln!(answer, "{fault}"),
         }
@@ -157,10 +157,11 @@ impl Subject for Wire {
             "reset" => self.decoder.reset(),
             "out" => self.renew_out(line)?,
             "room" => writeln!(answer, "{}", self.out.capacity())?,
-            word => {
-                write!(answer, "{:?} ", self.append(word, line)?)?;
-                put_named(self.alloc, answer, "out", self.out.as_slice())?;
-            }
+            "left" => put_named(self.alloc, answer, "out", self.out.as_slice())?,
+            word => match self.append(word, line)? {
+                Ok(()) => answer.push_str("ok\n")?,
+                Err(_) => answer.push_str("memory\n")?,
+            },
         }
         Ok(())
     }
