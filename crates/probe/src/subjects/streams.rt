@@ -193,10 +193,11 @@ fn put_session(
         return Ok(());
     }
     put_turns(alloc, &mut session, turns, answer)?;
-    match session.into_parts() {
-        (Some(pipe), tty) => put_texts(alloc, tty, CountedWriter::new(pipe), answer),
-        (None, _) => answer.push_str("no connection\n"),
-    }
+    let (pipe, tty) = session.into_parts();
+    let Some(pipe) = pipe else {
+        return answer.push_str("no connection\n");
+    };
+    put_texts(alloc, tty, CountedWriter::new(pipe), answer)
 }
 
 fn put_live(alloc: Global, line: &mut Words<'_>, answer: &mut String) -> Result<(), Fault> {
