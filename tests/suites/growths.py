@@ -1,8 +1,10 @@
-"""Calls whose growths of memory are refused, one a run: the first, the second, and so on until a run meets no refusal: tests/cases/*.growths.
+"""Calls whose growths of memory are refused, one a run: the first, the second, and so on until a run meets no refusal:
+tests/cases/*.growths.
 
-tests/harness/refuse.c, which is preloaded, refuses the growth. If the call then answers want of memory, what is to be seen must
-be as before the call, or as after the bytes or events that it took; once it is made again, and all goes on, as if nothing was refused.
-A call may get over a refusal and be done. A file has these blocks, without blank lines and comments:
+tests/harness/refuse.c, which is preloaded, refuses the growth. If the call then answers want of memory,
+what is to be seen must be as before the call, or as after the bytes or events that it took; once it is made again,
+and all goes on, as if nothing was refused. A call may get over a refusal and be done. A file has these blocks,
+without blank lines and comments:
 
     steps NAME         begins commands that `play NAME` repeats
     call NAME          begins a case

@@ -1,9 +1,9 @@
 """A host that serves two clients in memory, a turn at a time: tests/cases/*.story.
 
-Each client has a story, an exchange byte for byte. Both stories run to their ends at several paces. In other cases one connection ends
-or fails, at each read, at each write, and after each number of its client's bytes: then only that connection is lost, the other is in
-the same state as if it were served alone, and both stories run to their ends once another client takes that connection, and is granted
-the same LU. A file has these lines:
+Each client has a story, an exchange byte for byte. Both stories run to their ends at several paces. In other cases
+one connection ends or fails, at each read, at each write, and after each number of its client's bytes: then only
+that connection is lost, the other is in the same state as if it were served alone, and both stories run to their
+ends once another client takes that connection, and is granted the same LU. A file has these lines:
 
     | TEXT                                        a line of the panel text
     host BYTES, client BYTES                      the story, line by line; the second client's LU is PNL02 in place of PNL01

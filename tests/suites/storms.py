@@ -1,11 +1,12 @@
 """Storms of hostile bytes: tests/cases/*.storm.
 
-In each round the bytes of one dialogue are changed, as random numbers from the seed and the round's number decide: bits are turned, spans
-left out, repeated, replaced or put in, halves swapped, the end cut off, or all replaced. A host gets them on connection 0 beside two
-that are bound, and acts after each record, or writes a note; or a terminal gets them, and keys are pressed. The terminal's model is
-drawn: if the dialogue has a model 2's type, the bytes have the type of that model. That is done three times: whole, in random pieces,
-and byte by byte. The results must be the same: how many bytes are taken and why no more, and all that is to be seen of the
-connection or the terminal. The two other connections must be as at a host with no third client, and the LU of the connection that got
+In each round the bytes of one dialogue are changed, as random numbers from the seed and the round's number decide:
+bits are turned, spans left out, repeated, replaced or put in, halves swapped, the end cut off, or all replaced. A
+host gets them on connection 0 beside two that are bound, and acts after each record, or writes a note; or a
+terminal gets them, and keys are pressed. The terminal's model is drawn: if the dialogue has a model 2's type, the
+bytes have the type of that model. That is done three times: whole, in random pieces, and byte by byte. The results
+must be the same: how many bytes are taken and why no more, and all that is to be seen of the connection or the
+terminal. The two other connections must be as at a host with no third client, and the LU of the connection that got
 the bytes must be granted again, at once if the host closed it. A file has these lines:
 
     # A comment; blank lines are ignored.

@@ -6,11 +6,11 @@ A file has headings and lines below them; empty lines and comments (`#`) are ign
     | TEXT                a line of it
     world PANELS NAME     begins a case in a world whose host serves those panels, which are in any of the files
 
-`World` says which lines a case has. A case runs three times side by side: event by event; by lists of events, one up to each question;
-and event by event with each delivery byte by byte. Each must print the lines that the case wants, and all three worlds must be the
-same at the end. After each event of the first run the headline must hold: if the host holds the turn with its last command answered,
-its belief allows the screen, and after Enter or a PF key unmodified input is as it was left; and no two sessions have one LU.
-"""
+`World` says which lines a case has. A case runs three times side by side: event by event; by lists of events, one
+up to each question; and event by event with each delivery byte by byte. Each must print the lines that the case
+wants, and all three worlds must be the same at the end. After each event of the first run the headline must hold:
+if the host holds the turn with its last command answered, its belief allows the screen, and after Enter or a PF key
+unmodified input is as it was left; and no two sessions have one LU."""
 import dataclasses
 import functools
 import random
