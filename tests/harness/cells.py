@@ -3,7 +3,7 @@ import functools
 import pathlib
 from collections.abc import Callable, Iterator
 
-from harness.case import Case, Difference, same
+from harness.case import Case, same
 from harness.data import Line, blocks_of, lines_of
 from harness.probe import Probe
 
@@ -104,9 +104,7 @@ def check_steps(make: Callable[[], object], lines: list[Line], head: Line) -> No
         subject.probe.close()
 
 
-def appended(answer: list[str], line: Line) -> bytes:
-    """The bytes of an answer `ok BYTES`."""
-    word, _, data = answer[0].partition(" ")
-    if word != "ok":
-        raise Difference("ok and bytes", answer[0], line.at)
-    return line.data(data)
+def appended(probe: Probe, call: str, line: Line) -> bytes:
+    """The bytes that a call leaves in the vector that it appends to."""
+    same(["ok"], probe.ask(call, line.at), line.at)
+    return line.data(probe.ask("left", line.at)[0].removeprefix("left "))

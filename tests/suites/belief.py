@@ -96,7 +96,7 @@ class Belief:
 
     def paint(self, line: Line, room: str = "0", before: str = "-") -> bytes:
         self.ask(f"out {room} {before}", line)
-        return appended(self.probe.ask("paint", line.at), line)
+        return appended(self.probe, "paint", line)
 
     def do_paints(self, line: Line, words: list[str]) -> None:
         same(line.data(" ".join(words)).hex().upper(), self.paint(line).hex().upper(), line.at)

@@ -144,6 +144,8 @@ class Panels:
     def do_set(self, line: Line, words: list[str]) -> None:
         same(["ok"], self.ask(line.text, line), line.at)
 
+    do_copy = do_set
+
     def do_value(self, line: Line, words: list[str]) -> None:
         wanted = "none" if words[1] == "none" else f"value {words[1]}"
         same([wanted], self.ask(f"value {words[0]}", line), line.at)
@@ -151,7 +153,7 @@ class Panels:
     def silent(self, line: Line, words: list[str]) -> None:
         same([], self.ask(line.text, line), line.at)
 
-    do_copy = do_swap = silent
+    do_swap = silent
 
 
 def held(texts: Texts, lines: list[Line], head: Line) -> None:

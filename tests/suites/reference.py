@@ -84,9 +84,9 @@ def paints(cells: list[str]) -> list[str]:
     commands = []
     for is_changed, keeps in ((False, False), (True, False), (False, True)):
         wanted = " ".join(wants(cells, is_changed, keeps))
-        commands += ["want 2 00", f"put 0 {wanted}", f"aim {CHANGED_EVERY} {str(is_changed).lower()}", "fits", "out 0 -", "paint"]
+        commands += ["want 2 00", f"put 0 {wanted}", f"aim {CHANGED_EVERY} {str(is_changed).lower()}", "fits", "out 0 -", "paint", "left"]
     for want in ("00", "sf:E8", "keep"):
-        commands += [f"want 2 {want}", "fits", "out 0 -", "paint"]
+        commands += [f"want 2 {want}", "fits", "out 0 -", "paint", "left"]
     return commands
 
 
@@ -117,7 +117,7 @@ class Held:
         elif word in FORMS:
             self.hear(word, data.hex() or "-", line)
         elif word.startswith("answer-") and word[7:] in FORMS:
-            answer = self.screens.ask(["out 0 -", f"read {word[7:]}"], line)[1][0]
+            answer = self.screens.ask(["out 0 -", f"read {word[7:]}", "left"], line)[2][0]
             self.hear(word[7:], answer.partition(" ")[2], line)
         elif word == "type":
             self.type_at(data, line)
@@ -133,7 +133,7 @@ class Held:
         word = line.text.split()[0]
         if word in (*CHANGES, "press"):
             looks = ["show", "look"] if word in CHANGES else ["show"]
-            self.screens.ask([*looks, *(it for form in FORMS for it in ("out 0 -", f"read {form}"))], line)
+            self.screens.ask([*looks, *(it for form in FORMS for it in ("out 0 -", f"read {form}", "left"))], line)
         if word == "write" or word not in (*CHANGES, "press"):
             cells = line_of(self.beliefs.ask(["show"], line)[0], "cells")
             for command in paints(cells + ["?"] * (1920 - len(cells))):

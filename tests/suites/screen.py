@@ -126,11 +126,11 @@ class Display:
         wanted = line.data(" ".join(words[1:]))
         for before, room in ((b"", 0), (b"\7\7", 2), (b"\7\7", 2 + len(wanted))):
             self.ask(f"out {room} {before.hex() or '-'}", line)
-            same((before + wanted).hex().upper(), appended(self.probe.ask(f"read {words[0]}", line.at), line).hex().upper(), line.at)
+            same((before + wanted).hex().upper(), appended(self.probe, f"read {words[0]}", line).hex().upper(), line.at)
 
     def do_buffer_length(self, line: Line, words: list[str]) -> None:
         self.ask("out 0 -", line)
-        same(int(words[0]), len(appended(self.probe.ask("read buffer", line.at), line)), line.at)
+        same(int(words[0]), len(appended(self.probe, "read buffer", line)), line.at)
 
     def do_copied(self, line: Line, words: list[str]) -> None:
         before = self.show(line), self.look(line)

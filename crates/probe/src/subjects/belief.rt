@@ -11,7 +11,8 @@
 //! wanted                 shows it
 //! fits
 //! out ROOM BYTES         a new vector for paints, with room for ROOM bytes and these in it
-//! paint                  appends what paints the wanted screen
+//! paint                  appends what paints the wanted screen: ok or memory
+//! left                   the vector's bytes
 //! ```
 ghost use Rattle.std.specs.Prelude.{◌<◌, ◌≡◌, IsTrue};
 ghost use Rattle.codes3270.specs.Size.{cells_in};
@@ -21,7 +22,7 @@ ghost use Rattle.shadow.specs.Fits.{is_paintable};
 use crate::fault::Fault;
 use crate::line::Words;
 use crate::subject::Subject;
-use crate::subjects::cells::{Out, at, form, model, put_cell};
+use crate::subjects::cells::{Out, at, form, model, put_called, put_cell};
 use crate::subjects::wanted::{change, keeps_any, put_each, put_wanted};
 use codes3270::{Addr, Size};
 use datastream::{Command, CommandCode, Inbound, Want, Wanted, read_command, read_inbound};
@@ -166,7 +167,7 @@ impl Belief {
             return Ok(answer.push_str("no paint\n")?);
         }
         let called = self.shadow.paint(&mut self.out.bytes, &self.wanted);
-        self.out.put(answer, called)
+        put_called(answer, called)
     }
 }
 
@@ -185,6 +186,7 @@ impl Subject for Belief {
             }
             "fits" => Ok(write!(answer, "fits {}\n", self.shadow.fits(&self.wanted))?),
             "out" => self.out.make(line),
+            "left" => self.out.left(answer),
             "paint" => self.paint(answer),
             word => change(&mut self.wanted, word, line),
         }

@@ -108,6 +108,11 @@ pub(crate) fn put_chars(answer: &mut String, text: &[u8]) -> Result<(), AllocErr
     Ok(())
 }
 
+/// Puts what a call answered that takes memory.
+pub(crate) fn put_called(answer: &mut String, called: Result<(), Memory>) -> Result<(), Fault> {
+    Ok(answer.push_str(if called.is_ok() { "ok\n" } else { "memory\n" })?)
+}
+
 /// A vector that calls append to.
 #[derive(Drop)]
 pub(crate) struct Out {
@@ -128,9 +133,8 @@ impl Out {
         Ok(self.bytes.extend_from_slice(bytes.as_slice())?)
     }
 
-    /// Puts what a call answered, and the bytes that it left.
-    pub(crate) fn put(&self, answer: &mut String, called: Result<(), Memory>) -> Result<(), Fault> {
-        let name = if called.is_ok() { "ok" } else { "memory" };
-        Ok(put_named(self.alloc, answer, name, self.bytes.as_slice())?)
+    /// Puts the bytes.
+    pub(crate) fn left(&self, answer: &mut String) -> Result<(), Fault> {
+        Ok(put_named(self.alloc, answer, "left", self.bytes.as_slice())?)
     }
 }

@@ -6,13 +6,14 @@
 //!                             characters; or the fault
 //! out ROOM BYTES              a new vector with room for ROOM bytes, with these in it
 //! begin CODE WCC; sba ADDR; sf BYTE; chars BYTES; ra ADDR BYTE; ic
-//!                             appends by a writer: what it answers, and the vector's bytes
+//!                             appends by a writer: ok or memory
+//! left                        the vector's bytes
 //! ```
 use crate::fault::Fault;
 use crate::line::Words;
 use crate::subject::Subject;
 use crate::subjects::cells::{
-    Out, addr, are_storable, character, code, model, put_attr, put_chars,
+    Out, addr, are_storable, character, code, model, put_attr, put_called, put_chars,
 };
 use codes3270::{Attr, Size, Wcc};
 use datastream::{Command, CommandCode, CommandWriter, Memory, Order, Orders, read_command};
@@ -145,9 +146,10 @@ impl Subject for Commands {
         match line.word()? {
             "read" => self.read(line, answer),
             "out" => self.out.make(line),
+            "left" => self.out.left(answer),
             word => {
                 let called = self.write(word, line)?;
-                self.out.put(answer, called)
+                put_called(answer, called)
             }
         }
     }

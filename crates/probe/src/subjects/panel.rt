@@ -9,7 +9,7 @@
 //! next BYTE                    where the key of an AID leads
 //! shown INDEX MODEL            the panel that is shown in a session of a model
 //! set FIELD BYTES              gives a field a value
-//! copy; swap                   makes a copy of the values; exchanges them and the copy
+//! copy; swap                   makes a copy of the values: ok or memory; exchanges them and the copy
 //! value FIELD
 //! ```
 ghost use Rattle.std.specs.Prelude.{◌≡◌, ◌≢◌, true, false};
@@ -23,7 +23,7 @@ use crate::subject::Subject;
 use crate::subjects::cells::{code, model};
 use crate::subjects::wanted::put_wanted;
 use codes3270::{aid_from_byte, storable};
-use panels::{Message, MessageText, Next, Panel, PanelSet, Values};
+use panels::{Message, MessageText, Next, Panel, PanelFault, PanelSet, Values};
 use std::alloc::{AllocError, Global};
 use std::{mem, str};
 
@@ -151,6 +151,7 @@ impl Panels {
                 put_set(answer, &set)?;
                 Ok(self.set = Some(set))
             }
+            Err(PanelFault::Memory) => Ok(answer.push_str("memory\n")?),
             Err(fault) => Ok(write!(answer, "fault {fault}\n")?),
         }
     }
@@ -207,7 +208,10 @@ impl Panels {
 
     fn copy(&mut self, answer: &mut String) -> Result<(), Fault> {
         match self.values.clone() {
-            Ok(copy) => Ok(self.copy = copy),
+            Ok(copy) => {
+                self.copy = copy;
+                Ok(answer.push_str("ok\n")?)
+            }
             Err(_) => Ok(answer.push_str("memory\n")?),
         }
     }

@@ -1,13 +1,13 @@
 //! The screen and the belief of reference, on 24 by 80, with commands of `screen` and `belief`.
 //!
 //! ```text
-//! reference-screen    new 2, apply, store, cursor, aid, clear, erase-input, show, look, out, read
-//! reference-belief    new, take, hear, show, want, put, aim, fits, out, paint
+//! reference-screen    new 2, apply, store, cursor, aid, clear, erase-input, show, look, out, read, left
+//! reference-belief    new, take, hear, show, want, put, aim, fits, out, paint, left
 //! ```
 use crate::fault::Fault;
 use crate::line::Words;
 use crate::subject::Subject;
-use crate::subjects::cells::{Out, addr, code, form, model, put_attr, put_cell};
+use crate::subjects::cells::{Out, addr, code, form, model, put_attr, put_called, put_cell};
 use crate::subjects::wanted::{change, keeps_any};
 use codes3270::{CELLS, Size, aid_byte, aid_from_byte};
 use datastream::{Form, Want, Wanted, read_command, read_inbound};
@@ -112,7 +112,7 @@ impl ListedScreen {
             Form::All => self.screen.put_read_modified(&mut self.out.bytes, true),
             Form::Buffer => self.screen.put_read_buffer(&mut self.out.bytes),
         };
-        self.out.put(answer, called)
+        put_called(answer, called)
     }
 }
 
@@ -132,6 +132,7 @@ impl Subject for ListedScreen {
             "show" => Ok(put_screen(answer, &self.screen)?),
             "look" => Ok(put_looks(answer, &self.screen)?),
             "out" => self.out.make(line),
+            "left" => self.out.left(answer),
             "read" => self.read(form(line)?, answer),
             _ => Err(Fault::Needs("a command of this subject")),
         }
@@ -210,7 +211,7 @@ impl ListedBelief {
             return Ok(answer.push_str("no paint\n")?);
         }
         let called = self.belief.paint(&mut self.out.bytes, &self.wanted);
-        self.out.put(answer, called)
+        put_called(answer, called)
     }
 }
 
@@ -223,6 +224,7 @@ impl Subject for ListedBelief {
             "show" => Ok(put_belief(answer, &self.belief)?),
             "fits" => Ok(write!(answer, "fits {}\n", self.belief.fits(&self.wanted))?),
             "out" => self.out.make(line),
+            "left" => self.out.left(answer),
             "paint" => self.paint(answer),
             word => change(&mut self.wanted, word, line),
         }

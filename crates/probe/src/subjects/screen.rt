@@ -12,13 +12,14 @@
 //! look                        each cell: what it is, its field, the attribute over it, and the number of the character
 //!                             that is displayed, as asked for this cell and in the walk over all
 //! out ROOM BYTES              a new vector for reads, with room for ROOM bytes and these in it
-//! read FORM                   appends what a read is answered: modified, all, buffer
+//! read FORM                   appends what a read (modified, all, buffer) is answered: ok or memory
+//! left                        the vector's bytes
 //! refusals                    the number of each refusal
 //! ```
 use crate::fault::Fault;
 use crate::line::Words;
 use crate::subject::Subject;
-use crate::subjects::cells::{Out, addr, at, code, form, model, put_attr, put_cell};
+use crate::subjects::cells::{Out, addr, at, code, form, model, put_attr, put_called, put_cell};
 use codes3270::{Model, aid_byte, aid_from_byte, storable};
 use datastream::{Form, read_command};
 use keyboard::{Key, Keyboard, Pressed, Refusal};
@@ -198,7 +199,7 @@ impl Display {
             Form::All => self.screen.put_read_modified(&mut self.out.bytes, true),
             Form::Buffer => self.screen.put_read_buffer(&mut self.out.bytes),
         };
-        self.out.put(answer, called)
+        put_called(answer, called)
     }
 
     /// What changes the screen without an answer.
@@ -229,6 +230,7 @@ impl Subject for Display {
             "show" => Ok(self.show(answer)?),
             "look" => Ok(put_looks(answer, &self.screen)?),
             "read" => self.read(form(line)?, answer),
+            "left" => self.out.left(answer),
             "refusals" => Ok(put_refusals(answer)?),
             word => self.change(word, line),
         }

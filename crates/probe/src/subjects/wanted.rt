@@ -116,7 +116,7 @@ pub(crate) fn put_wanted(answer: &mut String, wanted: &Wanted) -> Result<(), All
     answer.push('\n')
 }
 
-/// Puts each cell as it is looked up by its address, and then the one behind it, round the end.
+/// Puts each cell as it is looked up by its address, and then the one after it, round the end.
 pub(crate) fn put_each(answer: &mut String, wanted: &Wanted) -> Result<(), AllocError> {
     let size = wanted.size();
     answer.push_str("each")?;
