@@ -195,12 +195,7 @@ fn read_index(line: &mut Words<'_>) -> Result<Option<usize>, Fault> {
 fn are_characters(bytes: &[u8]) -> bool
     ensures { result ≡ true → AreCharacters bytes.now }
 {
-    for byte in bytes {
-        if *byte == 0 || !storable(*byte) {
-            return false;
-        }
-    }
-    true
+    bytes.iter().all(|byte| *byte != 0 && storable(*byte))
 }
 
 /// Sets the value of a word FIELD=BYTES.
