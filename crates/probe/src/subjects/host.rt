@@ -18,6 +18,7 @@
 ghost use Rattle.std.specs.Prelude.{◌≡◌, ◌<◌, true, IfOk};
 ghost use Rattle.host_core.specs.Notes.{IsNoteText};
 ghost use Rattle.host_core.specs.State.{most_connections};
+ghost use Rattle.panels.specs.Characters.{AreCharacters};
 
 use crate::answer::put_named;
 use crate::fault::Fault;
@@ -26,7 +27,7 @@ use crate::subject::Subject;
 use crate::subjects::links::{Memory, is_link_word};
 use crate::subjects::seen::put_belief;
 use crate::subjects::terminal::put_made;
-use codes3270::aid_byte;
+use codes3270::{aid_byte, storable};
 use host_core::{
     Acted, Answer, Host, MOST_CONNECTIONS, MessageText, PanelFault, PanelSet, Phase, Pool,
     PoolFault, Question, Rejection, Terminals, Ticket, Values, serve_turn,
@@ -190,11 +191,22 @@ fn read_index(line: &mut Words<'_>) -> Result<Option<usize>, Fault> {
     }
 }
 
+/// Whether bytes are characters, without nulls.
+fn are_characters(bytes: &[u8]) -> bool
+    ensures { result ≡ true → AreCharacters bytes.now }
+{
+    bytes.iter().all(|byte| *byte != 0 && storable(*byte))
+}
+
 /// Sets the value of a word FIELD=BYTES.
 fn set_value(alloc: Global, values: &mut Values, word: &str) -> Result<(), Fault> {
     let (field, value) = word.split_once('=').unwrap_or((word, ""));
     let field = Words::new(field).number::<usize>()?;
-    values.set(field, Words::new(value).bytes(alloc)?.as_slice())?;
+    let bytes = Words::new(value).bytes(alloc)?;
+    if !are_characters(bytes.as_slice()) {
+        return Err(Fault::Needs("characters"));
+    }
+    values.set(field, bytes.as_slice())?;
     Ok(())
 }
 
