@@ -76,7 +76,7 @@ fn hear(shadow: &mut Shadow, inbound: &Inbound<'_>, answer: &mut String) -> Resu
 }
 
 /// The address of a cell of the screen of which something is known; the first one's, if it has no such cell.
-fn place_on(shadow: &Shadow, place: u16) -> Addr
+fn cell_at(shadow: &Shadow, place: u16) -> Addr
     ensures { HasCell result shadow.now }
 {
     at(place, size_of(shadow))
@@ -84,11 +84,11 @@ fn place_on(shadow: &Shadow, place: u16) -> Addr
 
 /// Puts the fact of the field whose attribute is at a place, if there is one, and its text in one walk.
 fn put_fact(answer: &mut String, shadow: &Shadow, place: u16) -> Result<(), AllocError> {
-    let Some(fact) = shadow.fact(place_on(shadow, place)) else {
+    let Some(fact) = shadow.fact(cell_at(shadow, place)) else {
         return Ok(());
     };
     write!(answer, "{place} {fact:?} ")?;
-    for code in shadow.text(place_on(shadow, place)) {
+    for code in shadow.text(cell_at(shadow, place)) {
         write!(answer, "{code:02X}")?;
     }
     answer.push('\n')
@@ -98,10 +98,10 @@ fn put_fact(answer: &mut String, shadow: &Shadow, place: u16) -> Result<(), Allo
 fn put_place(answer: &mut String, shadow: &Shadow, place: u16) -> Result<(), AllocError> {
     put_fact(answer, shadow, place)?;
     answer.push_str("known")?;
-    put_cell(answer, shadow.known(place_on(shadow, place)))?;
+    put_cell(answer, shadow.known(cell_at(shadow, place)))?;
     answer.push_str("\nvalues ")?;
     for index in 0..usize::MAX {
-        match shadow.value(place_on(shadow, place), index) {
+        match shadow.value(cell_at(shadow, place), index) {
             Some(code) => write!(answer, "{code:02X}")?,
             None => break,
         }
@@ -115,7 +115,7 @@ fn put_belief(answer: &mut String, shadow: &Shadow) -> Result<(), AllocError> {
         None => answer.push_str("size none\ncells")?,
     }
     for place in 0..size_of(shadow).cells() {
-        put_cell(answer, shadow.known(place_on(shadow, place)))?;
+        put_cell(answer, shadow.known(cell_at(shadow, place)))?;
     }
     answer.push('\n')?;
     for place in 0..size_of(shadow).cells() {

@@ -32,14 +32,13 @@ pub(crate) fn form(line: &mut Words<'_>) -> Result<Form, Fault> {
     }
 }
 
-/// The address of a cell of a screen of a size.
-pub(crate) fn addr(line: &mut Words<'_>, size: Size) -> Result<Addr, Fault>
-    ensures { IfOk result (λ addr. addr < cells_in size) }
-{
-    match Addr::new(line.number()?, size) {
-        Some(addr) => Ok(addr),
-        None => Err(Fault::Needs("an address on the screen")),
+/// The place of a cell of a screen of a size.
+pub(crate) fn place_on(line: &mut Words<'_>, size: Size) -> Result<u16, Fault> {
+    let place = line.number()?;
+    if place < size.cells() {
+        return Ok(place);
     }
+    Err(Fault::Needs("an address on the screen"))
 }
 
 /// The address of a cell; the first one's beyond a screen of this size.
@@ -77,12 +76,7 @@ pub(crate) fn character(digits: &str) -> Result<u8, Fault>
 pub(crate) fn are_storable(bytes: &[u8]) -> bool
     ensures { result ≡ true → All (λ byte. is_storable byte ≡ true) bytes.now }
 {
-    for byte in bytes {
-        if !storable(*byte) {
-            return false;
-        }
-    }
-    true
+    bytes.iter().all(|byte| storable(*byte))
 }
 
 /// Puts a space and an attribute.

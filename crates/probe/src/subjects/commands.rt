@@ -13,7 +13,7 @@ use crate::fault::Fault;
 use crate::line::Words;
 use crate::subject::Subject;
 use crate::subjects::cells::{
-    Out, addr, are_storable, character, code, model, put_attr, put_called, put_chars,
+    Out, are_storable, at, character, code, model, place_on, put_attr, put_called, put_chars,
 };
 use codes3270::{Attr, Size, Wcc};
 use datastream::{Command, CommandCode, CommandWriter, Memory, Order, Orders, read_command};
@@ -132,9 +132,9 @@ impl Commands {
                 command_code(line.word()?)?,
                 Wcc::from_byte(code(line.word()?)?),
             )),
-            "sba" => Ok(writer.sba(addr(line, Size::base())?)),
+            "sba" => Ok(writer.sba(at(place_on(line, Size::base())?, Size::base()))),
             "sf" => Ok(writer.sf(Attr::from_code(code(line.word()?)?))),
-            "ra" => Ok(writer.ra(addr(line, Size::base())?, character(line.word()?)?)),
+            "ra" => Ok(writer.ra(at(place_on(line, Size::base())?, Size::base()), character(line.word()?)?)),
             "ic" => Ok(writer.ic()),
             _ => Err(Fault::Needs("a command of this subject")),
         }

@@ -41,12 +41,7 @@ pub(crate) struct Panels {
 fn are_characters(bytes: &[u8]) -> bool
     ensures { result ≡ true → AreCharacters bytes.now }
 {
-    for byte in bytes {
-        if *byte == 0 || !storable(*byte) {
-            return false;
-        }
-    }
-    true
+    bytes.iter().all(|byte| *byte != 0 && storable(*byte))
 }
 
 fn told(alloc: Global, line: &mut Words<'_>, field: Option<usize>) -> Result<Message, Fault> {

@@ -19,7 +19,7 @@
 use crate::fault::Fault;
 use crate::line::Words;
 use crate::subject::Subject;
-use crate::subjects::cells::{Out, addr, at, code, form, model, put_attr, put_called, put_cell};
+use crate::subjects::cells::{Out, at, code, form, model, place_on, put_attr, put_called, put_cell};
 use codes3270::{Model, aid_byte, aid_from_byte, storable};
 use datastream::{Form, read_command};
 use keyboard::{Key, Keyboard, Pressed, Refusal};
@@ -143,7 +143,7 @@ impl Display {
     }
 
     fn store(&mut self, line: &mut Words<'_>) -> Result<(), Fault> {
-        let first = addr(line, self.screen.size())?.get();
+        let first = place_on(line, self.screen.size())?;
         let bytes = line.bytes(self.alloc)?;
         let mut place = first;
         for code in bytes.as_slice() {
@@ -155,8 +155,8 @@ impl Display {
     }
 
     fn set_cursor(&mut self, line: &mut Words<'_>) -> Result<(), Fault> {
-        let here = addr(line, self.screen.size())?;
-        Ok(self.screen.set_cursor(here))
+        let size = self.screen.size();
+        Ok(self.screen.set_cursor(at(place_on(line, size)?, size)))
     }
 
     fn set_aid(&mut self, byte: u8) -> Result<(), Fault> {

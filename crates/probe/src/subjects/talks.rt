@@ -49,10 +49,6 @@ fn command_of<'a>(word: &str, bytes: &[u8]) -> Result<Item<'a>, Fault> {
     Ok(Item::Opt { verb, code: *code })
 }
 
-fn lu_of(bytes: &[u8]) -> Result<Lu, Fault> {
-    Lu::read(bytes).ok_or(Fault::Needs("the name of an LU"))
-}
-
 /// Puts what a reply sends, the reply, and the cause if it closes the connection.
 fn put_whole_reply(alloc: Global, reply: &Reply, answer: &mut String) -> Result<(), AllocError> {
     let mut out = Vec::with_capacity(alloc, REPLY_ROOM)?;
@@ -121,7 +117,10 @@ impl Talks {
     fn renew_terminal(&mut self, line: &mut Words<'_>) -> Result<(), Fault> {
         let model = line.model()?;
         let wanted = match line.bytes_if_any(self.alloc)? {
-            Some(name) => Some(lu_of(name.as_slice())?),
+            Some(name) => match Lu::read(name.as_slice()) {
+                Some(lu) => Some(lu),
+                None => return Err(Fault::Needs("the name of an LU")),
+            },
             None => None,
         };
         self.terminal = TermTalk::new(model, wanted);
@@ -144,7 +143,9 @@ impl Subject for Talks {
             "host" => self.renew_host(answer)?,
             "hears" => self.host_takes(line, answer)?,
             "granted" => {
-                let lu = lu_of(line.bytes(self.alloc)?.as_slice())?;
+                let Some(lu) = Lu::read(line.bytes(self.alloc)?.as_slice()) else {
+                    return Err(Fault::Needs("the name of an LU"));
+                };
                 self.pool_answers(Ok(lu), answer)?;
             }
             "refused" => {

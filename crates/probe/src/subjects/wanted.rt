@@ -12,7 +12,7 @@ ghost use Rattle.shadow.specs.Fits.{is_keep};
 
 use crate::fault::Fault;
 use crate::line::Words;
-use crate::subjects::cells::{addr, at, character, code, model, put_attr};
+use crate::subjects::cells::{at, character, code, model, place_on, put_attr};
 use codes3270::Attr;
 use datastream::{Want, Wanted, Wants};
 use std::alloc::AllocError;
@@ -53,7 +53,7 @@ fn put_word(wanted: &mut Wanted, place: usize, word: &str) -> Result<usize, Faul
 }
 
 fn put_words(wanted: &mut Wanted, line: &mut Words<'_>) -> Result<(), Fault> {
-    let mut place = usize::from(addr(line, wanted.size())?.get());
+    let mut place = usize::from(place_on(line, wanted.size())?);
     for word in line.rest().split_whitespace() {
         place = put_word(wanted, place, word)?;
     }
@@ -70,7 +70,8 @@ pub(crate) fn change(wanted: &mut Wanted, word: &str, line: &mut Words<'_>) -> R
         }
         "put" => put_words(wanted, line),
         "aim" => {
-            let cursor = addr(line, wanted.size())?;
+            let size = wanted.size();
+            let cursor = at(place_on(line, size)?, size);
             Ok(wanted.set_cursor_and_reset(cursor, line.number()?))
         }
         _ => Err(Fault::Needs("a command of this subject")),

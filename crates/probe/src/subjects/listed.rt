@@ -7,7 +7,7 @@
 use crate::fault::Fault;
 use crate::line::Words;
 use crate::subject::Subject;
-use crate::subjects::cells::{Out, addr, code, form, model, put_attr, put_called, put_cell};
+use crate::subjects::cells::{Out, code, form, model, place_on, put_attr, put_called, put_cell};
 use crate::subjects::wanted::{change, keeps_any};
 use codes3270::{CELLS, Size, aid_byte, aid_from_byte};
 use datastream::{Form, Want, Wanted, read_command, read_inbound};
@@ -94,7 +94,7 @@ impl ListedScreen {
     }
 
     fn store(&mut self, line: &mut Words<'_>) -> Result<(), Fault> {
-        let first = addr(line, Size::base())?.get();
+        let first = place_on(line, Size::base())?;
         let bytes = line.bytes(self.alloc)?;
         Ok(self.screen.store(first, bytes.as_slice()))
     }
@@ -125,7 +125,7 @@ impl Subject for ListedScreen {
             }
             "apply" => self.apply(line, answer),
             "store" => self.store(line),
-            "cursor" => Ok(self.screen.cursor = addr(line, Size::base())?.get()),
+            "cursor" => Ok(self.screen.cursor = place_on(line, Size::base())?),
             "aid" => self.set_aid(code(line.word()?)?),
             "clear" => Ok(self.screen.clear()),
             "erase-input" => Ok(self.screen.erase_unprotected()),
