@@ -278,12 +278,12 @@ keep_alive_goes known number begin events old answer new is reached real place h
 
 -- ---- what the host does
 
-acting : (app : Application) (service : Service) (sending : Sent) → acted_by app service ≡ Some sending → (is_there service ≡ true) × (acted app (conn_of service) ≡ Some sending)
+pub acting : (app : Application) (service : Service) (sending : Sent) → acted_by app service ≡ Some sending → (is_there service ≡ true) × (acted app (conn_of service) ≡ Some sending)
 acting app Service.Free sending is = absurd (cc)
 acting app (Service.Open rest conn) sending is = (refl, is)
 acting app (Service.Closed cause) sending is = absurd (cc)
 
-noting : (text : List ℕ) (service : Service) (sending : Sent) → noted_by text service ≡ Some sending → (is_there service ≡ true) × (noted text (conn_of service) ≡ Some sending)
+pub noting : (text : List ℕ) (service : Service) (sending : Sent) → noted_by text service ≡ Some sending → (is_there service ≡ true) × (noted text (conn_of service) ≡ Some sending)
 noting text Service.Free sending is = absurd (cc)
 noting text (Service.Open rest conn) sending is = (refl, is)
 noting text (Service.Closed cause) sending is = absurd (cc)
@@ -306,7 +306,7 @@ if_some : (b : Bool) (what : Option Sent) (sending : Sent) → (if b then what e
 if_some true what sending is = is
 if_some false what sending is = absurd (cc)
 
-answering : (app : Application) (session : ℕ) (ticket : Ticket) (said : Said) (service : Service) (sending : Sent) → answered_by app session ticket said service ≡ Some sending
+pub answering : (app : Application) (session : ℕ) (ticket : Ticket) (said : Said) (service : Service) (sending : Sent) → answered_by app session ticket said service ≡ Some sending
     → (is_there service ≡ true) × (answered_on app (conn_of service) said ≡ Some sending)
 answering app session ticket said Service.Free sending is = absurd (cc)
 answering app session ticket said (Service.Open rest conn) sending is = (refl, if_some (is_ticket ticket (ticket_of session conn)) (answered_on app conn said) sending is)

@@ -77,6 +77,7 @@ pub mod BytePlaced
 pub mod ItemsSpelt
 pub mod ByteActs
 pub mod HostItems
+pub mod LinkUp
 pub mod SaidUp
 pub mod UpCame
 pub mod ByteUp

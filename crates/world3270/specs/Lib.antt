@@ -32,6 +32,7 @@ pub mod TrackedTerminals
 pub mod Stands
 pub mod StandsEnds
 pub mod StandsLinks
+pub mod Readings
 pub mod Places
 pub mod Skipped
 pub mod Losses
