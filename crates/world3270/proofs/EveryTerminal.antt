@@ -153,7 +153,7 @@ module _ (given : Given) (app : Application) (is : IsApplication app) (lu : List
   down_still t s (ToTerminal.ReadBuffer number ∷ rest) is_down = read_still given app is lu t s number rest is_down
   down_still t s (ToTerminal.Note number command ∷ rest) is_down = noted_still given app is lu t s number command rest is_down
 
-  move_still : (move : Move) (t : Told) → IsByTheRules move t → Simulated app lu t → Simulated app lu (moved app move t)
+  pub move_still : (move : Move) (t : Told) → IsByTheRules move t → Simulated app lu t → Simulated app lu (moved app move t)
   move_still (Move.Up pool) t sound s = up_still t s pool sound t.link.up refl
   move_still Move.Down t rules s = down_still t s t.link.down refl
   move_still Move.Act t rules s = acts_still given app is lu t s

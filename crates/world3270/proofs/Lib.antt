@@ -78,6 +78,10 @@ pub mod ItemsSpelt
 pub mod ByteActs
 pub mod HostItems
 pub mod LinkUp
+pub mod AnyTerminal
+pub mod AnyHost
+pub mod AnyBytes
+pub mod AnyReady
 pub mod SaidUp
 pub mod UpCame
 pub mod ByteUp

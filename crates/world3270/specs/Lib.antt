@@ -58,3 +58,4 @@ pub mod Unbroken
 pub mod ShownSince
 pub mod ProtocolErrors
 pub mod EveryTerminal
+pub mod EveryTerminalBytes
