@@ -299,7 +299,7 @@ decided_sent app conn true (Decision.Do act) sending is = (act, cc)
 decided_sent app conn true Decision.Asks sending is = absurd (cc)
 decided_sent app conn false decision sending is = absurd (cc)
 
-act_sent : (app : Application) (conn : Conn) (sending : Sent) → acted app conn ≡ Some sending → (act : Act) × (sending ≡ done_act app conn act)
+pub act_sent : (app : Application) (conn : Conn) (sending : Sent) → acted app conn ≡ Some sending → (act : Act) × (sending ≡ done_act app conn act)
 act_sent app conn sending is = decided_sent app conn (may_act conn.turn conn.pending (is_agreed conn.talk.state)) (decision_on app conn conn.turn_reason) sending is
 
 if_some : (b : Bool) (what : Option Sent) (sending : Sent) → (if b then what else None) ≡ Some sending → what ≡ Some sending
@@ -312,14 +312,14 @@ answering app session ticket said Service.Free sending is = absurd (cc)
 answering app session ticket said (Service.Open rest conn) sending is = (refl, if_some (is_ticket ticket (ticket_of session conn)) (answered_on app conn said) sending is)
 answering app session ticket said (Service.Closed cause) sending is = absurd (cc)
 
-answer_sent : (app : Application) (conn : Conn) (said : Said) (sending : Sent) → answered_on app conn said ≡ Some sending → sending ≡ done_act app conn (act_by app conn said said.panel)
+pub answer_sent : (app : Application) (conn : Conn) (said : Said) (sending : Sent) → answered_on app conn said ≡ Some sending → sending ≡ done_act app conn (act_by app conn said said.panel)
 answer_sent app conn said sending is = only_if (is_asking app conn && has_its_panel app said) (done_act app conn (act_by app conn said said.panel)) sending is
 
-note_sent : (text : List ℕ) (conn : Conn) (sending : Sent) → noted text conn ≡ Some sending → sending ≡ noted_as text conn
+pub note_sent : (text : List ℕ) (conn : Conn) (sending : Sent) → noted text conn ≡ Some sending → sending ≡ noted_as text conn
 note_sent text conn sending is = only_if (may_note conn.turn conn.pending (is_agreed conn.talk.state)) (noted_as text conn) sending is
 
 -- an act's command fits where it is sent
-act_suits : (size : Shape) (shadow : Shadow) (message : ToTerminal) → PaintsWhatFits size shadow message → Suits message
+pub act_suits : (size : Shape) (shadow : Shadow) (message : ToTerminal) → PaintsWhatFits size shadow message → Suits message
 act_suits size shadow (ToTerminal.TalksDown saying) paints = absurd paints
 act_suits size shadow (ToTerminal.Paint number wanted over) paints = subst (λ (s : Shadow). is_paintable s wanted ≡ true) (sym paints.1) paints.0.fits
 act_suits size shadow (ToTerminal.ReadBuffer number) paints = tt

@@ -82,6 +82,7 @@ pub mod AnyTerminal
 pub mod AnyHost
 pub mod AnyBytes
 pub mod AnyReady
+pub mod AnySpelt
 pub mod SaidUp
 pub mod UpCame
 pub mod ByteUp

@@ -30,7 +30,7 @@ use Rattle.world3270.proofs.Worlds.{run_good, new_good}
 use Rattle.world3270.proofs.TalkStates.{term_state}
 
 -- where the application's sizes are the models', so are those that its terminals may have
-has_size : (app : Application) (model : Model) (size : Shape) → HasTheSizes app → IsSizeOf app model size → HasSize model size
+pub has_size : (app : Application) (model : Model) (size : Shape) → HasTheSizes app → IsSizeOf app model size → HasSize model size
 has_size app model size sizes (inl base) = inl (base ∙ sizes.begins)
 has_size app model size sizes (inr alternate) = inr (alternate ∙ sizes.alternate model)
 
