@@ -14,7 +14,7 @@ use Rattle.host_core.specs.declared.acted.Acted.{Acted}
 use Rattle.host_core.specs.declared.question.Answer.{Answer as Said}
 use Rattle.host_core.specs.declared.question.Ticket.{Ticket}
 use Rattle.world3270.specs.EveryTerminal.{Move, Told, after_moves}
-use Rattle.world3270.specs.EveryTerminalBytes.{LeadTo, Moves, OverBytes, Represents, on_connection}
+use Rattle.world3270.specs.EveryTerminalBytes.{IsHost, LeadTo, Moves, OverBytes, Represents, on_connection}
 use Rattle.world3270.specs.Standing.{conn_of}
 use Rattle.world3270.proofs.Answered.{IsDone, by_act, by_answer}
 use Rattle.world3270.proofs.AnyHost.{HearsLaws, IsServed, conn_there, does_goes, elsewhere_goes, hands_over_goes, hears_bytes, keeps_alive_goes, unchanged}
@@ -112,5 +112,10 @@ module _ (takes : TakesLaws) (hears : HearsLaws) (app : Application) (Good : Tol
   all_moves [] old new t below good is served same = stays app Good number new t good (subst (λ (b : OverBytes). Represents number b t) (sym same) is)
   all_moves (next ∷ states) old new t below good is served lead =
       let one = one_move old next t good is served lead.0 in
-      let still : IsServed number next.host = record { below = subst (λ (n : ℕ). number < n) (sym lead.1.connections) below; pool = one.pool } in
+      let still : IsServed number next.host = record { below = subst (λ (n : ℕ). number < n) (sym lead.1.sound.connections) below; pool = one.pool } in
       goes_after app Good number next new t one.goes (all_moves states next new (after_moves app one.goes.moves t) below one.goes.good one.goes.represents still lead.2)
+
+-- the last host is one, too
+pub last_host : (app : Application) (number : ℕ) (states : List OverBytes) (old new : OverBytes) → IsHost old.host → LeadTo app number states old new → IsHost new.host
+last_host app number [] old new is same = subst (λ (b : OverBytes). IsHost b.host) (sym same) is
+last_host app number (next ∷ states) old new is lead = last_host app number states next new lead.1 lead.2

@@ -117,7 +117,7 @@ module _ (given : Given) (app : Application) (is : IsApplication app) (lu : List
             goes_up = all_of [] [] refl;
           }) (is_new, tt) tt
 
-  begins_simulated : Simulated app lu t
+  pub begins_simulated : Simulated app lu t
   begins_simulated = record {
     told = begun;
     kept = begun_kept;
@@ -233,7 +233,7 @@ module _ (given : Given) (written : WrittenIsThere) (kept : KeptStaysThere) (app
   is_asked : (session : ℕ) (question : Question) → question_in app session t.link.host ≡ Some question → question_in app session end.host ≡ Some question
   is_asked session question asked = subst (λ (host : Conn). question_in app session host ≡ Some question) same_host asked
 
-  right_of : RightOf app lu t
+  pub right_of : RightOf app lu t
   right_of = record {
     granted = ap (λ (host : Conn). agreed_lu host.talk.state) same_host ∙ s.agreed;
     bound = λ mine bound.

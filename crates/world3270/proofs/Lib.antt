@@ -83,6 +83,7 @@ pub mod AnyHost
 pub mod AnyBytes
 pub mod AnyReady
 pub mod AnySpelt
+pub mod AnyEvery
 pub mod SaidUp
 pub mod UpCame
 pub mod ByteUp

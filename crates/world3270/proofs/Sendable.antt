@@ -495,7 +495,7 @@ notes_texts given text conn is note values = by_test (may_note conn.turn conn.pe
     by_test true = note_texts given text conn is note values
     by_test false = tt
 
-blank_sendable : (model : Model) (shape : Shape) → IsShape shape → IsSendable (new_display model shape).screen
+pub blank_sendable : (model : Model) (shape : Shape) → IsShape shape → IsSendable (new_display model shape).screen
 blank_sendable model shape is = record {
   few = subst (λ (n : ℕ). n ≤ most_cells) (sym (blank_length model shape)) is.addresses;
   cursor = subst (λ (n : ℕ). 0 < n) (sym (blank_length model shape)) (first_cell shape is);

@@ -16,7 +16,7 @@ use Rattle.host_core.specs.KeepAlive.{kept_alive}
 use Rattle.host_core.specs.Messages.{ToHost}
 use Rattle.host_core.specs.Notes.{IsNoteText}
 use Rattle.host_core.specs.Questions.{answered_by}
-use Rattle.host_core.specs.Sound.{IsSound}
+use Rattle.host_core.specs.Sound.{IsSound, NobodyShares}
 use Rattle.host_core.specs.State.{Connection, Host, connection_at, lu_of, most_connections, service_at, session_at, with_connection}
 use Rattle.host_core.specs.declared.acted.Acted.{Acted}
 use Rattle.host_core.specs.declared.question.Answer.{Answer as Said}
@@ -139,10 +139,15 @@ pub data Moves (app : Application) (number : ℕ) (old new : OverBytes) : Type 0
   takes : Takes old new → Moves app number old new
   operates : (step : TermStep) → IsOperated step old new → Moves app number old new
 
--- Such moves lead from one state to the next, up to the last. Each host is sound, as each value of `Host` is.
+-- what holds of each value of `Host`
+pub record IsHost (host : Host) : Type 0 where
+  pub sound : IsSound host
+  pub unshared : NobodyShares host
+
+-- Such moves lead from one state to the next, up to the last.
 abbrev pub LeadTo : Application → ℕ → List OverBytes → OverBytes → OverBytes → Type 0
 LeadTo app number [] old new = new ≡ old
-LeadTo app number (next ∷ others) old new = Moves app number old next × IsSound next.host × LeadTo app number others next new
+LeadTo app number (next ∷ others) old new = Moves app number old next × IsHost next.host × LeadTo app number others next new
 
 -- ---- what the bytes represent
 
@@ -174,7 +179,7 @@ pub record BeginsOverBytes (app : Application) (number : ℕ) (lu : List ℕ) (b
   pub begins : Begins app lu begin
   pub represents : Represents number bytes begin
   pub below : number < most_connections
-  pub sound : IsSound bytes.host
+  pub is_host : IsHost bytes.host
   pub pool : IsSoundPool bytes.host.pool
   pub one_size : app.alternate begin.link.term.display.model ≡ app.begins
 
