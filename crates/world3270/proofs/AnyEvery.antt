@@ -11,6 +11,7 @@ use Rattle.host_core.specs.State.{Service, lu_of, service_at}
 use Rattle.host_core.specs.Feeds.{IsOpen}
 use Rattle.panels.specs.Characters.{AreCharacters}
 use Rattle.shadow.specs.PaintedFields.{KeptStaysThere, WrittenIsThere}
+use Rattle.telnet_wire.specs.Laws.{ItemsAreRead}
 use Rattle.tn3270e_msg.specs.Device.{model_of}
 use Rattle.tn3270e_msg.specs.HostTable.{granted}
 use Rattle.tn3270e_msg.specs.Talk.{Saying}
@@ -21,10 +22,12 @@ use Rattle.world3270.specs.EveryTerminal.{Begins, IsByTheRules, Move, Told, move
 use Rattle.world3270.specs.EveryTerminalBytes.{BeginsOverBytes, LeadTo, OverBytes, RightOverBytes}
 use Rattle.world3270.specs.Given.{Given}
 use Rattle.world3270.specs.Known.{Known}
-use Rattle.world3270.specs.Readings.{MayComeUp}
+use Rattle.world3270.specs.Readings.{IsReadAs, MayComeUp}
 use Rattle.world3270.specs.Rules.{Binds}
 use Rattle.world3270.specs.Standing.{conn_of}
-use Rattle.world3270.specs.StandsLinks.{HasTheSizes}
+use Rattle.world3270.specs.Stands.{StandsDown, all_items, without_nops}
+use Rattle.world3270.specs.StandsEnds.{NopHasNoEffect, TakesKeepSendable, TermTakes, WritesAreMarked}
+use Rattle.world3270.specs.StandsLinks.{HasTheSizes, StandsCompose, StandsGoOn}
 use Rattle.world3270.specs.Terminal.{Display}
 use Rattle.world3270.proofs.AnyBytes.{all_moves, last_host}
 use Rattle.world3270.proofs.AnyHost.{HearsLaws}
@@ -35,6 +38,8 @@ use Rattle.world3270.proofs.EveryTerminal.{begins_simulated, move_still, right_o
 use Rattle.world3270.proofs.Numbers.{Numbered}
 use Rattle.world3270.proofs.Sendable.{IsWritten, blank_sendable}
 use Rattle.world3270.proofs.Simulation.{Simulated}
+use Rattle.world3270.proofs.Stands.{all_piecewise, stands_go_on, stands_join}
+use Rattle.world3270.proofs.StandsLinks.{host_sends, nop_stands, up_stands}
 
 -- ---- what is asked of the queue
 
@@ -53,6 +58,37 @@ pub record AnyLaws : Type 0 where
   pub read : SentIsRead
   pub written : WrittenIsThere
   pub kept : KeptStaysThere
+
+-- by what is known of bytes and of what is read of them
+pub any_laws : Known → TermTakes → TakesKeepSendable → NopHasNoEffect → WritesAreMarked → StandsGoOn without_nops StandsDown → StandsCompose without_nops StandsDown → ItemsAreRead → SentIsRead
+    → WrittenIsThere → KeptStaysThere → AnyLaws
+any_laws known takes keeps nop marks taken compose items read written kept = record {
+  given = known.worlds.given;
+  takes = record {
+    takes = takes;
+    keeps = keeps;
+    nop = nop;
+    down = taken;
+    final = known.links.wrong_is_final;
+    marks = marks;
+    written = items;
+    join = stands_join all_items IsReadAs all_piecewise known.links.deliveries;
+  };
+  hears = record {
+    sends = host_sends compose;
+    nop = nop_stands compose;
+    up = up_stands (stands_go_on all_items IsReadAs all_piecewise known.links.delivery_goes_on);
+    final = known.links.wrong_is_final;
+    one_header = known.links.one_header;
+    fault_or_header = known.links.fault_or_header;
+    one_inbound = known.links.one_inbound;
+    granted = known.worlds.given.pool.sound_granted;
+  };
+  known = known;
+  read = read;
+  written = written;
+  kept = kept;
+}
 
 -- ---- at agreement
 

@@ -97,8 +97,7 @@ module _ (given : Given) (app : Application) (is : IsApplication app) (sizes : H
       let down : s.told.down ≡ message ∷ rest = sym s.simulates.down ∙ e in
       let closes = close_alike t.link.term s.told.term message s.simulates.talk (obeys given app is s.told message rest down s.kept).open_end in
       let one = came_one app message rest t e (same_now t s message rest e) closes in
-      let others = all_may_now rest (moved app Move.Down t) (move_still given app is lu Move.Down t tt s) one.down in
-      (
+      let others = all_may_now rest (moved app Move.Down t) (move_still given app is lu Move.Down t tt s) one.down in (
         (
           subst (λ (talk : Term). IsOpen talk.talk.state) (sym s.simulates.talk) (is_open app s.told s.kept),
           may_now t s message rest e (may_come given app is sizes s.told message rest down s.kept),

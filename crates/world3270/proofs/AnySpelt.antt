@@ -208,14 +208,14 @@ module _ (read : SentIsRead) (given : Given) (app : Application) (is : IsApplica
   move_texts Move.Act t s x rules typed =
       sent_texts (acted app t.link.host) t x (acts_texts app asks t.link.host x.values (learns given app lu t s x))
       (if_some (λ sending. Numbered sending.conn) (acted app t.link.host) (λ sending e.
-          let by = act_sent app t.link.host sending e in subst (λ (m : Sent). Numbered m.conn) (sym by.1) (done_fits app t.link.host by.0 x.numbered).conn))
+      let by = act_sent app t.link.host sending e in subst (λ (m : Sent). Numbered m.conn) (sym by.1) (done_fits app t.link.host by.0 x.numbered).conn))
   move_texts (Move.Answer said) t s x rules typed =
       sent_texts (answered_on app t.link.host said) t x (answers_texts app asks said typed t.link.host x.values (learns given app lu t s x))
       (if_some (λ sending. Numbered sending.conn) (answered_on app t.link.host said) (λ sending e.
-          subst (λ (m : Sent). Numbered m.conn) (sym (answer_sent app t.link.host said sending e)) (done_fits app t.link.host (act_by app t.link.host said said.panel) x.numbered).conn))
+      subst (λ (m : Sent). Numbered m.conn) (sym (answer_sent app t.link.host said sending e)) (done_fits app t.link.host (act_by app t.link.host said said.panel) x.numbered).conn))
   move_texts (Move.Note text) t s x rules typed =
       sent_texts (noted text t.link.host) t x (says_notes given app is lu t s x text rules)
       (if_some (λ sending. Numbered sending.conn) (noted text t.link.host) (λ sending e.
-          subst (λ (m : Sent). Numbered m.conn) (sym (note_sent text t.link.host sending e)) (note_numbered text t.link.host x.numbered).conn))
+      subst (λ (m : Sent). Numbered m.conn) (sym (note_sent text t.link.host sending e)) (note_numbered text t.link.host x.numbered).conn))
   move_texts (Move.Operate step) t s x rules typed = operated_texts t.waits step t x typed.sendable
   move_texts Move.Lose t s x rules typed = record { values = x.values; numbered = x.numbered; writes = x.writes; told = x.told; now = x.now }

@@ -78,12 +78,12 @@ pub record Takes (old new : OverBytes) : Type 0 where
   pub bytes : List ℕ
   pub alike : (messages : List ToHost) → AreReadAs ours.terminal.out messages → AreReadAs bytes messages
   pub leaves : new ≡ record {
-      host = old.host;
-      down = behind;
-      up = old.up ++ bytes;
-      tracked = with_out [] ours;
-      waits = if ours.terminal.station.took_write then false else old.waits;
-    }
+    host = old.host;
+    down = behind;
+    up = old.up ++ bytes;
+    tracked = with_out [] ours;
+    waits = if ours.terminal.station.took_write then false else old.waits;
+  }
 
 -- Its operator does something by the rules, on a connection that it hasn't closed, and leaves characters that a terminal can store. Clear isn't
 -- pressed in the wait. What is sent is spelt as the terminal likes.
@@ -97,10 +97,10 @@ pub record IsOperated (step : TermStep) (old new : OverBytes) : Type 0 where
   pub bytes : List ℕ
   pub spelt : AreReadAs bytes step.sends
   pub leaves : new ≡ record old {
-      up = old.up ++ bytes;
-      tracked = displaying step.end.display old.tracked;
-      waits = old.waits || is_queued step.sends;
-    }
+    up = old.up ++ bytes;
+    tracked = displaying step.end.display old.tracked;
+    waits = old.waits || is_queued step.sends;
+  }
 
 -- ---- what may happen
 
@@ -123,9 +123,9 @@ pub data Moves (app : Application) (number : ℕ) (old new : OverBytes) : Type 0
   feeds : (bytes behind : List ℕ) (fed : Fed) (counter : Counter) → old.up ≡ bytes ++ behind → Feeds number (counter_at number old.host) bytes fed counter
       → new ≡ record old { host = with_counter number counter old.host; up = drop fed.taken bytes ++ behind } → Moves app number old new
   hands_over : (count : ℕ) → new ≡ record old {
-      host = with_connection number (record (connection_at number old.host) { out = drop count (connection_at number old.host).out }) old.host;
-      down = old.down ++ take count (connection_at number old.host).out;
-    } → Moves app number old new
+    host = with_connection number (record (connection_at number old.host) { out = drop count (connection_at number old.host).out }) old.host;
+    down = old.down ++ take count (connection_at number old.host).out;
+  } → Moves app number old new
   acts : (did : Acted) (connection : Connection) → HostDoes (acted_by app (service_at number old.host)) (connection_at number old.host) did connection
       → new ≡ on_connection number connection old → Moves app number old new
   answers : (ticket : Ticket) (said : Said) (did : Acted) (connection : Connection) → AreTexts said.values
