@@ -84,6 +84,7 @@ pub mod AnyBytes
 pub mod AnyReady
 pub mod AnySpelt
 pub mod AnyEvery
+pub mod AnyLeads
 pub mod AnyQueue
 pub mod SaidUp
 pub mod UpCame
