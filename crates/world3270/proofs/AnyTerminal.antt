@@ -57,7 +57,7 @@ pub record Ready (app : Application) (t : Told) : Type 0 where
   pub answers : (said : Said) → AreTexts said.values → IfSome (answered_on app t.link.host said) (λ sending. Spells sending.message)
   pub notes : (text : List ℕ) → IsNoteText text → IfSome (noted text t.link.host) (λ sending. Spells sending.message)
 
--- over bytes there are characters alone: the operator leaves no others, and values are texts
+-- Over bytes there are characters alone: the operator leaves no others, and values are texts. On a lost connection nothing more comes.
 abbrev pub IsTypedMove : Move → Type 0
 IsTypedMove (Move.Operate step) = CanBeSent step.end.display.shape step.end.display.screen
 IsTypedMove (Move.Answer said) = AreTexts said.values
@@ -65,7 +65,7 @@ IsTypedMove (Move.Up pool) = ⊤
 IsTypedMove Move.Down = ⊤
 IsTypedMove Move.Act = ⊤
 IsTypedMove (Move.Note text) = ⊤
-IsTypedMove Move.Lose = ⊤
+IsTypedMove Move.Lose = ⊥
 
 -- some property has this in it, and all such moves that keep the rules keep it
 pub record IsKept (app : Application) (Good : Told → Type 0) : Type 0 where
