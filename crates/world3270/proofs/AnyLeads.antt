@@ -28,7 +28,7 @@ use Rattle.world3270.specs.Given.{Given}
 use Rattle.tn3270e_msg.specs.Talk.{Saying}
 use Rattle.world3270.specs.Link.{Link, sent, host_left_if, host_sent, term_left_if, term_stepped}
 use Rattle.world3270.specs.Readings.{HasNoLead}
-use Rattle.world3270.specs.Moments.{IsAt, Kind, Moment, Serving, awaiting, pending_at}
+use Rattle.world3270.specs.Moments.{IsAt, Kind, Moment, Serving, awaiting, pending_at, up_at}
 use Rattle.world3270.specs.Showing.{ShowsItsPanel}
 use Rattle.world3270.specs.Stages.{Fact, Kept, ShownAt, scene_of}
 use Rattle.world3270.specs.View.{view_of}
@@ -63,6 +63,9 @@ use Rattle.world3270.proofs.ReadsInput.{still_unformatted}
 use Rattle.world3270.proofs.AnyReady.{all_may_now, hears_now, same_now}
 use Rattle.world3270.proofs.AnyTerminal.{IsTypedMove, came_one}
 use Rattle.lu_pool.specs.HolderLaws.{IsSound}
+use Rattle.world3270.proofs.AnyEvery.{AnyLaws}
+use Rattle.world3270.proofs.AnyQueue.{LeadsAreKept, leads_suffice}
+use Rattle.world3270.specs.EveryTerminalBytes.{EveryTerminalOverBytes}
 use Rattle.world3270.proofs.Simulation.{Simulated}
 use Rattle.world3270.proofs.StillKept.{Alike, walked}
 
@@ -532,3 +535,72 @@ module _ (given : Given) (app : Application) (is : IsApplication app) (sizes : H
       sent_leads (noted text t.link.host) t l (noted_asked text t.link.host (may_note t.link.host.turn t.link.host.pending (is_agreed t.link.host.talk.state)))
   move_leads (Move.Operate step) t s l alive rules typed = operates_leads t s l step rules.0 rules.1
   move_leads Move.Lose t s l alive rules typed = absurd typed
+
+-- ---- while a read is pending
+
+prefix_none : (queue vanished : List ToHost) → has_response (queue ++ vanished) ≡ false → has_response queue ≡ false
+prefix_none [] vanished none = refl
+prefix_none (ToHost.Data parts ∷ queue) vanished none = prefix_none queue vanished none
+prefix_none (ToHost.TalksUp saying ∷ queue) vanished none = prefix_none queue vanished none
+prefix_none (ToHost.Response number verdict ∷ queue) vanished none = none
+
+-- no response comes from the waiting terminal
+none_responds : (app : Application) (link : Link) → Kept app (view_of link) → form_awaited link.host.pending ≡ Buffer → has_response link.up ≡ false
+none_responds app link k reads = prefix_none link.up k.at.goes_up.vanished (ap has_response k.at.goes_up.whole ∙ by_moment k.moment (sym (ap form_awaited k.at.pending) ∙ reads))
+  where
+    by_serving : (lu : List ℕ) (serving : Serving) → form_awaited (pending_at (Moment.Serves lu serving)) ≡ Buffer → has_response (up_at link.term.display.model k.wanted (Moment.Serves lu serving)) ≡ false
+    by_serving lu (Serving.Reading number) reads = refl
+    by_serving lu (Serving.Reported number parts) reads = refl
+    by_serving lu Serving.Deciding reads = refl
+    by_serving lu (Serving.NotedLate number command) reads = refl
+    by_serving lu (Serving.AnsweredLate number command) reads = absurd (modified_only reads)
+    by_serving lu (Serving.Painting number command wanted over) reads = refl
+    by_serving lu (Serving.Answering kind number command) reads = absurd (no_read kind number command reads)
+    by_serving lu Serving.Operating reads = refl
+    by_serving lu (Serving.Noting number command) reads = refl
+    by_serving lu (Serving.KeyAlone parts) reads = refl
+    by_serving lu (Serving.KeyBehind kind number command parts) reads = absurd (no_read kind number command reads)
+    by_serving lu (Serving.KeyNoted number command parts) reads = refl
+    by_serving lu (Serving.KeyBefore number command parts) reads = absurd (modified_only reads)
+
+    by_moment : (moment : Moment) → form_awaited (pending_at moment) ≡ Buffer → has_response (up_at link.term.display.model k.wanted moment) ≡ false
+    by_moment (Moment.Talks talking) reads = absurd (modified_only reads)
+    by_moment (Moment.Begins lu number command wanted over) reads = refl
+    by_moment (Moment.Serves lu serving) reads = by_serving lu serving reads
+
+pub record IsLed (t : Told) : Type 0 where
+  pub leads : Leads t
+  pub alive : t.link.lost ≡ false
+
+module _ (given : Given) (app : Application) (is : IsApplication app) (sizes : HasTheSizes app) (lu : List ℕ) where
+  no_lead_now : (t : Told) (s : Simulated app lu t) → IsLed t → (parts : InboundParts) (others : List ToHost) → t.link.up ≡ ToHost.Data parts ∷ others → parts.form ≡ Modified
+      → form_awaited t.link.host.pending ≡ Buffer → HasNoLead parts.parts
+  no_lead_now t s q parts others e form reads =
+      let Bare : Type 0 = fields t.told.screen.cells ≡ [] in
+      let reads_told : form_awaited s.told.host.pending ≡ Buffer = sym (ap (λ (c : Conn). form_awaited c.pending) s.simulates.host) ∙ reads in
+      let none : has_response others ≡ false =
+      extras_respond s.told.host.turn s.told.host.pending s.told.up (ToHost.Data parts ∷ others)
+      (subst (λ (up : List ToHost). Extras s.told.host.turn s.told.host.pending s.told.up up) e s.simulates.up) (none_responds app s.told s.kept reads_told) in
+      first_lead Bare (ToHost.Data parts) others (subst (AreLeads Bare) e q.leads.queue) none
+      (λ bare. has_fields given app is s.told s.kept (λ agreement. q.leads.asked reads (ap (λ (c : Conn). c.turn_reason) s.simulates.host ∙ agreement)) reads_told
+          (subst (λ (d : Display). fields d.screen.cells ≡ []) (sym s.display) bare)) form
+
+  pub leads_are_kept : LeadsAreKept app lu IsLed
+  leads_are_kept = record {
+    begins = λ t b alive. record {
+      leads = record {
+        asked = λ reads e. modified_only (sym (ap (λ (c : Conn). form_awaited c.pending) b.host) ∙ reads);
+        queue = subst (AreLeads (fields t.told.screen.cells ≡ [])) (sym b.nothing_up) tt;
+      };
+      alive = alive;
+    };
+    goes_on = λ move t s x q rules typed. record {
+      leads = move_leads given app is sizes lu move t s q.leads q.alive rules typed;
+      alive = alive_still given app is sizes lu move t s q.alive rules typed;
+    };
+    no_lead = no_lead_now;
+  }
+
+-- So the theorem holds.
+pub every_terminal_over_bytes : AnyLaws → EveryTerminalOverBytes
+every_terminal_over_bytes laws = leads_suffice laws (λ app lu. IsLed) (λ app lu is sizes. leads_are_kept laws.given app is sizes lu)

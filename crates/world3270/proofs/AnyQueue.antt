@@ -215,7 +215,7 @@ module _ (given : Given) (app : Application) (is : IsApplication app) (sizes : H
 -- Some property of what comes up holds at agreement, and all typed moves that keep the rules keep it; and by it a key's data that comes while a read
 -- is pending has no characters before the first address.
 pub record LeadsAreKept (app : Application) (lu : List ℕ) (Queued : Told → Type 0) : Type 0 where
-  pub begins : (t : Told) → Begins app lu t → Queued t
+  pub begins : (t : Told) → Begins app lu t → t.link.lost ≡ false → Queued t
   pub goes_on : (move : Move) (t : Told) → Simulated app lu t → IsTexts t → Queued t → IsByTheRules move t → IsTypedMove move → Queued (moved app move t)
   pub no_lead : (t : Told) → Simulated app lu t → Queued t → (parts : InboundParts) (others : List ToHost) → t.link.up ≡ ToHost.Data parts ∷ others → parts.form ≡ Modified
       → form_awaited t.link.host.pending ≡ Buffer → HasNoLead parts.parts
@@ -268,9 +268,9 @@ module _ (given : Given) (app : Application) (is : IsApplication app) (sizes : H
 
   pub queue_is_kept : QueueIsKept app lu IsQueued
   queue_is_kept = record {
-    begins = λ t b one. record {
+    begins = λ t b alive one. record {
       sized = record { one = one; up = subst (All (HasThatSize app)) (sym b.nothing_up) (All-nil (HasThatSize app)) };
-      queued = leads.begins t b;
+      queued = leads.begins t b alive;
     };
     goes_on = λ move t s x q rules typed. record {
       sized = move_sized given app is sizes lu move t s q.sized rules;
@@ -281,10 +281,10 @@ module _ (given : Given) (app : Application) (is : IsApplication app) (sizes : H
   }
 
 -- The theorem, if the leads are kept.
-pub leads_suffice : AnyLaws → (Leads : Application → List ℕ → Told → Type 0) → ((app : Application) (lu : List ℕ) → IsApplication app → LeadsAreKept app lu (Leads app lu)) → EveryTerminalOverBytes
+pub leads_suffice : AnyLaws → (Leads : Application → List ℕ → Told → Type 0) → ((app : Application) (lu : List ℕ) → IsApplication app → HasTheSizes app → LeadsAreKept app lu (Leads app lu)) → EveryTerminalOverBytes
 leads_suffice laws Leads leads number lu old new states sound begins lead =
     let app : Application = application_of old.host.panels in
     let is = laws.known.worlds.application old.host.panels sound.otherwise sound.laid_out sound.apart in
     let asks = laws.known.worlds.screens old.host.panels sound.laid_out sound.characters in
     let sizes = the_sizes old.host.panels in
-    over_bytes laws app is asks sizes lu (IsQueued laws.given app is sizes lu (Leads app lu) (leads app lu is)) (queue_is_kept laws.given app is sizes lu (Leads app lu) (leads app lu is)) number states old new begins lead
+    over_bytes laws app is asks sizes lu (IsQueued laws.given app is sizes lu (Leads app lu) (leads app lu is sizes)) (queue_is_kept laws.given app is sizes lu (Leads app lu) (leads app lu is sizes)) number states old new begins lead

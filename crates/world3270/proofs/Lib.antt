@@ -84,8 +84,8 @@ pub mod AnyBytes
 pub mod AnyReady
 pub mod AnySpelt
 pub mod AnyEvery
-pub mod AnyLeads
 pub mod AnyQueue
+pub mod AnyLeads
 pub mod SaidUp
 pub mod UpCame
 pub mod ByteUp
