@@ -583,7 +583,7 @@ module _ (given : Given) (app : Application) (is : IsApplication app) (sizes : H
       (subst (λ (up : List ToHost). Extras s.told.host.turn s.told.host.pending s.told.up up) e s.simulates.up) (none_responds app s.told s.kept reads_told) in
       first_lead Bare (ToHost.Data parts) others (subst (AreLeads Bare) e q.leads.queue) none
       (λ bare. has_fields given app is s.told s.kept (λ agreement. q.leads.asked reads (ap (λ (c : Conn). c.turn_reason) s.simulates.host ∙ agreement)) reads_told
-          (subst (λ (d : Display). fields d.screen.cells ≡ []) (sym s.display) bare)) form
+      (subst (λ (d : Display). fields d.screen.cells ≡ []) (sym s.display) bare)) form
 
   pub leads_are_kept : LeadsAreKept app lu IsLed
   leads_are_kept = record {
