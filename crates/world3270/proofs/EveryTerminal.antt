@@ -117,7 +117,7 @@ module _ (given : Given) (app : Application) (is : IsApplication app) (lu : List
             goes_up = all_of [] [] refl;
           }) (is_new, tt) tt
 
-  begins_simulated : Simulated app lu t
+  pub begins_simulated : Simulated app lu t
   begins_simulated = record {
     told = begun;
     kept = begun_kept;
@@ -153,7 +153,7 @@ module _ (given : Given) (app : Application) (is : IsApplication app) (lu : List
   down_still t s (ToTerminal.ReadBuffer number ∷ rest) is_down = read_still given app is lu t s number rest is_down
   down_still t s (ToTerminal.Note number command ∷ rest) is_down = noted_still given app is lu t s number command rest is_down
 
-  move_still : (move : Move) (t : Told) → IsByTheRules move t → Simulated app lu t → Simulated app lu (moved app move t)
+  pub move_still : (move : Move) (t : Told) → IsByTheRules move t → Simulated app lu t → Simulated app lu (moved app move t)
   move_still (Move.Up pool) t sound s = up_still t s pool sound t.link.up refl
   move_still Move.Down t rules s = down_still t s t.link.down refl
   move_still Move.Act t rules s = acts_still given app is lu t s
@@ -233,7 +233,7 @@ module _ (given : Given) (written : WrittenIsThere) (kept : KeptStaysThere) (app
   is_asked : (session : ℕ) (question : Question) → question_in app session t.link.host ≡ Some question → question_in app session end.host ≡ Some question
   is_asked session question asked = subst (λ (host : Conn). question_in app session host ≡ Some question) same_host asked
 
-  right_of : RightOf app lu t
+  pub right_of : RightOf app lu t
   right_of = record {
     granted = ap (λ (host : Conn). agreed_lu host.talk.state) same_host ∙ s.agreed;
     bound = λ mine bound.

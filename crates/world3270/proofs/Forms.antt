@@ -63,7 +63,7 @@ first_has scene model wanted (Moment.Talks talking) fact = talk_has _ _ model wa
 first_has scene model wanted (Moment.Begins lu number command paints over) fact = tt
 first_has scene model wanted (Moment.Serves lu serving) fact = served_has scene serving fact
 
-awaited : (app : Application) (v : View) (parts : InboundParts) (rest : List ToHost) → Kept app v → v.up ≡ ToHost.Data parts ∷ rest → IsAwaitedBy v.host parts
+pub awaited : (app : Application) (v : View) (parts : InboundParts) (rest : List ToHost) → Kept app v → v.up ≡ ToHost.Data parts ∷ rest → IsAwaitedBy v.host parts
 awaited app v parts rest k e =
     let both = comes (form_awaited (pending_at k.moment)) v.host.shape v.lost v.up (up_at v.model k.wanted k.moment) parts rest k.at.goes_up e (first_has (scene_of v) v.model k.wanted k.moment k.fact) in
     record { form = both.0 ∙ sym (ap form_awaited k.at.pending); size = both.1 }

@@ -85,6 +85,15 @@ pub mod BytePlaced
 pub mod ItemsSpelt
 pub mod ByteActs
 pub mod HostItems
+pub mod LinkUp
+pub mod AnyTerminal
+pub mod AnyHost
+pub mod AnyBytes
+pub mod AnyReady
+pub mod AnySpelt
+pub mod AnyEvery
+pub mod AnyQueue
+pub mod AnyLeads
 pub mod SaidUp
 pub mod UpCame
 pub mod ByteUp

@@ -547,4 +547,4 @@ decisions_are_shown given panels go skips shown world number it events before ch
 
 pub others_are_not_shown : OtherTextsAreNot → OtherTextsAreNotShown
 others_are_not_shown others app host was terminal index field attribute text at shows differs before is =
-    others (app.fields host.panel) host.values host.message was.screen terminal.last_restored index field attribute text at shows differs before is.shown.fields
+    others true (app.fields host.panel) host.values host.message was.screen terminal.last_restored index field attribute text at shows differs before is.shown.fields

@@ -10,6 +10,7 @@ use Rattle.tn3270e_msg.specs.Talk.{Saying}
 use Rattle.tn3270e_msg.specs.declared.term_talk.TermState.TheVariants.{Willing}
 use Rattle.tn3270e_msg.specs.TermTable.{Term}
 use Rattle.tn3270e_msg.specs.declared.reply.OwnedMessage.TheVariants.{SendType, TypeIs, TypeReject, FunIs}
+use Rattle.tn3270e_msg.specs.declared.term_talk.TermState.TheVariants.{Willing}
 use Rattle.host_core.specs.Application.{Application, IsApplication, IsSizeOf}
 use Rattle.host_core.specs.Messages.{ToTerminal}
 use Rattle.host_core.specs.NoteLaws.{IsNoteOf}
@@ -31,7 +32,7 @@ use Rattle.world3270.proofs.Worlds.{run_good, new_good}
 use Rattle.world3270.proofs.TalkStates.{term_state}
 
 -- where the application's sizes are the models', so are those that its terminals may have
-has_size : (app : Application) (model : Model) (size : Shape) → HasTheSizes app → IsSizeOf app model size → HasSize model size
+pub has_size : (app : Application) (model : Model) (size : Shape) → HasTheSizes app → IsSizeOf app model size → HasSize model size
 has_size app model size sizes (inl base) = inl (base ∙ sizes.begins)
 has_size app model size sizes (inr alternate) = inr (alternate ∙ sizes.alternate model)
 
@@ -109,7 +110,7 @@ module _ (given : Given) (app : Application) (is : IsApplication app) (sizes : H
       saying_may (Moment.Begins lu number command wanted over) (Saying.Sub FunIs) (ToTerminal.Paint number wanted over ∷ []) at refl tt tt
   moment_may (Moment.Serves lu serving) s at f = serving_may lu serving s at f
 
-  may_come : MayCome link.term message
+  pub may_come : MayCome link.term message
   may_come = moment_may k.moment k.sizes k.at k.fact
 
 -- the talk goes on at each moment
@@ -129,7 +130,7 @@ open_at (Moment.Talks talking) = open_in_talk talking
 open_at (Moment.Begins lu number command wanted over) = tt
 open_at (Moment.Serves lu serving) = tt
 
-is_open : (app : Application) (link : Link) → Kept app (view_of link) → IsOpen link.term.talk.talk.state
+pub is_open : (app : Application) (link : Link) → Kept app (view_of link) → IsOpen link.term.talk.talk.state
 is_open app link k = subst IsOpen (sym (term_state link.term.display.model k.wanted k.moment link.term.talk k.at.term_talk)) (open_at k.moment)
 
 all_may : Given → (app : Application) → IsApplication app → HasTheSizes app → (messages : List ToTerminal) (link : Link) → link.down ≡ messages → Kept app (view_of link)

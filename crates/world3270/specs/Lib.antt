@@ -33,6 +33,7 @@ pub mod TrackedTerminals
 pub mod Stands
 pub mod StandsEnds
 pub mod StandsLinks
+pub mod Readings
 pub mod Places
 pub mod Skipped
 pub mod Losses
@@ -59,3 +60,4 @@ pub mod ShownSince
 pub mod ScreensFound
 pub mod ProtocolErrors
 pub mod EveryTerminal
+pub mod EveryTerminalBytes

@@ -3,6 +3,7 @@
 ghost use Rattle.world3270.specs.Always.{Always, AlwaysOf, HeadlineHolds, NobodyRefuses};
 ghost use Rattle.world3270.specs.Asked.{AskedIsSeen, AskedIsSeenOverBytes, FieldsAreSeen, ScreensAreAsLeft};
 ghost use Rattle.world3270.specs.EveryTerminal.{EveryTerminal};
+ghost use Rattle.world3270.specs.EveryTerminalBytes.{EveryTerminalOverBytes};
 ghost use Rattle.world3270.specs.Example.{TheRunsEndSo};
 ghost use Rattle.world3270.specs.Forms.{FormsAreAwaited};
 ghost use Rattle.world3270.specs.Given.{Given};
@@ -407,4 +408,20 @@ pub fn every_terminal()
 {
     what_is_given();
     painted_fields_are_there();
+}
+
+/// Law: the same over bytes, in the words of the calls of `Host`, whatever other clients do. The host is
+/// fed the bytes that come up, however they are cut; it hands bytes over, acts, is answered by the
+/// application, sends notes and NOPs, where memory may be refused; the terminal takes each byte as
+/// RFC 1647 and GA23-0059 say, and spells what it sends as it likes. The bytes represent a
+/// connection over messages after moves that keep the rules, of which the law above speaks. Left out
+/// is a terminal of a model that is shown panels of two sizes.
+pub fn every_terminal_over_bytes()
+    ensures { EveryTerminalOverBytes }
+{
+    what_is_known();
+    bytes_stand_for_messages();
+    sent_is_read();
+    painted_fields_are_there();
+    telnet_wire::laws::one_reading();
 }
