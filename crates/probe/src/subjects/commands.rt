@@ -134,7 +134,10 @@ impl Commands {
             )),
             "sba" => Ok(writer.sba(at(place_on(line, Size::base())?, Size::base()))),
             "sf" => Ok(writer.sf(Attr::from_code(code(line.word()?)?))),
-            "ra" => Ok(writer.ra(at(place_on(line, Size::base())?, Size::base()), character(line.word()?)?)),
+            "ra" => Ok(writer.ra(
+                at(place_on(line, Size::base())?, Size::base()),
+                character(line.word()?)?,
+            )),
             "ic" => Ok(writer.ic()),
             _ => Err(Fault::Needs("a command of this subject")),
         }

@@ -14,6 +14,10 @@
 //! causes                  each cause by its number and name, and how it is printed
 //! constants
 //! ```
+ghost use Rattle.tn3270e_msg.specs.Header.{IsHeader};
+ghost use Rattle.tn3270e_msg.specs.Lent.{message_of};
+ghost use Rattle.tn3270e_msg.specs.Message.{IsMessage};
+
 use crate::answer::{put_bytes, put_named};
 use crate::fault::Fault;
 use crate::line::Words;
@@ -71,13 +75,17 @@ impl Messages {
         header: &Header,
         body: &[u8],
         answer: &mut String,
-    ) -> Result<(), AllocError> {
+    ) -> Result<(), AllocError>
+        requires { IsHeader header.now }
+    {
         writeln!(answer, "{header:?}")?;
         put_named(self.alloc, answer, "bytes", &header_bytes(header))?;
         put_named(self.alloc, answer, "body", body)
     }
 
-    fn put_sub(&mut self, message: &SubMessage<'_>, answer: &mut String) -> Result<(), AllocError> {
+    fn put_sub(&mut self, message: &SubMessage<'_>, answer: &mut String) -> Result<(), AllocError>
+        requires { IsMessage (message_of message.now) }
+    {
         writeln!(answer, "{message:?}")?;
         self.out.clear();
         put_sub_message(&mut self.out, message)?;

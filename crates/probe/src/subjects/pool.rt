@@ -12,6 +12,7 @@ use crate::line::Words;
 use crate::subject::Subject;
 use lu_pool::Pool;
 use std::alloc::Global;
+use tn3270e_msg::{Lu, Reason};
 
 #[derive(Drop)]
 pub(crate) struct Pools {
@@ -26,6 +27,14 @@ fn name_of(alloc: Global, word: &str) -> Result<String, Fault> {
     }
 }
 
+fn put_granted(granted: Result<Lu, Reason>, answer: &mut String) -> Result<(), Fault> {
+    match granted {
+        Ok(lu) => writeln!(answer, "{lu}")?,
+        Err(reason) => writeln!(answer, "{reason}")?,
+    }
+    Ok(())
+}
+
 /// Asks for a connection that holds none.
 fn ask(
     pool: &mut Pool,
@@ -33,14 +42,10 @@ fn ask(
     name: Option<&[u8]>,
     answer: &mut String,
 ) -> Result<(), Fault> {
-    if pool.lu_held_by(conn).is_some() {
-        return Err(Fault::Needs("a connection that holds no LU"));
+    match pool.lu_held_by(conn) {
+        Some(_) => Err(Fault::Needs("a connection that holds no LU")),
+        None => put_granted(pool.ask(conn, name), answer),
     }
-    match pool.ask(conn, name) {
-        Ok(lu) => writeln!(answer, "{lu}")?,
-        Err(reason) => writeln!(answer, "{reason}")?,
-    }
-    Ok(())
 }
 
 fn take_on(

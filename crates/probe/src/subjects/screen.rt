@@ -19,7 +19,9 @@
 use crate::fault::Fault;
 use crate::line::Words;
 use crate::subject::Subject;
-use crate::subjects::cells::{Out, at, code, form, model, place_on, put_attr, put_called, put_cell};
+use crate::subjects::cells::{
+    Out, at, code, form, model, place_on, put_attr, put_called, put_cell,
+};
 use codes3270::{Model, aid_byte, aid_from_byte, storable};
 use datastream::{Form, read_command};
 use keyboard::{Key, Keyboard, Pressed, Refusal};
