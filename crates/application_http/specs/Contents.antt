@@ -81,7 +81,7 @@ pub record BeginsContent (taken front : List ℕ) : Type 0 where
   pub begins : (more : List ℕ) × (body : Body) × (rest : List ℕ) × ReadsBody limits Chunked (taken ++ more) body rest
   pub front_is : (more : List ℕ) (body : Body) (rest : List ℕ) → ReadsBody limits Chunked (taken ++ more) body rest → (later : List ℕ) × (body.bytes ≡ front ++ later)
 
--- a byte of a content stands behind the head: it is stored once the content is whole, or its chunk comes
+-- a byte of a content follows the head: it is stored once the content is whole, or its chunk is read
 abbrev pub HoldsContent : (closed : Bool) → Framing → (after : List ℕ) → Type 0
 HoldsContent closed NoBody after = ⊥
 HoldsContent closed (Length len) after = (0 < len) × (len ≤ length after)

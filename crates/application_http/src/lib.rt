@@ -11,5 +11,5 @@ mod request;
 pub use endpoint::{Endpoint, EndpointFault};
 pub use fault::{KeyFault, ReplyFault};
 pub use reader::ReplyReader;
-pub use reply::Reply;
+pub use reply::{Reply, copy_of};
 pub use request::{FieldText, Request, request_text};

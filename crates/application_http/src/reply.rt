@@ -81,7 +81,7 @@ fn first_flaw(members: &Map<String, Value>) -> Option<(KeyFault, &str)>
 }
 
 /// A copy of a text; an empty one takes no memory.
-fn copy_of(alloc: Global, text: &str) -> Result<String, AllocError>
+pub fn copy_of(alloc: Global, text: &str) -> Result<String, AllocError>
     ensures copy { IfOk result (λ copy. string_bytes copy ≡ text.now) }
     ensures refused { OnErr result (0 < length text.now) }
 {

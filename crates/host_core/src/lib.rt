@@ -71,8 +71,8 @@
 //! rejected, and `Reports` what a connection keeps until it is reported; `Feeds`, `Bytes`, `Items`
 //! and `Takes` say what bytes make of it, `Does` and `Acts` what it does in its turn, `Notes` what a
 //! note is, `KeepAlive` when NOP is sent, and `Serves` what a turn of serving is. What follows from
-//! these is the contract of [`laws::one_machine`] and of the other laws. The `data` of the
-//! repository's `trials3270` has whole dialogues, byte for byte.
+//! these is the contract of [`laws::one_machine`] and of the other laws. The
+//! repository's `tests/cases` has whole dialogues, byte for byte.
 #![tactic(auto)]
 
 mod acted;

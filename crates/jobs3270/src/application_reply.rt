@@ -10,7 +10,7 @@ ghost use Rattle.jobs3270.specs.Applications.{AreKnownTexts, IsAnswerFault, IsAn
 ghost use Rattle.plain_text.specs.PlainTexts.{plain_text};
 ghost use Rattle.jobs3270.specs.declared.application_reply.AnswerFault.TheVariants as flaw;
 
-use application_http::{FieldText, Reply};
+use application_http::{FieldText, Reply, copy_of};
 use codes3270::from_latin1;
 use host_core::Answer;
 use panels::{MessageText, PanelSet, Values};
@@ -90,16 +90,6 @@ pub(crate) fn set_text(
 {
     let codes = codes_of(alloc, text)?;
     values.set(field, cut(codes.as_slice()))
-}
-
-/// A copy of a text; an empty one takes no memory.
-fn copy_of(alloc: Global, text: &str) -> Result<String, AllocError>
-    ensures copy { IfOk result (λ copy. string_bytes copy ≡ text.now) }
-    ensures memory { OnErr result (0 < length text.now) }
-{
-    let mut copy = String::new(alloc);
-    copy.push_str(text)?;
-    Ok(copy)
 }
 
 /// Sets the value of the field of a name to its text, in plain characters.

@@ -15,7 +15,7 @@ use unicode_normalization::Form;
 use unicode_normalization::char::{decomposition, is_combining_mark};
 use unicode_normalization::slice::extend_nfc;
 
-/// What is written for a character that nothing else stands for.
+/// What is written for a character that has neither a code nor a plain form.
 const UNKNOWN: &str = "?";
 
 /// Whether code page 037 has a character.

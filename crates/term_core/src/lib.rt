@@ -22,7 +22,7 @@
 //! println!(rt; "{}", terminal.screen_text(alloc)?)?;
 //! ```
 //!
-//! The repository's `trials3270` has whole dialogues with a terminal, byte for byte, in its `data`.
+//! The repository's `tests/cases` has whole dialogues with a terminal, byte for byte.
 //! `specs/Feeds` says what feeding is, `Bytes`, `Items` and `Records` what bytes make of a terminal, `Presses` what keys do,
 //! `Says` what is sent, and `ScreenText` what is printed. [`laws::one_machine`] has the laws of these as its contract, and
 //! [`laws::room_suffices`] those of its output's room (`Room`).

@@ -1,6 +1,6 @@
 //! What a panel text defines: its panels, the pool of its LUs, and a host that shows the panels.
 use crate::fault::Fault;
-use host_core::Host;
+use host_core::{Host, Terminals};
 use lu_pool::{Pool, PoolFault};
 use panels::{PanelFault, PanelSet};
 use std::alloc::{AllocError, Global};
@@ -30,8 +30,13 @@ pub fn read_parts(alloc: Global, panel_text: &str) -> Result<(PanelSet, Pool), F
     Ok((panels, pool))
 }
 
-/// A host that shows the panels of a text.
+/// A host that shows the panels of a text, and relies on the terminals' wait.
 pub fn read_host(alloc: Global, panel_text: &str) -> Result<Host, Fault> {
+    read_host_for(alloc, Terminals::Waiting, panel_text)
+}
+
+/// A host that shows the panels of a text to these terminals.
+pub fn read_host_for(alloc: Global, terminals: Terminals, panel_text: &str) -> Result<Host, Fault> {
     let (panels, pool) = read_parts(alloc, panel_text)?;
-    Ok(Host::new(alloc, panels, pool)?)
+    Ok(Host::serving(alloc, terminals, panels, pool)?)
 }

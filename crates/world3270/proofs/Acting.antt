@@ -1,10 +1,9 @@
 -- What the host sends, at each moment; and a connection that is lost.
 use Rattle.std.proofs.Common.{◌≡◌, ℕ, Bool, true, false, Option, None, Some, List, [], ◌∷◌, ◌++◌, refl, ap, sym, subst, ◌∙◌, if◌then◌else◌, unwrap_or}
 use Rattle.tn3270e_msg.specs.HostTable.{model_asked}
-use Rattle.tn3270e_msg.specs.Device.{device_for, model_of}
 use Rattle.codes3270.specs.declared.size.Model.{Model}
 use Rattle.codes3270.specs.Size.{cells_in}
-use Rattle.codes3270.specs.declared.size.Model.TheVariants.{M2, M3, M4, M5}
+use Rattle.codes3270.specs.declared.size.Model.TheVariants.{M2}
 use Rattle.codes3270.specs.declared.attention.Aid.{Aid}
 use Rattle.codes3270.specs.declared.attention.Aid.TheVariants.{NoAid, Enter as EnterAid, Clear as ClearAid, Pf as PfAid, Pa as PaAid}
 use Rattle.datastream.specs.Grammar.{CommandParts}
@@ -18,14 +17,12 @@ use Rattle.shadow.specs.Meets.{Meets}
 use Rattle.shadow.specs.Openness.{NothingIsOpen}
 use Rattle.shadow.specs.Fits.{fits}
 use Rattle.shadow.specs.Paint.{paint}
-use Rattle.tn3270e_msg.specs.Talk.{Talk, start_at}
+use Rattle.tn3270e_msg.specs.Talk.{Talk}
 use Rattle.tn3270e_msg.specs.declared.host_talk.HostState.{HostState}
 use Rattle.host_core.specs.Acts.{Act, Decision, Sent as Sending, after_key, decided, decision_on, wanted_by, done, may_act, acted, painted, known_despite, unheard_next, when_shown}
 use Rattle.host_core.specs.Application.{Application, IsApplication, IsSizeOf}
 use Rattle.host_core.specs.Laws.{IsPaintable}
-use Rattle.host_core.specs.Messages.{ToTerminal}
-use Rattle.host_core.specs.NoteLaws.{IsNoteOf}
-use Rattle.host_core.specs.Notes.{IsNoteText, note_command, may_note, noted_as, noted}
+use Rattle.host_core.specs.Takes.{may_have_changed}
 use Rattle.host_core.specs.declared.turn.Turn.{Turn}
 use Rattle.host_core.specs.declared.turn.Turn.TheVariants as whose
 use Rattle.host_core.specs.declared.turn_reason.TurnReason.{TurnReason}
@@ -36,15 +33,16 @@ use Rattle.host_core.specs.declared.question.Answer.{Answer as Said}
 use Rattle.std.specs.Prelude.{◌&&◌, not}
 use Rattle.world3270.specs.Given.{Given}
 use Rattle.world3270.specs.Link.{Link, sent, host_sent}
-use Rattle.world3270.specs.Moments.{Kind, UnderWay, Talking, Serving, Moment, IsAt, host_talk_at, term_state_at, turn_at, pending_at, down_at, up_at, agreed, served_down, served_up}
+use Rattle.world3270.specs.Moments.{UnderWay, Talking, Serving, Moment, IsAgreed, IsAt, IsHostTalk, IsTermTalk, turn_at, pending_at, down_at, up_at}
 use Rattle.world3270.specs.TurnReasons.{IsOccasion, IsOpenBy, IsOpenFor}
 use Rattle.host_core.specs.declared.unheard.Unheard.{Unheard}
 use Rattle.host_core.specs.declared.unheard.Unheard.TheVariants as unheards
 use Rattle.world3270.specs.Showing.{IsDecided, KnowsItsFields, WantsItsPanelOn}
-use Rattle.world3270.specs.Stages.{scene_of, FactsAreExact, IfRelies, IsNew, Decides, Fact, Kept, Sizes, may_differ_at, ShownAt, ShownIn}
+use Rattle.world3270.specs.Stages.{scene_of, AllowsInput, FactsAreExact, IfRelies, IsNew, Decides, Fact, Kept, Sizes, may_differ_at, ShownAt, ShownIn}
 use Rattle.world3270.specs.View.{View, view_of}
 use Rattle.world3270.proofs.Down.{none_open}
 use Rattle.world3270.proofs.Queues.{more, still}
+use Rattle.world3270.proofs.TalkStates.{agreed_there}
 
 -- the connection once the host sent this
 abbrev pub sent_view : Sending → Link → Link
@@ -61,6 +59,12 @@ allows_despite given unheards.Nothing shadow screen meets = meets
 allows_despite given unheards.Input shadow screen meets = given.belief.doubt_allows shadow screen meets
 allows_despite given unheards.Clear shadow screen meets = tt
 
+-- and, where the host doesn't rely on the wait, each that differs from it in input alone,
+input_despite : Given → (unheard : Unheard) (shadow : Shadow) (screen : Screen) → Meets shadow screen → may_have_changed (unheard_next unheard) ≡ true → AllowsInput (known_despite unheard shadow) screen
+input_despite given unheards.Nothing shadow screen meets changed = absurd (cc)
+input_despite given unheards.Input shadow screen meets changed = λ erased now held. given.belief.doubt_input erased shadow screen now meets held
+input_despite given unheards.Clear shadow screen meets changed = λ erased now held. tt
+
 -- its facts are exact,
 exact_despite : Given → (unheard : Unheard) (shadow : Shadow) → FactsAreExact shadow → FactsAreExact (known_despite unheard shadow)
 exact_despite given unheards.Nothing shadow exact = exact
@@ -73,35 +77,28 @@ closed_despite unheards.Nothing shadow closed = closed
 closed_despite unheards.Input shadow closed = λ relies. absurd (cc)
 closed_despite unheards.Clear shadow closed = λ relies. absurd (cc)
 
-next_not_cleared : (unheard : Unheard) → unheard_next unheard ≡ unheards.Clear → ⊥
-next_not_cleared unheards.Nothing e = absurd (cc)
-next_not_cleared unheards.Input e = absurd (cc)
-next_not_cleared unheards.Clear e = absurd (cc)
-
 -- what a sending leaves of the host's end
-record Sends (link : Link) (sending : Sending) : Type 0 where
-  talk : sending.conn.talk ≡ link.host.talk
-  not_cleared : sending.conn.unheard ≡ unheards.Clear → ⊥
-  exact : FactsAreExact sending.conn.shadow
+pub record Sends (link : Link) (sending : Sending) : Type 0 where
+  pub talk : sending.conn.talk ≡ link.host.talk
+  pub exact : FactsAreExact sending.conn.shadow
 
 -- what is under way then
-sent_at : (link : Link) (sending : Sending) (wanted : Option (List ℕ)) (from to : Moment) → Sends link sending → IsAt (view_of link) wanted from
-    → host_talk_at link.term.display.model to ≡ host_talk_at link.term.display.model from → term_state_at to ≡ term_state_at from → sending.conn.turn ≡ turn_at to → sending.conn.pending ≡ pending_at to
+pub sent_at : (link : Link) (sending : Sending) (wanted : Option (List ℕ)) (from to : Moment) → Sends link sending → IsAt (view_of link) wanted from
+    → ((talk : Talk HostState) → IsHostTalk link.term.display.model from talk → IsHostTalk link.term.display.model to talk) → (IsTermTalk link.term.display.model wanted from link.term.talk → IsTermTalk link.term.display.model wanted to link.term.talk) → sending.conn.turn ≡ turn_at to → sending.conn.pending ≡ pending_at to
     → down_at link.term.display.model from ++ sending.message ∷ [] ≡ down_at link.term.display.model to → up_at link.term.display.model wanted to ≡ up_at link.term.display.model wanted from → IsAt (view_of (sent_view sending link)) wanted to
 sent_at link sending wanted from to same at host term turn pending down up = record {
-  host_talk = same.talk ∙ at.host_talk ∙ sym host;
-  term_talk = at.term_talk ∙ ap (λ state. record { model = link.term.display.model; wanted = wanted; talk = start_at state }) (sym term);
+  host_talk = subst (IsHostTalk link.term.display.model to) (sym same.talk) (host link.host.talk at.host_talk);
+  term_talk = term at.term_talk;
   turn = turn;
   pending = pending;
-  not_cleared = same.not_cleared;
   goes_down = subst (UnderWay link.lost (sent link.lost link.down (sending.message ∷ []))) down (more link.lost link.down (down_at link.term.display.model from) (sending.message ∷ []) at.goes_down);
   goes_up = subst (UnderWay link.lost link.up) (sym up) at.goes_up;
 }
 
 -- a sending that leads to a moment
-kept_sent : (app : Application) (link : Link) (sending : Sending) (k : Kept app (view_of link)) (to : Moment) → Sends link sending → IsSizeOf app link.term.display.model sending.conn.shape
+pub kept_sent : (app : Application) (link : Link) (sending : Sending) (k : Kept app (view_of link)) (to : Moment) → Sends link sending → IsSizeOf app link.term.display.model sending.conn.shape
     → (may_differ_at to ≡ false → link.term.display.shape ≡ sending.conn.shape) → IsAt (view_of (sent_view sending link)) k.wanted to
-    → Fact k.wanted (scene_of (view_of (sent_view sending link))) to → ShownAt app sending.conn link.term.display.before_restored link.term.display.last_restored link.term.display.screen to
+    → Fact k.wanted (scene_of (view_of (sent_view sending link))) to → ShownAt app link.term.waits sending.conn link.term.display.before_restored link.term.display.last_restored link.term.display.screen to
     → Kept app (view_of (sent_view sending link))
 kept_sent app link sending k to same size steady at fact shown = record {
   whole = k.whole;
@@ -135,11 +132,11 @@ wanted_in_a_way app conn panel message true values = wanted_if_fits (fits conn.s
 wanted_in_a_way app conn panel message false values = (false, refl)
 
 -- it is the one of the connection's panel from then on
-wants_its : (app : Application) (conn : Conn) (screen : Screen) (panel : ℕ) (message : Message) (keep : Bool) (values : Values) → IsDecided app conn (Act.Show panel message keep values) → (keep ≡ true → KnowsItsFields app conn)
-    → Meets conn.shadow screen → WantsItsPanelOn app (shown app conn panel message keep values).conn (when_shown conn).shadow (wants_of app (when_shown conn) panel message keep values) screen
-wants_its app conn screen panel message keep values choice knows told = record {
+wants_its : (app : Application) (waits : Bool) (conn : Conn) (screen : Screen) (panel : ℕ) (message : Message) (keep : Bool) (values : Values) → IsDecided app conn (Act.Show panel message keep values) → (keep ≡ true → KnowsItsFields app conn)
+    → Meets conn.shadow screen → WantsItsPanelOn app waits (shown app conn panel message keep values).conn (when_shown conn).shadow (wants_of app (when_shown conn) panel message keep values) screen
+wants_its app waits conn screen panel message keep values choice knows told = record {
   wants = record { conn = conn; same_talk = refl; asked = panel; keep = keep; is_decided = choice; knows = knows; panel_is = refl; over_is = refl; wanted_is = refl };
-  told = told;
+  told = λ w. told;
 }
 
 paintable : Given → (app : Application) → IsApplication app → (link : Link) → (panel : ℕ) (message : Message) (keep : Bool) (values : Values)
@@ -147,18 +144,12 @@ paintable : Given → (app : Application) → IsApplication app → (link : Link
 paintable given app is link panel message keep values = (given.belief.fit app link.host (Act.Show panel message keep values) is).0
 
 -- the model that the host knows is the terminal's
-own_model : (model : Model) → model_of (device_for model) ≡ model
-own_model M2 = refl
-own_model M3 = refl
-own_model M4 = refl
-own_model M5 = refl
-
-model_here : (link : Link) (lu : List ℕ) → link.host.talk ≡ agreed link.term.display.model lu → model_in link.host ≡ link.term.display.model
-model_here link lu talks = ap (λ (t : Talk HostState). unwrap_or (model_asked t.state) M2) talks ∙ own_model link.term.display.model
+model_here : (link : Link) (lu : List ℕ) → IsAgreed link.term.display.model lu link.host.talk → model_in link.host ≡ link.term.display.model
+model_here link lu talks = ap (λ (state : HostState). unwrap_or (model_asked state) M2) talks.state_is ∙ talks.model_is
 
 -- so what is shown has a size that the terminal may have
 size_shown : Given → (app : Application) → IsApplication app → (link : Link) (k : Kept app (view_of link)) (lu : List ℕ) (panel : ℕ) (message : Message) (keep : Bool) (values : Values)
-    → link.host.talk ≡ agreed link.term.display.model lu → IsSizeOf app link.term.display.model (wants_of app (when_shown link.host) panel message keep values).size
+    → IsAgreed link.term.display.model lu link.host.talk → IsSizeOf app link.term.display.model (wants_of app (when_shown link.host) panel message keep values).size
 size_shown given app is link k lu panel message keep values talks =
     let here = model_here link lu talks in
     subst (λ (m : Model). IsSizeOf app m (wants_of app (when_shown link.host) panel message keep values).size) here
@@ -221,7 +212,7 @@ keeps_by Decision.Asks = false
 module _ (given : Given) (app : Application) (is : IsApplication app) (link : Link) (k : Kept app (view_of link)) where
   -- the host's end once a panel is shown
   sends_shown : (panel : ℕ) (message : Message) (keep : Bool) (values : Values) → Sends link (shown app link.host panel message keep values)
-  sends_shown panel message keep values = record { talk = refl; not_cleared = next_not_cleared link.host.unheard; exact = exact_despite given link.host.unheard link.host.shadow k.exact }
+  sends_shown panel message keep values = record { talk = refl; exact = exact_despite given link.host.unheard link.host.shadow k.exact }
 
   -- before the terminal knows that both agreed
   paints_first : (lu : List ℕ) (panel : ℕ) (message : Message) (keep : Bool) (values : Values) → IsAt (view_of link) k.wanted (Moment.Talks (Talking.Agreeing lu)) → IsNew (scene_of (view_of link))
@@ -234,19 +225,20 @@ module _ (given : Given) (app : Application) (is : IsApplication app) (link : Li
       let meets : Meets link.host.shadow link.term.display.screen = subst (λ s. Meets s link.term.display.screen) (sym n.shadow) tt in
       let to : Moment = Moment.Begins lu link.host.next_seq (command_of app conn panel message keep values) wants conn.shadow in
       kept_sent app link sending k to same (size_shown given app is link k lu panel message keep values at.host_talk) (λ steady. absurd (cc))
-      (sent_at link sending k.wanted (Moment.Talks (Talking.Agreeing lu)) to same at refl refl refl refl refl refl)
+      (sent_at link sending k.wanted (Moment.Talks (Talking.Agreeing lu)) to same at (λ talk is. is) (λ is. is) refl refl refl refl)
       (record {
         lock = n.lock;
         over_is = refl;
         command_is = refl;
         meets = allows_despite given link.host.unheard link.host.shadow link.term.display.screen meets;
         closed = closed_despite link.host.unheard link.host.shadow (λ relies. none_open link.host.shadow n.shadow);
+        doubts = input_despite given link.host.unheard link.host.shadow link.term.display.screen meets;
         paintable = paintable given app is link panel message keep values;
       })
-      (wants_its app link.host link.term.display.screen panel message keep values choice knows meets)
+      (wants_its app link.term.waits link.host link.term.display.screen panel message keep values choice knows meets)
 
   -- what it knows when it decides on a key
-  knows_its : ShownIn app link.host link.term.display.before_restored link.term.display.last_restored link.term.display.screen Serving.Deciding → (link.host.turn_reason ≡ turn_reasons.Agreement → ⊥) → KnowsItsFields app link.host
+  knows_its : ShownIn app link.term.waits link.host link.term.display.before_restored link.term.display.last_restored link.term.display.screen Serving.Deciding → (link.host.turn_reason ≡ turn_reasons.Agreement → ⊥) → KnowsItsFields app link.host
   knows_its showing later =
       let wanted = (showing.0 later).wanted_for in
       record {
@@ -273,30 +265,31 @@ module _ (given : Given) (app : Application) (is : IsApplication app) (link : Li
       let same : Sends link sending = sends_shown panel message keep values in
       let to : Moment = Moment.Serves lu (Serving.Painting link.host.next_seq (command_of app conn panel message keep values) wants conn.shadow) in
       kept_sent app link sending k to same (size_shown given app is link k lu panel message keep values at.host_talk) (λ steady. absurd (cc))
-      (sent_at link sending k.wanted (Moment.Serves lu Serving.Deciding) to same at refl refl refl refl refl refl)
+      (sent_at link sending k.wanted (Moment.Serves lu Serving.Deciding) to same at (λ talk is. is) (λ is. is) refl refl refl refl)
       (record {
         lock = f.lock;
         over_is = refl;
         command_is = refl;
         meets = allows_despite given link.host.unheard link.host.shadow link.term.display.screen f.sees.meets;
         closed = closed_despite link.host.unheard link.host.shadow closed;
+        doubts = input_despite given link.host.unheard link.host.shadow link.term.display.screen f.sees.meets;
         paintable = paintable given app is link panel message keep values;
       })
-      (wants_its app link.host link.term.display.screen panel message keep values choice knows f.sees.meets)
+      (wants_its app link.term.waits link.host link.term.display.screen panel message keep values choice knows f.sees.meets)
 
   asks : (lu : List ℕ) → link.term.display.shape ≡ link.host.shape → (link.term.display.screen.aid ≡ ClearAid → ⊥) → IsAt (view_of link) k.wanted (Moment.Serves lu Serving.Deciding) → Decides (scene_of (view_of link)) link.host.shadow
-      → ShownIn app link.host link.term.display.before_restored link.term.display.last_restored link.term.display.screen Serving.Deciding → Kept app (view_of (sent_view (done app link.host Act.Read) link))
+      → ShownIn app link.term.waits link.host link.term.display.before_restored link.term.display.last_restored link.term.display.screen Serving.Deciding → Kept app (view_of (sent_view (done app link.host Act.Read) link))
   asks lu steady not_cleared at f showing =
       let sending : Sending = done app link.host Act.Read in
-      let same : Sends link sending = record { talk = refl; not_cleared = at.not_cleared; exact = k.exact } in
+      let same : Sends link sending = record { talk = refl; exact = k.exact } in
       let to : Moment = Moment.Serves lu (Serving.Reading link.host.next_seq) in
       kept_sent app link sending k to same k.sizes.host (λ s. steady)
-      (sent_at link sending k.wanted (Moment.Serves lu Serving.Deciding) to same at refl refl at.turn refl refl refl)
+      (sent_at link sending k.wanted (Moment.Serves lu Serving.Deciding) to same at (λ talk is. is) (λ is. is) at.turn refl refl refl)
       (record { decides = f; not_cleared = not_cleared })
       showing.0
 
   acts_at : (lu : List ℕ) (decision : Decision) → link.term.display.shape ≡ link.host.shape → decision_on app link.host link.host.turn_reason ≡ decision → IsAt (view_of link) k.wanted (Moment.Serves lu Serving.Deciding)
-      → Decides (scene_of (view_of link)) link.host.shadow → ShownIn app link.host link.term.display.before_restored link.term.display.last_restored link.term.display.screen Serving.Deciding → Kept app (view_of (host_sent (decided app link.host decision) link))
+      → Decides (scene_of (view_of link)) link.host.shadow → ShownIn app link.term.waits link.host link.term.display.before_restored link.term.display.last_restored link.term.display.screen Serving.Deciding → Kept app (view_of (host_sent (decided app link.host decision) link))
   acts_at lu (Decision.Do Act.Read) steady e at f showing =
       asks lu steady (reads_uncleared app link.host link.host.turn_reason link.term.display.screen.aid f.turn_reason e) at f showing
   acts_at lu (Decision.Do (Act.Show panel message keep values)) steady e at f showing =
@@ -313,7 +306,7 @@ module _ (given : Given) (app : Application) (is : IsApplication app) (link : Li
 
   -- what is answered is shown
   answers_at : (lu : List ℕ) (said : Said) (panel : Option ℕ) → said.panel ≡ panel → is_ask (decision_on app link.host link.host.turn_reason) ≡ true → IsAt (view_of link) k.wanted (Moment.Serves lu Serving.Deciding)
-      → Decides (scene_of (view_of link)) link.host.shadow → ShownIn app link.host link.term.display.before_restored link.term.display.last_restored link.term.display.screen Serving.Deciding
+      → Decides (scene_of (view_of link)) link.host.shadow → ShownIn app link.term.waits link.host link.term.display.before_restored link.term.display.last_restored link.term.display.screen Serving.Deciding
       → Kept app (view_of (sent_view (done app link.host (act_by app link.host said panel)) link))
   answers_at lu said panel is_panel is_asked at f showing = by_panel panel is_panel
     where
@@ -334,27 +327,16 @@ module _ (given : Given) (app : Application) (is : IsApplication app) (link : Li
   data MayAct : Type 0 where
     agreeing : (lu : List ℕ) → IsAt (view_of link) k.wanted (Moment.Talks (Talking.Agreeing lu)) → IsNew (scene_of (view_of link)) → MayAct
     deciding : (lu : List ℕ) → Sizes app (view_of link) (Moment.Serves lu Serving.Deciding) → IsAt (view_of link) k.wanted (Moment.Serves lu Serving.Deciding)
-        → Decides (scene_of (view_of link)) link.host.shadow → ShownIn app link.host link.term.display.before_restored link.term.display.last_restored link.term.display.screen Serving.Deciding → MayAct
+        → Decides (scene_of (view_of link)) link.host.shadow → ShownIn app link.term.waits link.host link.term.display.before_restored link.term.display.last_restored link.term.display.screen Serving.Deciding → MayAct
 
   may_act_at : link.host.turn ≡ whose.Host → link.host.pending ≡ Pending.Nothing → is_agreed link.host.talk.state ≡ true → MayAct
   may_act_at turns pends agrees = by_moment k.moment k.sizes k.at k.fact k.shown
     where
-      not_yet : (moment : Moment) → IsAt (view_of link) k.wanted moment → is_agreed (host_talk_at link.term.display.model moment).state ≡ true
-      not_yet moment at = sym (ap (λ (t : Talk HostState). is_agreed t.state) at.host_talk) ∙ agrees
-
-      by_talk : (talking : Talking) → IsAt (view_of link) k.wanted (Moment.Talks talking) → IsNew (scene_of (view_of link)) → MayAct
-      by_talk (Talking.Agreeing lu) at n = MayAct.agreeing lu at n
-      by_talk Talking.Offering at n = let x = not_yet (Moment.Talks Talking.Offering) at in absurd (cc)
-      by_talk Talking.Accepting at n = let x = not_yet (Moment.Talks Talking.Accepting) at in absurd (cc)
-      by_talk Talking.AskingType at n = let x = not_yet (Moment.Talks Talking.AskingType) at in absurd (cc)
-      by_talk Talking.NamingType at n = let x = not_yet (Moment.Talks Talking.NamingType) at in absurd (cc)
-      by_talk (Talking.Granting lu) at n = let x = not_yet (Moment.Talks (Talking.Granting lu)) at in absurd (cc)
-      by_talk (Talking.AskingFunctions lu) at n = let x = not_yet (Moment.Talks (Talking.AskingFunctions lu)) at in absurd (cc)
-      by_talk (Talking.Rejecting reason) at n = let x = not_yet (Moment.Talks (Talking.Rejecting reason)) at in absurd (cc)
-      by_talk (Talking.Rejected reason) at n = let x = not_yet (Moment.Talks (Talking.Rejected reason)) at in absurd (cc)
+      by_talk : (talking : Talking) → IsAt (view_of link) k.wanted (Moment.Talks talking) → IsNew (scene_of (view_of link)) → (lu : List ℕ) × (talking ≡ Talking.Agreeing lu) → MayAct
+      by_talk talking at n is = MayAct.agreeing is.0 (subst (λ (t : Talking). IsAt (view_of link) k.wanted (Moment.Talks t)) is.1 at) n
 
       by_serving : (lu : List ℕ) (serving : Serving) → Sizes app (view_of link) (Moment.Serves lu serving) → IsAt (view_of link) k.wanted (Moment.Serves lu serving) → Fact k.wanted (scene_of (view_of link)) (Moment.Serves lu serving)
-          → ShownIn app link.host link.term.display.before_restored link.term.display.last_restored link.term.display.screen serving → turn_at (Moment.Serves lu serving) ≡ whose.Host
+          → ShownIn app link.term.waits link.host link.term.display.before_restored link.term.display.last_restored link.term.display.screen serving → turn_at (Moment.Serves lu serving) ≡ whose.Host
           → pending_at (Moment.Serves lu serving) ≡ Pending.Nothing → MayAct
       by_serving lu Serving.Deciding s at f showing t p = MayAct.deciding lu s at f showing
       by_serving lu (Serving.Reading number) s at f showing t p = absurd (cc)
@@ -371,8 +353,8 @@ module _ (given : Given) (app : Application) (is : IsApplication app) (link : Li
       by_serving lu (Serving.KeyBefore number command parts) s at f showing t p = absurd (cc)
 
       by_moment : (moment : Moment) → Sizes app (view_of link) moment → IsAt (view_of link) k.wanted moment → Fact k.wanted (scene_of (view_of link)) moment
-          → ShownAt app link.host link.term.display.before_restored link.term.display.last_restored link.term.display.screen moment → MayAct
-      by_moment (Moment.Talks talking) s at f showing = by_talk talking at f.0
+          → ShownAt app link.term.waits link.host link.term.display.before_restored link.term.display.last_restored link.term.display.screen moment → MayAct
+      by_moment (Moment.Talks talking) s at f showing = by_talk talking at f.0 (agreed_there link.term.display.model talking link.host.talk at.host_talk agrees)
       by_moment (Moment.Begins lu number command wants over) s at f showing = let t = sym at.turn ∙ turns in absurd (cc)
       by_moment (Moment.Serves lu serving) s at f showing = by_serving lu serving s at f showing (sym at.turn ∙ turns) (sym at.pending ∙ pends)
 
@@ -421,7 +403,7 @@ module _ (given : Given) (app : Application) (is : IsApplication app) (link : Li
   -- the host decides, and asks
   abbrev pub Asks : Type 0
   Asks = (lu : List ℕ) × IsAt (view_of link) k.wanted (Moment.Serves lu Serving.Deciding) × Decides (scene_of (view_of link)) link.host.shadow
-      × (is_ask (decision_on app link.host link.host.turn_reason) ≡ true) × ShownIn app link.host link.term.display.before_restored link.term.display.last_restored link.term.display.screen Serving.Deciding
+      × (is_ask (decision_on app link.host link.host.turn_reason) ≡ true) × ShownIn app link.term.waits link.host link.term.display.before_restored link.term.display.last_restored link.term.display.screen Serving.Deciding
 
   asks_then : is_ask (decision_on app link.host link.host.turn_reason) ≡ true → MayAct → Asks
   asks_then is_asked (MayAct.agreeing lu at n) = absurd (agreed_unasked app link.host n.turn_reason is_asked)
@@ -442,73 +424,6 @@ module _ (given : Given) (app : Application) (is : IsApplication app) (link : Li
   asks_deciding open_now =
       asks_by link.host.turn link.host.pending (is_agreed link.host.talk.state) (is_ask (decision_on app link.host link.host.turn_reason)) refl refl refl refl open_now
 
--- ---- the host sends a note
-
-module _ (app : Application) (text : List ℕ) (is : IsNoteText text) (link : Link) (k : Kept app (view_of link)) where
-  abbrev noting : Sending
-  noting = noted_as text link.host
-
-  abbrev command : CommandParts
-  command = note_command link.host.shape text
-
-  same_end : Sends link noting
-  same_end = record { talk = refl; not_cleared = k.at.not_cleared; exact = k.exact }
-
-  is_note : IsNoteOf link.host.shape command
-  is_note = record { text = text; is_text = is; is = refl }
-
-  notes_at : (lu : List ℕ) (from to : Serving) → link.term.display.shape ≡ link.host.shape → IsAt (view_of link) k.wanted (Moment.Serves lu from) → turn_at (Moment.Serves lu from) ≡ turn_at (Moment.Serves lu to)
-      → Pending.Noting link.host.next_seq command ≡ pending_at (Moment.Serves lu to)
-      → served_down from ++ ToTerminal.Note link.host.next_seq command ∷ [] ≡ served_down to → served_up to ≡ served_up from
-      → Fact k.wanted (scene_of (view_of (sent_view noting link))) (Moment.Serves lu to) → ShownIn app noting.conn link.term.display.before_restored link.term.display.last_restored link.term.display.screen to → Kept app (view_of (sent_view noting link))
-  notes_at lu from to steady at turn pending down up fact showing =
-      kept_sent app link noting k (Moment.Serves lu to) same_end k.sizes.host (λ s. steady) (sent_at link noting k.wanted (Moment.Serves lu from) (Moment.Serves lu to) same_end at refl refl (at.turn ∙ turn) pending down up) fact showing
-
-  -- it may do so at two moments alone
-  may_note_at : link.host.turn ≡ whose.Terminal → link.host.pending ≡ Pending.Nothing → Kept app (view_of (sent_view noting link))
-  may_note_at turns pends = by_moment k.moment k.sizes k.at k.fact k.shown
-    where
-      by_serving : (lu : List ℕ) (serving : Serving) → Sizes app (view_of link) (Moment.Serves lu serving) → IsAt (view_of link) k.wanted (Moment.Serves lu serving) → Fact k.wanted (scene_of (view_of link)) (Moment.Serves lu serving)
-          → ShownIn app link.host link.term.display.before_restored link.term.display.last_restored link.term.display.screen serving → turn_at (Moment.Serves lu serving) ≡ whose.Terminal
-          → pending_at (Moment.Serves lu serving) ≡ Pending.Nothing → Kept app (view_of (sent_view noting link))
-      by_serving lu Serving.Operating s at f showing t p =
-          notes_at lu Serving.Operating (Serving.Noting link.host.next_seq command) (s.same refl) at refl refl refl refl
-          (f, is_note) showing
-      by_serving lu (Serving.KeyAlone parts) s at f showing t p =
-          notes_at lu (Serving.KeyAlone parts) (Serving.KeyNoted link.host.next_seq command parts) (s.same refl) at refl refl refl refl
-          (f.0, f.1, record { note = is_note; takes = f.2 }) showing
-      by_serving lu Serving.Deciding s at f showing t p = absurd (cc)
-      by_serving lu (Serving.Reading number) s at f showing t p = absurd (cc)
-      by_serving lu (Serving.Reported number parts) s at f showing t p = absurd (cc)
-      by_serving lu (Serving.NotedLate number command) s at f showing t p = absurd (cc)
-      by_serving lu (Serving.AnsweredLate number command) s at f showing t p = absurd (cc)
-      by_serving lu (Serving.Painting number command wants over) s at f showing t p = absurd (cc)
-      by_serving lu (Serving.Answering Kind.APaint number command) s at f showing t p = absurd (cc)
-      by_serving lu (Serving.Answering Kind.ANote number command) s at f showing t p = absurd (cc)
-      by_serving lu (Serving.Noting number command) s at f showing t p = absurd (cc)
-      by_serving lu (Serving.KeyBehind Kind.APaint number command parts) s at f showing t p = absurd (cc)
-      by_serving lu (Serving.KeyBehind Kind.ANote number command parts) s at f showing t p = absurd (cc)
-      by_serving lu (Serving.KeyNoted number command parts) s at f showing t p = absurd (cc)
-      by_serving lu (Serving.KeyBefore number command parts) s at f showing t p = absurd (cc)
-
-      by_moment : (moment : Moment) → Sizes app (view_of link) moment → IsAt (view_of link) k.wanted moment → Fact k.wanted (scene_of (view_of link)) moment
-          → ShownAt app link.host link.term.display.before_restored link.term.display.last_restored link.term.display.screen moment → Kept app (view_of (sent_view noting link))
-      by_moment (Moment.Talks talking) s at f showing = let t = sym at.turn ∙ turns in absurd (cc)
-      by_moment (Moment.Begins lu number command wants over) s at f showing = let p = sym at.pending ∙ pends in absurd (cc)
-      by_moment (Moment.Serves lu serving) s at f showing = by_serving lu serving s at f showing (sym at.turn ∙ turns) (sym at.pending ∙ pends)
-
-  notes_by : (turn : Turn) (pending : Pending) (agreed : Bool) → link.host.turn ≡ turn → link.host.pending ≡ pending
-      → Kept app (view_of (host_sent (if may_note turn pending agreed then Some (noted_as text link.host) else None) link))
-  notes_by whose.Terminal Pending.Nothing true turns pends = may_note_at turns pends
-  notes_by whose.Terminal Pending.Nothing false turns pends = k
-  notes_by whose.Terminal (Pending.Writing number what) agreed turns pends = k
-  notes_by whose.Terminal (Pending.Reading number) agreed turns pends = k
-  notes_by whose.Terminal (Pending.Noting number what) agreed turns pends = k
-  notes_by whose.Host pending agreed turns pends = k
-
-  pub notes : Kept app (view_of (host_sent (noted text link.host) link))
-  notes = notes_by link.host.turn link.host.pending (is_agreed link.host.talk.state) refl refl
-
 -- ---- a connection that is lost
 
 abbrev without : View → View
@@ -520,7 +435,6 @@ lost_at v wanted moment at = record {
   term_talk = at.term_talk;
   turn = at.turn;
   pending = at.pending;
-  not_cleared = at.not_cleared;
   goes_down = still v.lost v.down (down_at v.model moment) at.goes_down;
   goes_up = still v.lost v.up (up_at v.model wanted moment) at.goes_up;
 }

@@ -23,9 +23,6 @@ use Rattle.shadow.specs.Asked.{belief_with}
 use Rattle.shadow.specs.Belief.{Fact, Belief, Shadow, fields_of}
 use Rattle.shadow.specs.Meets.{FieldMeets, Holds, ListsFields, Meets, told}
 use Rattle.shadow.specs.Pairs.{Pairwise}
-use Rattle.tn3270e_msg.specs.Talk.{Talk}
-use Rattle.tn3270e_msg.specs.TermTable.{Term}
-use Rattle.tn3270e_msg.specs.declared.host_talk.HostState.{HostState}
 use Rattle.host_core.specs.Acts.{Act, Decision, belief_of, decision_on, is_in_doubt, is_settled_fact, learned, text_known, when_shown}
 use Rattle.host_core.specs.Application.{Application, IsApplication, message_place}
 use Rattle.host_core.specs.Questions.{is_ask, is_asking, key_of, question_in, question_on}
@@ -50,6 +47,7 @@ use Rattle.world3270.proofs.Acting.{agreed_unasked, asks_deciding, wanted_in_a_w
 use Rattle.world3270.proofs.Headline.{terminal_attached}
 use Rattle.world3270.proofs.OnScreen.{IsAmong, among_listed, among_painted, among_same, listed-length}
 use Rattle.world3270.proofs.Worlds.{new_good, run_good}
+use Rattle.world3270.proofs.TalkStates.{agreed_on}
 
 -- ---- a text that is known stands on the screen
 
@@ -257,9 +255,9 @@ learned_has shadow (first ∷ panel) values (suc index) field text apart at know
     (λ i j one other below at_i at_j. apart (suc i) (suc j) one other (omega (arith, below)) at_i at_j) at known
 
 -- the panel that is shown has its fields on the screen
-shown_among : (app : Application) → IsApplication app → ShowsItsFields app → (host : Conn) (before left now : Screen) (index : ℕ) (field : PanelField) → ShowsItsPanel app host before left → SamePlaces left.cells now.cells
+shown_among : (app : Application) → IsApplication app → ShowsItsFields app → (waits : Bool) (host : Conn) (before left now : Screen) (index : ℕ) (field : PanelField) → ShowsItsPanel app waits host before left → SamePlaces left.cells now.cells
     → slice_get (app.fields host.panel) index ≡ Some field → IsAmong now.cells field.extent
-shown_among app is shows host before left now index field shown same at =
+shown_among app is shows waits host before left now index field shown same at =
     let wanted : WantedScreen = shown.wanted in
     let way = wanted_in_a_way app (when_shown shown.wanted_for.conn) host.panel host.message shown.wanted_for.keep host.values in
     let keep : Bool = way.0 in
@@ -316,8 +314,8 @@ asked_seen given app is link k number session question asked =
     let there = question_is (is_asking app link.host) (agreed_lu link.host.talk.state) (question_on app session link.host) question asked in
     let asks = asks_deciding given app is link k there.0 in
     let lu : List ℕ = asks.0 in
-    let host_is : agreed_lu link.host.talk.state ≡ Some lu = ap (λ (t : Talk HostState). agreed_lu t.state) asks.1.host_talk in
-    let term_is : bound_to link.term.talk.talk.state ≡ Some lu = ap (λ (t : Term). bound_to t.talk.state) asks.1.term_talk in
+    let host_is : agreed_lu link.host.talk.state ≡ Some lu = agreed_on link.host.talk asks.1.host_talk in
+    let term_is : bound_to link.term.talk.talk.state ≡ Some lu = ap bound_to asks.1.term_talk in
     let seen_on : IsSeen (app.fields link.host.panel) (question_on app session link.host there.1) (end_seen number link.term) =
     record {
       key = asked_key app link.host link.host.turn_reason link.term.display.screen.aid refl asks.2.turn_reason asks.3;
@@ -340,12 +338,12 @@ each_asked given app is shows link k session question asked =
     let conn : Conn = link.host in
     let screen : Screen = link.term.display.screen in
     let uncleared : screen.aid ≡ Clear → ⊥ = asked_uncleared app conn conn.turn_reason screen.aid asks.2.turn_reason asks.3 in
-    let shown : ShowsItsPanel app conn link.term.display.before_restored link.term.display.last_restored = asks.4.0 (asked_later app conn asks.3) in
+    let shown : ShowsItsPanel app link.term.waits conn link.term.display.before_restored link.term.display.last_restored = asks.4.0 (asked_later app conn asks.3) in
     let same : SamePlaces link.term.display.last_restored.cells screen.cells = (k.unreturned uncleared).places in
     let sure = asked_sure app conn conn.turn_reason asks.4.1 asks.3 in
     let on_it : AreFieldsAsked (app.fields conn.panel) (question_on app session conn there.1) screen =
     λ index field at.
-    let among : IsAmong screen.cells field.extent = shown_among app is shows conn link.term.display.before_restored link.term.display.last_restored screen index field shown same at in
+    let among : IsAmong screen.cells field.extent = shown_among app is shows link.term.waits conn link.term.display.before_restored link.term.display.last_restored screen index field shown same at in
     let told : IsTextOf (belief_of conn.shadow field) = text_of conn.shadow screen (app.fields conn.panel) index field asks.2.sees.lists asks.2.sees.meets among at sure in
     let stands : StandsAt field told.0 screen = stands_at conn.shadow screen field told.0 asks.2.sees.meets told.1 in
     record {

@@ -278,12 +278,12 @@ keep_alive_goes known number begin events old answer new is reached real place h
 
 -- ---- what the host does
 
-acting : (app : Application) (service : Service) (sending : Sent) → acted_by app service ≡ Some sending → (is_there service ≡ true) × (acted app (conn_of service) ≡ Some sending)
+pub acting : (app : Application) (service : Service) (sending : Sent) → acted_by app service ≡ Some sending → (is_there service ≡ true) × (acted app (conn_of service) ≡ Some sending)
 acting app Service.Free sending is = absurd (cc)
 acting app (Service.Open rest conn) sending is = (refl, is)
 acting app (Service.Closed cause) sending is = absurd (cc)
 
-noting : (text : List ℕ) (service : Service) (sending : Sent) → noted_by text service ≡ Some sending → (is_there service ≡ true) × (noted text (conn_of service) ≡ Some sending)
+pub noting : (text : List ℕ) (service : Service) (sending : Sent) → noted_by text service ≡ Some sending → (is_there service ≡ true) × (noted text (conn_of service) ≡ Some sending)
 noting text Service.Free sending is = absurd (cc)
 noting text (Service.Open rest conn) sending is = (refl, is)
 noting text (Service.Closed cause) sending is = absurd (cc)
@@ -299,27 +299,27 @@ decided_sent app conn true (Decision.Do act) sending is = (act, cc)
 decided_sent app conn true Decision.Asks sending is = absurd (cc)
 decided_sent app conn false decision sending is = absurd (cc)
 
-act_sent : (app : Application) (conn : Conn) (sending : Sent) → acted app conn ≡ Some sending → (act : Act) × (sending ≡ done_act app conn act)
+pub act_sent : (app : Application) (conn : Conn) (sending : Sent) → acted app conn ≡ Some sending → (act : Act) × (sending ≡ done_act app conn act)
 act_sent app conn sending is = decided_sent app conn (may_act conn.turn conn.pending (is_agreed conn.talk.state)) (decision_on app conn conn.turn_reason) sending is
 
 if_some : (b : Bool) (what : Option Sent) (sending : Sent) → (if b then what else None) ≡ Some sending → what ≡ Some sending
 if_some true what sending is = is
 if_some false what sending is = absurd (cc)
 
-answering : (app : Application) (session : ℕ) (ticket : Ticket) (said : Said) (service : Service) (sending : Sent) → answered_by app session ticket said service ≡ Some sending
+pub answering : (app : Application) (session : ℕ) (ticket : Ticket) (said : Said) (service : Service) (sending : Sent) → answered_by app session ticket said service ≡ Some sending
     → (is_there service ≡ true) × (answered_on app (conn_of service) said ≡ Some sending)
 answering app session ticket said Service.Free sending is = absurd (cc)
 answering app session ticket said (Service.Open rest conn) sending is = (refl, if_some (is_ticket ticket (ticket_of session conn)) (answered_on app conn said) sending is)
 answering app session ticket said (Service.Closed cause) sending is = absurd (cc)
 
-answer_sent : (app : Application) (conn : Conn) (said : Said) (sending : Sent) → answered_on app conn said ≡ Some sending → sending ≡ done_act app conn (act_by app conn said said.panel)
+pub answer_sent : (app : Application) (conn : Conn) (said : Said) (sending : Sent) → answered_on app conn said ≡ Some sending → sending ≡ done_act app conn (act_by app conn said said.panel)
 answer_sent app conn said sending is = only_if (is_asking app conn && has_its_panel app said) (done_act app conn (act_by app conn said said.panel)) sending is
 
-note_sent : (text : List ℕ) (conn : Conn) (sending : Sent) → noted text conn ≡ Some sending → sending ≡ noted_as text conn
+pub note_sent : (text : List ℕ) (conn : Conn) (sending : Sent) → noted text conn ≡ Some sending → sending ≡ noted_as text conn
 note_sent text conn sending is = only_if (may_note conn.turn conn.pending (is_agreed conn.talk.state)) (noted_as text conn) sending is
 
 -- an act's command fits where it is sent
-act_suits : (size : Shape) (shadow : Shadow) (message : ToTerminal) → PaintsWhatFits size shadow message → Suits message
+pub act_suits : (size : Shape) (shadow : Shadow) (message : ToTerminal) → PaintsWhatFits size shadow message → Suits message
 act_suits size shadow (ToTerminal.TalksDown saying) paints = absurd paints
 act_suits size shadow (ToTerminal.Paint number wanted over) paints = subst (λ (s : Shadow). is_paintable s wanted ≡ true) (sym paints.1) paints.0.fits
 act_suits size shadow (ToTerminal.ReadBuffer number) paints = tt

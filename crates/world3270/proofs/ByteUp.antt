@@ -7,12 +7,9 @@ use Rattle.std.proofs.lemmas.List.Elements.{All-nil}
 use Rattle.lu_pool.specs.Asking.{answer_to}
 use Rattle.lu_pool.specs.Holders.{granted_if}
 use Rattle.lu_pool.specs.declared.entry.Entry.{Entry}
-use Rattle.shadow.specs.Pairs.{Pairwise}
-use Rattle.telnet_wire.specs.Items.{WireItem, CanCome, sent_bytes}
+use Rattle.telnet_wire.specs.Items.{WireItem, sent_bytes}
 use Rattle.telnet_wire.specs.Reading.{Rest, nothing, Delivers, GoesWrong}
-use Rattle.telnet_wire.specs.declared.wire.WireFault.{WireFault}
 use Rattle.tn3270e_msg.specs.Header.{record_limit}
-use Rattle.tn3270e_msg.specs.Talk.{Saying, item_of}
 use Rattle.tn3270e_msg.specs.declared.cause.Cause.{Cause}
 use Rattle.tn3270e_msg.specs.declared.cause.Stop.{Stop}
 use Rattle.tn3270e_msg.specs.declared.cause.Stop.TheVariants.{Going, Memory, Closed as ClosedStop}
@@ -20,7 +17,7 @@ use Rattle.host_core.specs.Application.{application_of}
 use Rattle.host_core.specs.Bytes.{Counter, TakesByte, TakesBytes, service_after, stepped}
 use Rattle.host_core.specs.Feeds.{IsOpen, StopsFor, counter_at}
 use Rattle.host_core.specs.Items.{TakesItem}
-use Rattle.host_core.specs.Messages.{ToTerminal, ToHost}
+use Rattle.host_core.specs.Messages.{ToHost}
 use Rattle.host_core.specs.Says.{item_sent}
 use Rattle.host_core.specs.Session.{Conn}
 use Rattle.host_core.specs.State.{Host, Service, most_connections, service_at}
@@ -34,70 +31,29 @@ use Rattle.world3270.specs.Happens.{closed_if, host_took_it, came_up}
 use Rattle.world3270.specs.Link.{Link, sent, host_left_if}
 use Rattle.world3270.specs.Placed.{is_queued, has_place as has_place_over_messages}
 use Rattle.world3270.specs.Places.{EndsAgree}
+use Rattle.world3270.specs.Readings.{MayComeUp}
 use Rattle.world3270.specs.Refines.{Begin, IsBegin, Reached, after}
 use Rattle.world3270.specs.Sendable.{IsTyped}
 use Rattle.world3270.specs.Standing.{WorldStands, IsNotClosed, conn_of, rest_of, link_of}
-use Rattle.world3270.specs.Stands.{StandsDown, StandsUp, BytesUp, ByteLink, LinkStands, all_items}
-use Rattle.world3270.specs.StandsEnds.{IsSaid}
-use Rattle.world3270.specs.StandsLinks.{MayComeAll, HostSends, said_down, sent_down, NoneCloses}
-use Rattle.world3270.specs.Terminal.{TermEnd, took as term_took}
+use Rattle.world3270.specs.Stands.{StandsUp, LinkStands, all_items}
+use Rattle.world3270.specs.StandsLinks.{MayComeAll, NoneCloses}
 use Rattle.world3270.specs.World.{World, Event as MessageEvent, with_at}
 use Rattle.world3270.specs.declared.event.Event.TheVariants as event
 use Rattle.world3270.specs.declared.event.Stepped.{Stepped}
 use Rattle.world3270.proofs.Completed.{IsTaken, host_rest_is, more_delivered, none_delivered, taken_is}
 use Rattle.world3270.proofs.Frames.{connection_within, way_within}
-use Rattle.world3270.proofs.HostItems.{IsSaidUp, IsAwaited, host_takes}
+use Rattle.world3270.proofs.HostItems.{host_reads, stands_read}
 use Rattle.world3270.proofs.HostSteps.{just_talks}
+use Rattle.world3270.proofs.LinkUp.{link_behind, never_wrong, none_first, one_first, sends_stand}
 use Rattle.world3270.proofs.Known.{Facts, Goes, facts_now, facts_once, reached_more, reached_one, reached_still}
 use Rattle.world3270.proofs.OneOfMany.{with_other, with_same}
 use Rattle.world3270.proofs.Queues.{not_empty, nothing_sent}
-use Rattle.world3270.proofs.SaidUp.{all_said_up}
-use Rattle.world3270.proofs.StandsFits.{payload_fits}
-use Rattle.world3270.proofs.StandsLinks.{none_for_none, up_behind_rest}
-use Rattle.world3270.proofs.UnderWay.{lost_says}
+use Rattle.world3270.proofs.SaidUp.{IsSaidUp, all_said_up}
 use Rattle.world3270.proofs.UpCame.{Taken, heard, one_stood, host_is, counter_is, took_up, took_none, took_next}
-
--- ---- what a host says to a message
-
--- it is nothing but talk, each of its items stands for its saying, and may come where the sayings may
-talk_stands : (talk : List Saying) → Pairwise StandsDown (map item_sent (map ToTerminal.TalksDown talk)) (map ToTerminal.TalksDown talk)
-talk_stands [] = tt
-talk_stands (saying ∷ talk) = (refl, talk_stands talk)
-
-saying_comes : (saying : Saying) → IsSaid saying → CanCome record_limit (item_of saying)
-saying_comes (Saying.Opt verb code) is = tt
-saying_comes (Saying.Sub sending) is = payload_fits sending is
-
-talk_comes : (talk : List Saying) (end : TermEnd) → MayComeAll end (map ToTerminal.TalksDown talk)
-    → AllByRecursion (CanCome record_limit) (map item_sent (map ToTerminal.TalksDown talk))
-talk_comes [] end may = tt
-talk_comes (saying ∷ talk) end may = (saying_comes saying may.1.0, talk_comes talk (term_took end (ToTerminal.TalksDown saying)).end may.2)
-
--- what may come behind others may come once these came
-may_behind : (front back : List ToTerminal) (end : TermEnd) → MayComeAll end (front ++ back) → (other : TermEnd) × MayComeAll other back
-may_behind [] back end may = (end, may)
-may_behind (message ∷ front) back end may = may_behind front back (term_took end message).end may.2
-
-sends_stand : HostSends → (bytes : ByteLink) (link : Link) (conn : Conn) (sends : List ToTerminal) (talk : List Saying) → sends ≡ map ToTerminal.TalksDown talk
-    → LinkStands bytes link → MayComeAll link.term (sent link.lost link.down sends)
-    → LinkStands (said_down conn (map item_sent sends) bytes) (sent_down conn sends link)
-sends_stand host_sends bytes link conn sends talk says stands may = by_lost link.lost refl
-  where
-    by_lost : (lost : Bool) → link.lost ≡ lost → LinkStands (said_down conn (map item_sent sends) bytes) (sent_down conn sends link)
-    by_lost true e = lost_says host_sends bytes link conn (map item_sent sends) sends stands e
-    by_lost false e =
-        let all = may_behind link.down sends link.term (subst (λ (l : Bool). MayComeAll link.term (sent l link.down sends)) e may) in
-        host_sends bytes link conn (map item_sent sends) sends stands
-        (subst (λ (m : List ToTerminal). AllByRecursion (CanCome record_limit) (map item_sent m)) (sym says)
-        (talk_comes talk all.0 (subst (λ (m : List ToTerminal). MayComeAll all.0 m) says all.1)))
-        (subst (λ (m : List ToTerminal). Pairwise StandsDown (map item_sent m) m) (sym says) (talk_stands talk))
 
 -- ---- the world over messages, behind one delivery
 
--- the connection, and the world, once the host took a message and goes on
-abbrev link_behind : HostStep → List ToHost → Link → Link
-link_behind step others link = record link { up = others; host = step.conn; down = sent link.lost link.down step.sends }
-
+-- the host took a message, and goes on
 abbrev world_behind : ℕ → HostStep → List ToHost → World → World
 world_behind number step others world = record world {
   pool = granted_if number step.grants world.pool;
@@ -131,11 +87,11 @@ record OneByte (begin : Begin) (events : List MessageEvent) (number byte : ℕ) 
   there : terminal_at number (took_up 1 number counter old).slots ≡ terminal_at number old.slots
   queue : up_of number (took_up 1 number counter old) ≡ drop 1 (up_of number old)
 
-awaited : (world : World) (number : ℕ) (message : ToHost) (others : List ToHost) → FormsAreAwaited world → (world.link number).up ≡ message ∷ others
-    → IsAwaited (world.link number).host message
-awaited world number (ToHost.TalksUp saying) others forms e = tt
-awaited world number (ToHost.Data parts) others forms e = forms number parts others e
-awaited world number (ToHost.Response answers verdict) others forms e = tt
+may_come_up : (world : World) (number : ℕ) (message : ToHost) (others : List ToHost) → FormsAreAwaited world → IsSaidUp message → (world.link number).up ≡ message ∷ others
+    → MayComeUp (world.link number).host message
+may_come_up world number (ToHost.TalksUp saying) others forms said e = said
+may_come_up world number (ToHost.Data parts) others forms said e = inl (forms number parts others e)
+may_come_up world number (ToHost.Response answers verdict) others forms said e = tt
 
 module _ (known : Known) (begin : Begin) (is : IsBegin begin) (events : List MessageEvent) (old : ByteWorld) (reached : Reached begin events old)
     (number : ℕ) (below : number < most_connections) (there : host_there number old ≡ true) where
@@ -173,9 +129,7 @@ module _ (known : Known) (begin : Begin) (is : IsBegin begin) (events : List Mes
       → counter ≡ record { pool = old.host.pool; connection = record (counter_at number old.host).connection { service = Service.Open to conn } }
       → OneByte begin events number byte counter old
   nothing_completes byte behind counter rest to conn queue held delivers is_counter =
-      let came = known.links.up (link_of number old) link (byte ∷ []) behind [] to (stands.links number) host_here queue
-      (subst (λ (r : Rest). Delivers record_limit r (byte ∷ []) [] to) (sym (ap rest_of held)) delivers) in
-      let others : came.others ≡ link.up = sym (came.whole ∙ ap (λ (m : List ToHost). m ++ came.others) (none_for_none StandsUp came.taken came.each)) in
+      let read = subst (λ (r : Rest). Delivers record_limit r (byte ∷ []) [] to) (sym (ap rest_of held)) delivers in
       let bytes_behind : behind ≡ drop 1 (up_of number old) = sym (ap (drop 1) queue) in
       let taken : Taken number counter old world world = record {
         rest = to;
@@ -196,7 +150,7 @@ module _ (known : Known) (begin : Begin) (is : IsBegin begin) (events : List Mes
         stands = subst (λ (d : List ℕ). LinkStands (record (link_of number old) { host_rest = to; up = drop 1 (up_of number old); down = d }) link)
             (sym (nothing_sent (link_of number old).lost (down_of number old)))
             (subst (λ (u : List ℕ). LinkStands (record (link_of number old) { host_rest = to; up = u }) link) bytes_behind
-            (subst (λ (m : List ToHost). LinkStands (record (link_of number old) { host_rest = to; up = behind }) (record link { up = m })) others came.stands));
+            (none_first known.links.up (link_of number old) link byte behind to (stands.links number) host_here queue read));
       } in
       let stood = one_stood number counter old world world taken known_here.agree known_here.agree stands in
       record {
@@ -204,7 +158,7 @@ module _ (known : Known) (begin : Begin) (is : IsBegin begin) (events : List Mes
         completed = record {
           completed = [];
           behind = to;
-          delivers = subst (λ (r : Rest). Delivers record_limit r (byte ∷ []) [] to) (sym (ap rest_of held)) delivers;
+          delivers = read;
           one_each = refl;
         };
         behind = ap rest_of taken.service;
@@ -257,9 +211,9 @@ module _ (known : Known) (begin : Begin) (is : IsBegin begin) (events : List Mes
     step_is item done stand taken =
         let said = subst (λ (m : List ToHost). AllByRecursion IsSaidUp m) e
         (all_said_up (application_of begin.panels) begin.serves begin.pool begin.models events reached.are_events number) in
-        let waited = subst (λ (c : Conn). IsAwaited c message) (sym conn_is) (awaited world number message others known_here.forms e) in
-        host_takes known.links.one_header known.links.fault_or_header known.links.one_inbound (answer_to old.host.pool) (conn_of (service_at number old.host))
-        item message done stand said.0 waited taken
+        let may = subst (λ (c : Conn). MayComeUp c message) (sym conn_is) (may_come_up world number message others known_here.forms said.0 e) in
+        host_reads known.links.one_header known.links.fault_or_header known.links.one_inbound (answer_to old.host.pool) (conn_of (service_at number old.host))
+        item message done (stands_read item message stand) may taken
         ∙ ap (λ (c : Conn). host_took (answer_to old.host.pool) c message) conn_is
         ∙ ap (λ (p : List Entry). host_took (answer_to p) link.host message) stands.pool
 
@@ -316,31 +270,12 @@ module _ (known : Known) (begin : Begin) (is : IsBegin begin) (events : List Mes
       → TakesItem (answer_to old.host.pool) conn item done → counter ≡ stepped number to done (counter_at number old.host)
       → OneByte begin events number byte counter old
   something_completes byte behind counter rest to conn item done queue held delivers item_taken is_counter =
-      let came = known.links.up (link_of number old) link (byte ∷ []) behind (item ∷ []) to (stands.links number) host_here queue read in
-      by_taken came.taken came.others came.whole came.each came.stands
-    where
-      read : Delivers record_limit (host_rest number old) (byte ∷ []) (item ∷ []) to
-      read = subst (λ (r : Rest). Delivers record_limit r (byte ∷ []) (item ∷ []) to) (sym (ap rest_of held)) delivers
-
-      by_taken : (taken others : List ToHost) → link.up ≡ taken ++ others → Pairwise StandsUp (item ∷ []) taken
-          → LinkStands (record (link_of number old) { host_rest = to; up = behind }) (record link { up = others }) → OneByte begin events number byte counter old
-      by_taken [] others whole each stood = absurd each
-      by_taken (message ∷ []) others whole each stood =
-          item_completes message others whole item done byte behind to counter queue read each.0
-          (subst (λ (c : Conn). TakesItem (answer_to old.host.pool) c item done) (sym (ap conn_of held)) item_taken) stood is_counter
-      by_taken (message ∷ other ∷ more) others whole each stood = absurd each.1
+      let read = subst (λ (r : Rest). Delivers record_limit r (byte ∷ []) (item ∷ []) to) (sym (ap rest_of held)) delivers in
+      let first = one_first known.links.up (link_of number old) link byte behind to (stands.links number) host_here queue item read in
+      item_completes first.message first.others first.whole item done byte behind to counter queue read first.is
+      (subst (λ (c : Conn). TakesItem (answer_to old.host.pool) c item done) (sym (ap conn_of held)) item_taken) first.stands is_counter
 
   -- ---- any byte
-
-  -- bytes under way are read without fault
-  not_wrong : (byte : ℕ) (behind : List ℕ) (rest : Rest) (conn : Conn) (fault : WireFault) → up_of number old ≡ byte ∷ behind
-      → service_at number old.host ≡ Service.Open rest conn → GoesWrong record_limit rest (byte ∷ []) fault → ⊥
-  not_wrong byte behind rest conn fault queue held wrong =
-      let up = up_behind_rest (link_of number old) link (stands.links number) host_here in
-      let spelt : BytesUp rest (byte ∷ behind) link.up =
-      subst (λ (r : Rest). BytesUp r (byte ∷ behind) link.up) (ap rest_of held)
-      (subst (λ (b : List ℕ). BytesUp (rest_of (service_at number old.host)) b link.up) queue up) in
-      known.links.wrong_is_final record_limit rest (byte ∷ []) behind fault spelt.delivers.tokens nothing wrong spelt.delivers.reads spelt.delivers.is_rest
 
   one_byte : (byte : ℕ) (behind : List ℕ) (counter : Counter) → up_of number old ≡ byte ∷ behind → TakesByte number (counter_at number old.host) byte counter
       → OneByte begin events number byte counter old
@@ -348,7 +283,9 @@ module _ (known : Known) (begin : Begin) (is : IsBegin begin) (events : List Mes
       nothing_completes byte behind counter rest to conn queue held delivers is_counter
   one_byte byte behind counter queue (TakesByte.completes rest to conn item done held delivers item_taken is_counter) =
       something_completes byte behind counter rest to conn item done queue held delivers item_taken is_counter
-  one_byte byte behind counter queue (TakesByte.breaks rest conn fault held wrong is_counter) = absurd (not_wrong byte behind rest conn fault queue held wrong)
+  one_byte byte behind counter queue (TakesByte.breaks rest conn fault held wrong is_counter) =
+      absurd (never_wrong known.links.wrong_is_final (link_of number old) link byte behind fault (stands.links number) host_here queue
+      (subst (λ (r : Rest). GoesWrong record_limit r (byte ∷ []) fault) (sym (ap rest_of held)) wrong))
 
 -- ---- bytes, one after another
 

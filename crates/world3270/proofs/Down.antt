@@ -8,7 +8,6 @@ use Rattle.std.specs.Str.{bytes_eq}
 use Rattle.std.proofs.lemmas.Bool.{eqb-true}
 use Rattle.std.proofs.lemmas.List.{length-replicate}
 use Rattle.std.proofs.lemmas.List.Elements.{All-nil, All-cons}
-use Rattle.codes3270.specs.Aid.{is_short_aid}
 use Rattle.codes3270.specs.Size.{Shape, cells_in}
 use Rattle.codes3270.specs.declared.attention.Aid.{Aid}
 use Rattle.codes3270.specs.declared.attention.Aid.TheVariants.{NoAid, Enter, Clear, Pf, Pa}
@@ -27,21 +26,22 @@ use Rattle.datastream.specs.declared.wanted.Want.TheVariants.{Char as WantChar, 
 use Rattle.shadow.specs.Belief.{Shadow}
 use Rattle.shadow.specs.Exactness.{KnownIsExact, ProtectedIsExact}
 use Rattle.shadow.specs.Heard.{heard}
+use Rattle.shadow.specs.Laws.{Believed}
 use Rattle.shadow.specs.Meets.{Meets, Knows}
 use Rattle.shadow.specs.Notes.{OverwritesProtected}
 use Rattle.shadow.specs.Openness.{IsNotOpen, NothingIsOpen}
 use Rattle.shadow.specs.Paint.{paint}
 use Rattle.shadow.specs.Painted.{cells_under, painted_from, plainly_painted}
 use Rattle.shadow.specs.Taken.{taken}
-use Rattle.telnet_wire.specs.declared.wire.Verb.TheVariants.{Will, Do}
 use Rattle.tn3270e_msg.specs.Lu.{lu_of}
 use Rattle.tn3270e_msg.specs.Talk.{Comes, Talk, start_at, follow, Saying, says, sayings, closing}
 use Rattle.tn3270e_msg.specs.TermTable.{Term, term_transition, grant_transition}
 use Rattle.tn3270e_msg.specs.declared.reply.Reply.{Reply}
 use Rattle.tn3270e_msg.specs.declared.reply.Reply.TheVariants as reply
 use Rattle.tn3270e_msg.specs.declared.reply.After.TheVariants.{Going}
-use Rattle.tn3270e_msg.specs.declared.reply.OwnedMessage.TheVariants.{SendType, TypeRequest, TypeIs, TypeReject, FunRequest, FunIs}
+use Rattle.tn3270e_msg.specs.declared.reply.OwnedMessage.TheVariants.{TypeIs, FunRequest, FunIs}
 use Rattle.tn3270e_msg.specs.declared.term_talk.TermState.{TermState}
+use Rattle.tn3270e_msg.specs.declared.host_talk.HostState.{HostState}
 use Rattle.tn3270e_msg.specs.declared.term_talk.TermState.TheVariants.{TypeAsked, FunctionsAsked, Agreed, Closed}
 use Rattle.tn3270e_msg.proofs.Agreement.{responses_alone, same_bytes}
 use Rattle.host_core.specs.Application.{Application, IsShape, IsApplication, IsSizeOf, message_place}
@@ -56,14 +56,15 @@ use Rattle.world3270.specs.Given.{Given}
 use Rattle.world3270.specs.Happens.{verdict_in}
 use Rattle.world3270.specs.Headline.{SentFields}
 use Rattle.world3270.specs.Showing.{WantsItsPanelOn}
+use Rattle.world3270.specs.AsLeft.{ProtectedIsAsLeft}
 use Rattle.world3270.specs.Unreturned.{UnmodifiedIsKept}
 use Rattle.world3270.specs.Link.{Link, sent}
-use Rattle.world3270.specs.Moments.{Kind, Talking, Serving, Moment, UnderWay, IsAt, host_talk_at, term_state_at, turn_at, pending_at, down_at, up_at}
-use Rattle.world3270.specs.TurnReasons.{IsOccasion, IsCursorFor, IsOpenBy, IsOpenFor, IsCleared}
-use Rattle.world3270.specs.Stages.{scene_of, once_taken, FactsAreExact, Suits, IsPainted, Operates, Sees, IsRead, Fact, Kept, Sizes, may_differ_at, IsKnownIfRead, ShownAt}
-use Rattle.world3270.specs.Terminal.{TermStep, with_talk, is_bound, bound_to, once_bound, paint_came, note_came, read_came, talked, took}
+use Rattle.world3270.specs.Moments.{Kind, Serving, Moment, UnderWay, IsAt, IsHostTalk, IsTermTalk, talk_in, turn_at, pending_at, down_at, up_at}
+use Rattle.world3270.specs.TurnReasons.{IsOpenBy, IsOpenFor, IsCleared}
+use Rattle.world3270.specs.Stages.{scene_of, once_taken, FactsAreExact, Suits, IsPainted, Operates, Sees, IsRead, Fact, Kept, may_differ_at, ShownAt}
+use Rattle.world3270.specs.Terminal.{TermEnd, TermStep, with_talk, is_bound, bound_to, once_bound, paint_came, note_came, read_came, talked, took}
 use Rattle.world3270.specs.View.{view_of}
-use Rattle.world3270.proofs.Queues.{more, front, nothing}
+use Rattle.world3270.proofs.Queues.{more}
 use Rattle.world3270.proofs.Unreturned.{all_as_left, all_kept, as_left_noted, noted_on, kept_noted, kept_bare, still_bare, still_one}
 
 -- the connection once the terminal took the message before the rest
@@ -79,57 +80,57 @@ pub record Obeyed (app : Application) (link : Link) (rest : List ToTerminal) (st
 
 -- what the terminal's step makes of the moment: the host's end stays as it is
 pub record Leads (model : Model) (wanted : Option (List ℕ)) (from to : Moment) (sends : List ToHost) : Type 0 where
-  pub host_talk : host_talk_at model to ≡ host_talk_at model from
+  pub host_talk : (talk : Talk HostState) → IsHostTalk model from talk → IsHostTalk model to talk
   pub turn : turn_at to ≡ turn_at from
   pub pending : pending_at to ≡ pending_at from
   pub up : up_at model wanted from ++ sends ≡ up_at model wanted to
 
 leads : (link : Link) (step : TermStep) (rest : List ToTerminal) (wanted : Option (List ℕ)) (from to : Moment) → step.end.display.model ≡ link.term.display.model
     → IsAt (view_of link) wanted from → Leads link.term.display.model wanted from to step.sends
-    → step.end.talk ≡ record { model = link.term.display.model; wanted = wanted; talk = start_at (term_state_at to) } → UnderWay link.lost rest (down_at link.term.display.model to)
+    → IsTermTalk link.term.display.model wanted to step.end.talk → UnderWay link.lost rest (down_at link.term.display.model to)
     → IsAt (view_of (term_view step rest link)) wanted to
 leads link step rest wanted from to same at l talk left =
     let model : Model = link.term.display.model in
     subst (λ (m : Model). IsAt (record (view_of (term_view step rest link)) { model = m }) wanted to) (sym same) (record {
-      host_talk = at.host_talk ∙ sym l.host_talk;
+      host_talk = l.host_talk link.host.talk at.host_talk;
       term_talk = talk;
       turn = at.turn ∙ sym l.turn;
       pending = at.pending ∙ sym l.pending;
-      not_cleared = at.not_cleared;
       goes_down = left;
       goes_up = subst (UnderWay link.lost (sent link.lost link.up step.sends)) l.up (more link.lost link.up (up_at model wanted from) step.sends at.goes_up);
     })
 
 -- ---- the talk
 
-abbrev talk_step : Link → TermState → List ToHost → TermStep
-talk_step link state sends = record { end = with_talk link.term (start_at state); sends = sends; closes = None }
+abbrev pub talk_step : Link → Talk TermState → List ToHost → TermStep
+talk_step link next sends = record { end = with_talk link.term next; sends = sends; closes = None }
 
 -- a line of the terminal's table, that leads to a state with a reply
-record TalkTransition (model : Model) (wanted : Option (List ℕ)) (state : TermState) (saying : Saying) (next : TermState) (sends : List ToHost) : Type 0 where
-  reply : Reply
-  leads : follow Closed (start_at state) (term_transition model wanted state (says saying)) ≡ (start_at next, reply)
-  quiet : closing reply ≡ None
-  sends_is : map ToHost.TalksUp (sayings reply) ≡ sends
+pub record TalkTransition (term : Term) (saying : Saying) (next : Talk TermState) (sends : List ToHost) : Type 0 where
+  pub reply : Reply
+  pub leads : follow Closed term.talk (term_transition term.model term.wanted term.talk.state (says saying)) ≡ (next, reply)
+  pub quiet : closing reply ≡ None
+  pub sends_is : map ToHost.TalksUp (sayings reply) ≡ sends
 
-talk_took : (link : Link) (model : Model) (wanted : Option (List ℕ)) (state next : TermState) (saying : Saying) (sends : List ToHost) → link.term.talk ≡ record { model = model; wanted = wanted; talk = start_at state }
-    → TalkTransition model wanted state saying next sends → took link.term (ToTerminal.TalksDown saying) ≡ talk_step link next sends
-talk_took link model wanted state next saying sends e transition =
+talk_took : (link : Link) (term : Term) (next : Talk TermState) (saying : Saying) (sends : List ToHost) → link.term.talk ≡ term
+    → TalkTransition term saying next sends → took link.term (ToTerminal.TalksDown saying) ≡ talk_step link next sends
+talk_took link term next saying sends e transition =
     ap (λ (t : Term). talked link.term t saying) e
     ∙ ap (λ (p : Talk TermState × Reply). record { end = with_talk link.term p.0; sends = map ToHost.TalksUp (sayings p.1); closes = closing p.1 }) transition.leads
-    ∙ ap (λ c. record { end = with_talk link.term (start_at next); sends = map ToHost.TalksUp (sayings transition.reply); closes = c }) transition.quiet
-    ∙ ap (λ s. record { end = with_talk link.term (start_at next); sends = s; closes = None }) transition.sends_is
+    ∙ ap (λ c. record { end = with_talk link.term next; sends = map ToHost.TalksUp (sayings transition.reply); closes = c }) transition.quiet
+    ∙ ap (λ s. record { end = with_talk link.term next; sends = s; closes = None }) transition.sends_is
 
 -- the talk moves on
-talks : (app : Application) (link : Link) (rest : List ToTerminal) (k : Kept app (view_of link)) (from to : Moment) (saying : Saying) (sends : List ToHost) (message : ToTerminal)
+pub talks : (app : Application) (link : Link) (rest : List ToTerminal) (k : Kept app (view_of link)) (from to : Moment) (term : Term) (next : Talk TermState) (saying : Saying) (sends : List ToHost) (message : ToTerminal)
     → (may_differ_at to ≡ false → link.term.display.shape ≡ link.host.shape)
-    → IsAt (view_of link) k.wanted from → message ≡ ToTerminal.TalksDown saying → TalkTransition link.term.display.model k.wanted (term_state_at from) saying (term_state_at to) sends
+    → IsAt (view_of link) k.wanted from → link.term.talk ≡ term → message ≡ ToTerminal.TalksDown saying → TalkTransition term saying next sends
+    → IsTermTalk link.term.display.model k.wanted to (record link.term.talk { talk = next })
     → Leads link.term.display.model k.wanted from to sends → list_any is_negative (filter_map verdict_in sends) ≡ false → UnderWay link.lost rest (down_at link.term.display.model to)
-    → Fact k.wanted (scene_of (view_of (term_view (talk_step link (term_state_at to) sends) rest link))) to → ShownAt app link.host link.term.display.before_restored link.term.display.last_restored link.term.display.screen to
+    → Fact k.wanted (scene_of (view_of (term_view (talk_step link next sends) rest link))) to → ShownAt app link.term.waits link.host link.term.display.before_restored link.term.display.last_restored link.term.display.screen to
     → Obeyed app link rest (took link.term message)
-talks app link rest k from to saying sends message same at is transition l positive left fact shown =
+talks app link rest k from to term next saying sends message same at talk is transition then_talk l positive left fact shown =
     subst (λ m. Obeyed app link rest (took link.term m)) (sym is)
-    (subst (Obeyed app link rest) (sym (talk_took link link.term.display.model k.wanted (term_state_at from) (term_state_at to) saying sends at.term_talk transition))
+    (subst (Obeyed app link rest) (sym (talk_took link term next saying sends talk transition))
     (record {
       kept = record {
         whole = k.whole;
@@ -140,7 +141,7 @@ talks app link rest k from to saying sends message same at is transition l posit
         wanted = k.wanted;
         moment = to;
         sizes = record { host = k.sizes.host; screen = k.sizes.screen; same = same };
-        at = leads link (talk_step link (term_state_at to) sends) rest k.wanted from to refl at l (ap (λ (t : Term). record { model = t.model; wanted = t.wanted; talk = start_at (term_state_at to) }) at.term_talk) left;
+        at = leads link (talk_step link next sends) rest k.wanted from to refl at l then_talk left;
         fact = fact;
         shown = shown;
       };
@@ -155,8 +156,8 @@ own_type M3 = refl
 own_type M4 = refl
 own_type M5 = refl
 
-granted_transition : Given → (model : Model) (wanted : Option (List ℕ)) (lu : List ℕ) → Suits wanted lu
-    → TalkTransition model wanted TypeAsked (Saying.Sub (TypeIs (device_for model) lu)) (FunctionsAsked lu) (ToHost.TalksUp (Saying.Sub FunRequest) ∷ [])
+pub granted_transition : Given → (model : Model) (wanted : Option (List ℕ)) (lu : List ℕ) → Suits wanted lu
+    → TalkTransition (talk_in model wanted TypeAsked) (Saying.Sub (TypeIs (device_for model) lu)) (start_at (FunctionsAsked lu)) (ToHost.TalksUp (Saying.Sub FunRequest) ∷ [])
 granted_transition given model None lu suits = record {
   reply = reply.Sub FunRequest Going;
   leads = ap (λ (own : Bool). follow Closed (start_at TypeAsked) (grant_transition None own (lu_of lu))) (own_type model)
@@ -175,10 +176,12 @@ granted_transition given model (Some name) lu suits =
       sends_is = refl;
     }
 
-agreed_transition : (model : Model) (wanted : Option (List ℕ)) (lu : List ℕ) → TalkTransition model wanted (FunctionsAsked lu) (Saying.Sub FunIs) (Agreed lu) []
-agreed_transition model wanted lu = record {
+-- in any talk that asked for functions
+pub agreed_transition : (term : Term) (lu : List ℕ) → term.talk.state ≡ FunctionsAsked lu → TalkTransition term (Saying.Sub FunIs) (record term.talk { state = Agreed lu }) []
+agreed_transition term lu asked = record {
   reply = _;
-  leads = ap (λ w. follow Closed (start_at (FunctionsAsked lu)) (term_transition model wanted (FunctionsAsked lu) (Comes.IsFunctions w))) responses_alone;
+  leads = ap (λ state. follow Closed term.talk (term_transition term.model term.wanted state (says (Saying.Sub FunIs)))) asked
+      ∙ ap (λ w. follow Closed term.talk (term_transition term.model term.wanted (FunctionsAsked lu) (Comes.IsFunctions w))) responses_alone;
   quiet = refl;
   sends_is = refl;
 }
@@ -205,23 +208,26 @@ pub painted-length : (wanted : WantedScreen) (screen : Screen) → length (plain
 painted-length wanted screen =
     length_over wanted.reset wanted.cells wanted.cells (cells_under (length wanted.cells) screen.cells) (length_under (length wanted.cells) screen.cells)
 
-bound : (link : Link) (wanted : Option (List ℕ)) (lu : List ℕ) (serving : Serving) → IsAt (view_of link) wanted (Moment.Serves lu serving) → is_bound link.term ≡ true
-bound link wanted lu serving at = ap (λ (t : Term). is_some (bound_to t.talk.state)) at.term_talk
+pub bound : (link : Link) (wanted : Option (List ℕ)) (lu : List ℕ) (serving : Serving) → IsAt (view_of link) wanted (Moment.Serves lu serving) → is_bound link.term ≡ true
+bound link wanted lu serving at = ap (λ state. is_some (bound_to state)) at.term_talk
 
 -- a step of a session that leaves the talk
 serves : (link : Link) (step : TermStep) (rest : List ToTerminal) (wanted : Option (List ℕ)) (lu : List ℕ) (from to : Serving) → step.end.display.model ≡ link.term.display.model
     → IsAt (view_of link) wanted (Moment.Serves lu from) → Leads link.term.display.model wanted (Moment.Serves lu from) (Moment.Serves lu to) step.sends
     → step.end.talk ≡ link.term.talk → UnderWay link.lost rest (down_at link.term.display.model (Moment.Serves lu to))
     → IsAt (view_of (term_view step rest link)) wanted (Moment.Serves lu to)
-serves link step rest wanted lu from to model at l same left = leads link step rest wanted (Moment.Serves lu from) (Moment.Serves lu to) model at l (same ∙ at.term_talk) left
+serves link step rest wanted lu from to model at l same left = leads link step rest wanted (Moment.Serves lu from) (Moment.Serves lu to) model at l (ap (λ (t : Term). t.talk.state) same ∙ at.term_talk) left
 
 -- ---- a paint
 
-takes_paint : Given → (app : Application) → IsApplication app → (link : Link) (rest : List ToTerminal) (k : Kept app (view_of link)) (lu : List ℕ) (number : ℕ) (command : CommandParts) (wants : WantedScreen) (over : Shadow)
-    → IsAt (view_of link) k.wanted (Moment.Serves lu (Serving.Painting number command wants over)) → IsPainted (scene_of (view_of link)) command wants over → WantsItsPanelOn app link.host over wants link.term.display.screen
-    → UnderWay link.lost rest [] → Obeyed app link rest (took link.term (ToTerminal.Paint number wants over))
-takes_paint given app is link rest k lu number command wants over at f asked left =
-    let screen : Screen = link.term.display.screen in
+-- on any screen that is allowed, as the waiting terminal's is
+abbrev pub showing : Screen → TermEnd → TermEnd
+showing screen end = record end { display = record end.display { screen = screen } }
+
+pub paints_on : Given → (app : Application) → IsApplication app → (link : Link) (rest : List ToTerminal) (k : Kept app (view_of link)) (lu : List ℕ) (number : ℕ) (command : CommandParts) (wants : WantedScreen) (over : Shadow)
+    → IsAt (view_of link) k.wanted (Moment.Serves lu (Serving.Painting number command wants over)) → IsPainted (scene_of (view_of link)) command wants over → (asked : WantsItsPanelOn app link.term.waits link.host over wants link.term.display.screen)
+    → UnderWay link.lost rest [] → (screen : Screen) → Meets over screen → (link.term.waits ≡ true → Meets asked.wants.conn.shadow screen) → Kept app (view_of (term_view (paint_came number wants (showing screen link.term)) rest link))
+paints_on given app is link rest k lu number command wants over at f asked left screen meets told =
     let size : ℕ = cells_in link.host.shape in
     let new : Screen = plainly_painted wants screen in
     let wanted_size : ℕ = cells_in wants.size in
@@ -232,63 +238,94 @@ takes_paint given app is link rest k lu number command wants over at f asked lef
     ap (λ n. taken n (paint wanted_size over wants) over) base ∙ ap (λ (c : CommandParts). taken size c over) (sym f.command_is) ∙ ap (taken size command) f.over_is in
     let exact : FactsAreExact (once_taken link.host.shape command link.host.shadow) = record {
       known = given.belief.taken_exact size command link.host.shadow k.exact.known;
-      protected = subst ProtectedIsExact is_taken (given.belief.painted_exact over wants screen same fits f.meets (subst KnownIsExact (sym f.over_is) k.exact.known));
+      protected = subst ProtectedIsExact is_taken (given.belief.painted_exact over wants screen same fits meets (subst KnownIsExact (sym f.over_is) k.exact.known));
     } in
+    record {
+      whole = painted-length wants screen ∙ same;
+      cursor = subst (λ n. wants.cursor < n) (sym base) f.paintable.showable.cursor;
+      unreturned = λ _. all_kept new.cells;
+      as_left = λ _. all_as_left (message_place wants.size) new.cells;
+      exact = k.exact;
+      wanted = k.wanted;
+      moment = Moment.Serves lu (Serving.Answering Kind.APaint number command);
+      sizes = record {
+        host = k.sizes.host;
+        screen = subst (λ (s : Shape). IsSizeOf app link.term.display.model s) (sym f.paintable.showable.size) k.sizes.host;
+        same = λ steady. f.paintable.showable.size;
+      };
+      at = serves link (paint_came number wants (showing screen link.term)) rest k.wanted lu _ (Serving.Answering Kind.APaint number command) refl at (record { host_talk = λ talk is. is; turn = refl; pending = refl; up = refl }) refl left;
+      fact = record {
+        shown = new;
+        lock = λ wrong. absurd (cc);
+        exact = exact;
+        meets = subst (λ s. Meets s new) is_taken (given.belief.taken over wants screen same fits meets);
+        closed = λ relies. subst NothingIsOpen is_taken (given.belief.paint_opens over wants screen same fits f.paintable.showable.kept meets (subst KnownIsExact (sym f.over_is) k.exact.known) (f.closed relies));
+        knows = subst Knows is_taken (given.belief.known wanted_size over wants);
+        held = given.keys.at_first new.cells;
+        messages = given.notes.painted_takes link.host.shape over wants screen f.paintable;
+        noted = record { places = record { size = refl; kinds = λ place. refl }; each = λ place. inr refl; above = λ place before. refl };
+      };
+      shown = record { wanted = wants; over = over; wanted_for = asked.wants; told = told; meets = meets; fits = fits; is = refl };
+    }
+
+pub takes_paint : Given → (app : Application) → IsApplication app → (link : Link) (rest : List ToTerminal) (k : Kept app (view_of link)) (lu : List ℕ) (number : ℕ) (command : CommandParts) (wants : WantedScreen) (over : Shadow)
+    → IsAt (view_of link) k.wanted (Moment.Serves lu (Serving.Painting number command wants over)) → IsPainted (scene_of (view_of link)) command wants over → WantsItsPanelOn app link.term.waits link.host over wants link.term.display.screen
+    → UnderWay link.lost rest [] → Obeyed app link rest (took link.term (ToTerminal.Paint number wants over))
+takes_paint given app is link rest k lu number command wants over at f asked left =
     subst (Obeyed app link rest) (ap (λ b. once_bound b (paint_came number wants link.term) link.term) (sym (bound link k.wanted lu _ at)))
     (record {
-      kept = record {
-        whole = painted-length wants screen ∙ same;
-        cursor = subst (λ n. wants.cursor < n) (sym base) f.paintable.showable.cursor;
-        unreturned = λ _. all_kept new.cells;
-        as_left = λ _. all_as_left (message_place wants.size) new.cells;
-        exact = k.exact;
-        wanted = k.wanted;
-        moment = Moment.Serves lu (Serving.Answering Kind.APaint number command);
-        sizes = record {
-          host = k.sizes.host;
-          screen = subst (λ (s : Shape). IsSizeOf app link.term.display.model s) (sym f.paintable.showable.size) k.sizes.host;
-          same = λ steady. f.paintable.showable.size;
-        };
-        at = serves link (paint_came number wants link.term) rest k.wanted lu _ (Serving.Answering Kind.APaint number command) refl at (record { host_talk = refl; turn = refl; pending = refl; up = refl }) refl left;
-        fact = record {
-          shown = new;
-          lock = λ wrong. absurd (cc);
-          exact = exact;
-          meets = subst (λ s. Meets s new) is_taken (given.belief.taken over wants screen same fits f.meets);
-          closed = λ relies. subst NothingIsOpen is_taken (given.belief.paint_opens over wants screen same fits f.paintable.showable.kept f.meets (subst KnownIsExact (sym f.over_is) k.exact.known) (f.closed relies));
-          knows = subst Knows is_taken (given.belief.known wanted_size over wants);
-          held = given.keys.at_first new.cells;
-          messages = given.notes.painted_takes link.host.shape over wants screen f.paintable;
-          noted = record { places = record { size = refl; kinds = λ place. refl }; each = λ place. inr refl; above = λ place before. refl };
-        };
-        shown = record { wanted = wants; over = over; wanted_for = asked.wants; told = asked.told; meets = f.meets; fits = fits; is = refl };
-      };
+      kept = paints_on given app is link rest k lu number command wants over at f asked left link.term.display.screen f.meets asked.told;
       open_end = refl;
       positive = refl;
     })
 
 -- ---- a Read Buffer
 
-takes_read : (app : Application) (link : Link) (rest : List ToTerminal) (k : Kept app (view_of link)) → link.term.display.shape ≡ link.host.shape → (lu : List ℕ) (number : ℕ) → IsAt (view_of link) k.wanted (Moment.Serves lu (Serving.Reading number))
-    → IsRead (scene_of (view_of link)) → ShownAt app link.host link.term.display.before_restored link.term.display.last_restored link.term.display.screen (Moment.Serves lu (Serving.Reading number)) → UnderWay link.lost rest []
+-- any screen with the attributes and the protected characters of the one that was left; the AID stays the one that was heard of
+abbrev pub read_of : Screen → Bool → TermEnd → TermStep
+read_of screen erased end = record {
+  end = record end { display = record end.display { screen = record screen { aid = end.display.screen.aid }; erased = erased } };
+  sends = ToHost.Data (buffer_data end.display.shape screen) ∷ [];
+  closes = None;
+}
+
+pub reads_on : (app : Application) (link : Link) (rest : List ToTerminal) (k : Kept app (view_of link)) → link.term.display.shape ≡ link.host.shape → (lu : List ℕ) (number : ℕ) → IsAt (view_of link) k.wanted (Moment.Serves lu (Serving.Reading number))
+    → IsRead (scene_of (view_of link)) → ShownAt app link.term.waits link.host link.term.display.before_restored link.term.display.last_restored link.term.display.screen (Moment.Serves lu (Serving.Reading number)) → UnderWay link.lost rest []
+    → (screen : Screen) (erased : Bool) → length screen.cells ≡ cells_in link.term.display.shape → screen.cursor < cells_in link.term.display.shape
+    → UnmodifiedIsKept erased link.term.display.last_restored.cells screen.cells → ProtectedIsAsLeft (message_place link.term.display.shape) link.term.display.last_restored.cells screen.cells
+    → IsOkAnd (heard (length screen.cells) link.host.shadow (buffer_data link.host.shape screen)) (Believed false (record screen { aid = link.term.display.screen.aid }))
+    → Kept app (view_of (term_view (read_of screen erased link.term) rest link))
+reads_on app link rest k same lu number at f shown left screen erased whole on unreturned as_left will =
+    let parts : InboundParts = buffer_data link.term.display.shape screen in
+    record {
+      whole = whole;
+      cursor = on;
+      unreturned = λ uncleared. unreturned;
+      as_left = λ uncleared. as_left;
+      exact = k.exact;
+      wanted = k.wanted;
+      moment = Moment.Serves lu (Serving.Reported number parts);
+      sizes = record { host = k.sizes.host; screen = k.sizes.screen; same = λ steady. same };
+      at = serves link (read_of screen erased link.term) rest k.wanted lu _ (Serving.Reported number parts) refl at (record { host_talk = λ talk is. is; turn = refl; pending = refl; up = refl }) refl left;
+      fact = record {
+        lock = f.decides.lock;
+        turn_reason = f.decides.turn_reason;
+        closed = f.decides.closed;
+        not_cleared = f.not_cleared;
+        says = ap (λ (size : Shape). buffer_data size screen) same;
+        will = subst (λ (n : ℕ). IsOkAnd (heard n link.host.shadow (buffer_data link.host.shape screen)) (Believed false (record screen { aid = link.term.display.screen.aid }))) (whole ∙ ap (λ (s : Shape). cells_in s) same) will;
+      };
+      shown = shown;
+    }
+
+pub takes_read : Given → (app : Application) (link : Link) (rest : List ToTerminal) (k : Kept app (view_of link)) → link.term.display.shape ≡ link.host.shape → (lu : List ℕ) (number : ℕ) → IsAt (view_of link) k.wanted (Moment.Serves lu (Serving.Reading number))
+    → IsRead (scene_of (view_of link)) → ShownAt app link.term.waits link.host link.term.display.before_restored link.term.display.last_restored link.term.display.screen (Moment.Serves lu (Serving.Reading number)) → UnderWay link.lost rest []
     → Obeyed app link rest (took link.term (ToTerminal.ReadBuffer number))
-takes_read app link rest k same lu number at f shown left =
-    let parts : InboundParts = buffer_data link.term.display.shape link.term.display.screen in
+takes_read given app link rest k same lu number at f shown left =
     subst (Obeyed app link rest) (ap (λ b. once_bound b (read_came link.term) link.term) (sym (bound link k.wanted lu _ at)))
     (record {
-      kept = record {
-        whole = k.whole;
-        cursor = k.cursor;
-        unreturned = k.unreturned;
-        as_left = k.as_left;
-        exact = k.exact;
-        wanted = k.wanted;
-        moment = Moment.Serves lu (Serving.Reported number parts);
-        sizes = record { host = k.sizes.host; screen = k.sizes.screen; same = λ steady. same };
-        at = serves link (read_came link.term) rest k.wanted lu _ (Serving.Reported number parts) refl at (record { host_talk = refl; turn = refl; pending = refl; up = refl }) refl left;
-        fact = (f, ap (λ (size : Shape). buffer_data size link.term.display.screen) same);
-        shown = shown;
-      };
+      kept = reads_on app link rest k same lu number at f shown left link.term.display.screen link.term.display.erased k.whole k.cursor (k.unreturned f.not_cleared) (k.as_left f.not_cleared)
+          (given.belief.reads link.host.shape link.host.shadow link.term.display.screen f.decides.sees.meets);
       open_end = refl;
       positive = refl;
     })
@@ -296,14 +333,14 @@ takes_read app link rest k same lu number at f shown left =
 -- ---- notes
 
 -- a note on a screen that takes notes
-record Noted (command : CommandParts) (screen : Screen) : Type 0 where
-  over : OverwritesProtected command screen
-  characters : OverCharacters command screen.cells
-  size : length (after_command command screen).cells ≡ length screen.cells
-  cursor : (after_command command screen).cursor ≡ screen.cursor
-  aid : (after_command command screen).aid ≡ screen.aid
+pub record Noted (command : CommandParts) (screen : Screen) : Type 0 where
+  pub over : OverwritesProtected command screen
+  pub characters : OverCharacters command screen.cells
+  pub size : length (after_command command screen).cells ≡ length screen.cells
+  pub cursor : (after_command command screen).cursor ≡ screen.cursor
+  pub aid : (after_command command screen).aid ≡ screen.aid
 
-noted_on_it : Given → (shape : Shape) (command : CommandParts) (screen : Screen) → IsShape shape → IsNoteOf shape command → length screen.cells ≡ cells_in shape → TakesNotes shape screen.cells → Noted command screen
+pub noted_on_it : Given → (shape : Shape) (command : CommandParts) (screen : Screen) → IsShape shape → IsNoteOf shape command → length screen.cells ≡ cells_in shape → TakesNotes shape screen.cells → Noted command screen
 noted_on_it given shape command screen is note whole takes =
     let bounds = given.notes.bounds command screen (given.notes.are_notes shape command is note).note in
     record {
@@ -350,13 +387,13 @@ open_by (Pf key) buffered old new f o = f o
 open_noted : (aid after : Aid) (buffered : Bool) (old new : Shadow) → after ≡ aid → (NothingIsOpen old → NothingIsOpen new) → IsOpenBy aid buffered old → IsOpenBy after buffered new
 open_noted aid after buffered old new same f o = subst (λ a. IsOpenBy a buffered new) (sym same) (open_by aid buffered old new f o)
 
-open_for : (turn_reason : TurnReason) (old new : Shadow) → (NothingIsOpen old → NothingIsOpen new) → IsOpenFor turn_reason old → IsOpenFor turn_reason new
+pub open_for : (turn_reason : TurnReason) (old new : Shadow) → (NothingIsOpen old → NothingIsOpen new) → IsOpenFor turn_reason old → IsOpenFor turn_reason new
 open_for turn_reasons.Agreement old new f o = f o
 open_for (turn_reasons.Key aid buffered) old new f o = open_by aid buffered old new f o
 open_for turn_reasons.Refusal old new f o = absurd o
 
 -- the host will see the screen with the note on it
-sees_noted : Given → (unheard : Unheard) (shape : Shape) (command : CommandParts) (screen : Screen) (shadow : Shadow) → IsNoteOf shape command → length screen.cells ≡ cells_in shape → Noted command screen → Sees unheard shape screen shadow
+pub sees_noted : Given → (unheard : Unheard) (shape : Shape) (command : CommandParts) (screen : Screen) (shadow : Shadow) → IsNoteOf shape command → length screen.cells ≡ cells_in shape → Noted command screen → Sees unheard shape screen shadow
     → Sees unheard shape (after_command command screen) (taken (cells_in shape) command shadow)
 sees_noted given unheard shape command screen shadow note whole noted s =
     subst (λ n. Sees unheard shape (after_command command screen) (taken n command shadow)) whole
@@ -395,18 +432,18 @@ module _ (given : Given) (app : Application) (is : IsApplication app) (link : Li
   abbrev shape : Shape
   shape = link.host.shape
 
-  is_shape : IsShape link.host.shape
+  pub is_shape : IsShape link.host.shape
   is_shape = shape_of_model app link.term.display.model link.host.shape is k.sizes.host
 
-  whole_here : length screen.cells ≡ cells_in shape
+  pub whole_here : length screen.cells ≡ cells_in shape
   whole_here = k.whole ∙ ap (λ (s : Shape). cells_in s) same
 
   -- at any moment of the session at which a note goes down
-  takes_note : (lu : List ℕ) (number : ℕ) (command : CommandParts) (from to : Serving) → IsAt (view_of link) k.wanted (Moment.Serves lu from) → IsNoteOf shape command → TakesNotes shape screen.cells
+  pub takes_note : (lu : List ℕ) (number : ℕ) (command : CommandParts) (from to : Serving) → IsAt (view_of link) k.wanted (Moment.Serves lu from) → IsNoteOf shape command → TakesNotes shape screen.cells
       → Leads link.term.display.model k.wanted (Moment.Serves lu from) (Moment.Serves lu to) (note_came number command link.term).sends
       → UnderWay link.lost rest (down_at link.term.display.model (Moment.Serves lu to))
       → Fact k.wanted (scene_of (view_of (term_view (note_came number command link.term) rest link))) (Moment.Serves lu to)
-      → ShownAt app link.host link.term.display.before_restored link.term.display.last_restored (after_command command screen) (Moment.Serves lu to) → Obeyed app link rest (took link.term (ToTerminal.Note number command))
+      → ShownAt app link.term.waits link.host link.term.display.before_restored link.term.display.last_restored (after_command command screen) (Moment.Serves lu to) → Obeyed app link rest (took link.term (ToTerminal.Note number command))
   takes_note lu number command from to at note takes l left fact shown =
       let noted = noted_on_it given shape command screen is_shape note whole_here takes in
       subst (Obeyed app link rest) (ap (λ b. once_bound b (note_came number command link.term) link.term) (sym (bound link k.wanted lu from at)))
@@ -431,7 +468,7 @@ module _ (given : Given) (app : Application) (is : IsApplication app) (link : Li
       })
 
   -- while the operator types: the note is written over what was shown, too
-  operates_noted : (command : CommandParts) → IsNoteOf shape command → (f : Operates link.host.shadow (scene_of (view_of link))) → (number : ℕ)
+  pub operates_noted : (command : CommandParts) → IsNoteOf shape command → (f : Operates link.host.shadow (scene_of (view_of link))) → (number : ℕ)
       → Operates (once_taken link.host.shape command link.host.shadow) (scene_of (view_of (term_view (note_came number command link.term) rest link)))
   operates_noted command note f number =
       let shown : Screen = f.shown in
@@ -455,120 +492,3 @@ module _ (given : Given) (app : Application) (is : IsApplication app) (link : Li
         noted = noted_on given.notes.form command (message_place shape) link.term.display.last_restored.cells shown noted.characters writes (behind_row shape command shown is_shape note whole)
             (still_one given.notes.composes command shown noted.characters) f.noted;
       }
-
--- ---- any message, at any moment
-
-as_message : (app : Application) (link : Link) (rest : List ToTerminal) (m message : ToTerminal) → message ≡ m → Obeyed app link rest (took link.term m) → Obeyed app link rest (took link.term message)
-as_message app link rest m message e o = subst (λ x. Obeyed app link rest (took link.term x)) (sym e) o
-
-pub obeys : Given → (app : Application) → IsApplication app → (link : Link) (message : ToTerminal) (rest : List ToTerminal) → link.down ≡ message ∷ rest → Kept app (view_of link) → Obeyed app link rest (took link.term message)
-obeys given app is link message rest e k = by_moment k.moment k.sizes k.at k.fact k.shown
-  where
-    screen : Screen
-    screen = link.term.display.screen
-
-    no_more : UnderWay link.lost link.down [] → Obeyed app link rest (took link.term message)
-    no_more way = absurd (nothing link.lost link.down message rest e way)
-
-    by_talk : (talking : Talking) → link.term.display.shape ≡ link.host.shape → IsAt (view_of link) k.wanted (Moment.Talks talking) → Fact k.wanted (scene_of (view_of link)) (Moment.Talks talking) → Obeyed app link rest (took link.term message)
-    by_talk Talking.Offering same at f =
-        let first = front link.lost link.down message rest _ [] e at.goes_down in
-        talks app link rest k (Moment.Talks Talking.Offering) (Moment.Talks Talking.Accepting) (Saying.Opt Do 40) (ToHost.TalksUp (Saying.Opt Will 40) ∷ []) message (λ steady. same) at first.0
-        (record { reply = reply.Opt Will 40; leads = refl; quiet = refl; sends_is = refl }) (record { host_talk = refl; turn = refl; pending = refl; up = refl }) refl first.1
-        (f.0, f.1) tt
-    by_talk Talking.AskingType same at f =
-        let first = front link.lost link.down message rest _ [] e at.goes_down in
-        talks app link rest k (Moment.Talks Talking.AskingType) (Moment.Talks Talking.NamingType) (Saying.Sub SendType) (ToHost.TalksUp (Saying.Sub (TypeRequest link.term.display.model k.wanted)) ∷ []) message (λ steady. same) at first.0
-        (record { reply = reply.Sub (TypeRequest link.term.display.model k.wanted) Going; leads = refl; quiet = refl; sends_is = refl }) (record { host_talk = refl; turn = refl; pending = refl; up = refl }) refl first.1
-        (f.0, f.1) tt
-    by_talk (Talking.Granting lu) same at f =
-        let first = front link.lost link.down message rest _ [] e at.goes_down in
-        talks app link rest k (Moment.Talks (Talking.Granting lu)) (Moment.Talks (Talking.AskingFunctions lu)) (Saying.Sub (TypeIs (device_for link.term.display.model) lu)) (ToHost.TalksUp (Saying.Sub FunRequest) ∷ []) message (λ steady. same) at first.0
-        (granted_transition given link.term.display.model k.wanted lu f.1) (record { host_talk = refl; turn = refl; pending = refl; up = refl }) refl first.1
-        (f.0, tt) tt
-    by_talk (Talking.Agreeing lu) same at f =
-        let first = front link.lost link.down message rest _ [] e at.goes_down in
-        talks app link rest k (Moment.Talks (Talking.Agreeing lu)) (Moment.Serves lu Serving.Deciding) (Saying.Sub FunIs) [] message (λ steady. same) at first.0
-        (agreed_transition link.term.display.model k.wanted lu) (record { host_talk = refl; turn = refl; pending = refl; up = refl }) refl first.1
-        (record {
-          lock = f.0.lock;
-          turn_reason = subst (λ o. IsOccasion o screen.aid) (sym f.0.turn_reason) f.0.aid;
-          cursor = subst (λ o. IsCursorFor o link.host.cursor screen.cursor) (sym f.0.turn_reason) tt;
-          closed = λ relies. subst (λ o. IsOpenFor o link.host.shadow) (sym f.0.turn_reason) (none_open link.host.shadow f.0.shadow);
-          sees = record {
-            exact = k.exact;
-            closed = λ relies. subst (λ a. IsOpenBy a false link.host.shadow) (sym f.0.aid) (none_open link.host.shadow f.0.shadow);
-            cleared = λ clear. absurd (let x = sym f.0.aid ∙ clear in cc);
-            meets = subst (λ s. Meets s screen) (sym f.0.shadow) tt;
-            lists = λ some. absurd (some f.0.no_fields);
-            told = λ sent. absurd (subst SentFields f.0.aid sent);
-          };
-        })
-        (λ shown_before. absurd (shown_before f.0.turn_reason), subst (λ o. IsKnownIfRead o link.host.shadow) (sym f.0.turn_reason) tt)
-    by_talk (Talking.Rejecting reason) same at f =
-        let first = front link.lost link.down message rest _ [] e at.goes_down in
-        talks app link rest k (Moment.Talks (Talking.Rejecting reason)) (Moment.Talks (Talking.Rejected reason)) (Saying.Sub (TypeReject reason)) [] message (λ steady. same) at first.0
-        (record { reply = reply.Refused reason; leads = refl; quiet = refl; sends_is = refl }) (record { host_talk = refl; turn = refl; pending = refl; up = refl }) refl first.1
-        (f.0, tt) tt
-    by_talk Talking.Accepting same at f = no_more at.goes_down
-    by_talk Talking.NamingType same at f = no_more at.goes_down
-    by_talk (Talking.AskingFunctions lu) same at f = no_more at.goes_down
-    by_talk (Talking.Rejected reason) same at f = no_more at.goes_down
-
-    by_serving : (lu : List ℕ) (serving : Serving) → Sizes app (view_of link) (Moment.Serves lu serving) → IsAt (view_of link) k.wanted (Moment.Serves lu serving) → Fact k.wanted (scene_of (view_of link)) (Moment.Serves lu serving)
-        → ShownAt app link.host link.term.display.before_restored link.term.display.last_restored link.term.display.screen (Moment.Serves lu serving) → Obeyed app link rest (took link.term message)
-    by_serving lu (Serving.Reading number) s at f shown =
-        let first = front link.lost link.down message rest _ [] e at.goes_down in
-        as_message app link rest (ToTerminal.ReadBuffer number) message first.0 (takes_read app link rest k (s.same refl) lu number at f shown first.1)
-    by_serving lu (Serving.Painting number command wants over) s at f shown =
-        let first = front link.lost link.down message rest _ [] e at.goes_down in
-        as_message app link rest (ToTerminal.Paint number wants over) message first.0 (takes_paint given app is link rest k lu number command wants over at f shown first.1)
-    by_serving lu (Serving.Noting number command) s at f shown =
-        let first = front link.lost link.down message rest _ [] e at.goes_down in
-        let row = given.notes.held_takes link.host.shape link.term.display.erased f.0.shown.cells screen.cells f.0.held f.0.messages in
-        as_message app link rest (ToTerminal.Note number command) message first.0
-        (takes_note given app is link rest k (s.same refl) lu number command (Serving.Noting number command) (Serving.Answering Kind.ANote number command) at f.1 (TakesNotes.formatted row)
-        (record { host_talk = refl; turn = refl; pending = refl; up = refl }) first.1 (operates_noted given app is link rest k (s.same refl) command f.1 f.0 number) shown)
-    by_serving lu (Serving.KeyNoted number command parts) s at f shown =
-        let first = front link.lost link.down message rest _ [] e at.goes_down in
-        let noted = noted_on_it given link.host.shape command screen (is_shape given app is link rest k (s.same refl)) f.2.note (whole_here given app is link rest k (s.same refl)) f.2.takes in
-        as_message app link rest (ToTerminal.Note number command) message first.0
-        (takes_note given app is link rest k (s.same refl) lu number command (Serving.KeyNoted number command parts) (Serving.KeyBefore number command parts) at f.2.note f.2.takes
-        (record { host_talk = refl; turn = refl; pending = refl; up = refl }) first.1 (
-          record { lock = f.0.lock; form = f.0.form; size = f.0.size; pressed = f.0.pressed ∙ sym noted.aid; cursor = λ long. f.0.cursor (sym (ap is_short_aid noted.aid) ∙ long) ∙ ap (λ (n : ℕ). Some n) (sym noted.cursor); some = λ none. f.0.some (sym noted.aid ∙ none) },
-          ok_map (Sees link.host.unheard link.host.shape screen) (λ shadow. Sees link.host.unheard link.host.shape (after_command command screen) (once_taken link.host.shape command shadow)) (heard (cells_in link.host.shape) link.host.shadow parts)
-              (λ shadow seen. sees_noted given link.host.unheard link.host.shape command screen shadow f.2.note (whole_here given app is link rest k (s.same refl)) noted seen) f.1,
-        ) shown)
-    by_serving lu (Serving.NotedLate number command) s at f shown =
-        let first = front link.lost link.down message rest _ [] e at.goes_down in
-        let noted = noted_on_it given link.host.shape command screen (is_shape given app is link rest k (s.same refl)) f.1.note (whole_here given app is link rest k (s.same refl)) f.1.takes in
-        as_message app link rest (ToTerminal.Note number command) message first.0
-        (takes_note given app is link rest k (s.same refl) lu number command (Serving.NotedLate number command) (Serving.AnsweredLate number command) at f.1.note f.1.takes
-        (record { host_talk = refl; turn = refl; pending = refl; up = refl }) first.1
-        (record {
-          lock = f.0.lock;
-          turn_reason = subst (IsOccasion link.host.turn_reason) (sym noted.aid) f.0.turn_reason;
-          cursor = subst (λ (n : ℕ). IsCursorFor link.host.turn_reason link.host.cursor n) (sym noted.cursor) f.0.cursor;
-          closed = λ relies. open_for link.host.turn_reason link.host.shadow (once_taken link.host.shape command link.host.shadow)
-              (λ o. subst (λ n. NothingIsOpen (taken n command link.host.shadow)) (whole_here given app is link rest k (s.same refl)) (given.notes.opens command link.host.shadow screen noted.over f.0.sees.meets o)) (f.0.closed relies);
-          sees = sees_noted given link.host.unheard link.host.shape command screen link.host.shadow f.1.note (whole_here given app is link rest k (s.same refl)) noted f.0.sees;
-        }) shown)
-    by_serving lu Serving.Deciding s at f shown = no_more at.goes_down
-    by_serving lu (Serving.Reported number parts) s at f shown = no_more at.goes_down
-    by_serving lu (Serving.AnsweredLate number command) s at f shown = no_more at.goes_down
-    by_serving lu (Serving.Answering kind number command) s at f shown = no_more at.goes_down
-    by_serving lu Serving.Operating s at f shown = no_more at.goes_down
-    by_serving lu (Serving.KeyAlone parts) s at f shown = no_more at.goes_down
-    by_serving lu (Serving.KeyBehind kind number command parts) s at f shown = no_more at.goes_down
-    by_serving lu (Serving.KeyBefore number command parts) s at f shown = no_more at.goes_down
-
-    by_moment : (moment : Moment) → Sizes app (view_of link) moment → IsAt (view_of link) k.wanted moment → Fact k.wanted (scene_of (view_of link)) moment
-        → ShownAt app link.host link.term.display.before_restored link.term.display.last_restored link.term.display.screen moment → Obeyed app link rest (took link.term message)
-    by_moment (Moment.Talks talking) s at f shown = by_talk talking (s.same refl) at f
-    by_moment (Moment.Begins lu number command wants over) s at f shown =
-        let first = front link.lost link.down message rest _ _ e at.goes_down in
-        talks app link rest k (Moment.Begins lu number command wants over) (Moment.Serves lu (Serving.Painting number command wants over)) (Saying.Sub FunIs) [] message
-        (λ steady. absurd (cc)) at first.0
-        (agreed_transition link.term.display.model k.wanted lu) (record { host_talk = refl; turn = refl; pending = refl; up = refl }) refl first.1
-        f shown
-    by_moment (Moment.Serves lu serving) s at f shown = by_serving lu serving s at f shown

@@ -27,7 +27,8 @@ use Rattle.world3270.specs.Stages.{Kept}
 use Rattle.world3270.specs.Terminal.{Display, TermStep, new_display, after_key, key_came, took as term_took}
 use Rattle.world3270.specs.View.{view_of}
 use Rattle.world3270.specs.World.{Place, World, Event, AreEvents, new_world, with_at, display_at}
-use Rattle.world3270.proofs.Down.{term_view, obeys}
+use Rattle.world3270.proofs.Down.{term_view}
+use Rattle.world3270.proofs.Obeys.{obeys}
 use Rattle.world3270.proofs.OneOfMany.{all_with}
 use Rattle.world3270.proofs.Worlds.{GoodWorld, happens_good, new_good}
 

@@ -46,7 +46,7 @@ talk_has form size model wanted (Talking.Rejected reason) = tt
 served_has : (scene : Scene) (serving : Serving) → ServingFact scene serving → FirstHas (form_awaited (pending_in serving)) scene.shape (served_up serving)
 served_has scene Serving.Deciding fact = tt
 served_has scene (Serving.Reading number) fact = tt
-served_has scene (Serving.Reported number parts) fact = (ap (λ (p : InboundParts). p.form) fact.1, ap (λ (p : InboundParts). p.size) fact.1)
+served_has scene (Serving.Reported number parts) fact = (ap (λ (p : InboundParts). p.form) fact.says, ap (λ (p : InboundParts). p.size) fact.says)
 served_has scene (Serving.NotedLate number command) fact = tt
 served_has scene (Serving.AnsweredLate number command) fact = tt
 served_has scene (Serving.Painting number command wanted over) fact = tt
@@ -63,7 +63,7 @@ first_has scene model wanted (Moment.Talks talking) fact = talk_has _ _ model wa
 first_has scene model wanted (Moment.Begins lu number command paints over) fact = tt
 first_has scene model wanted (Moment.Serves lu serving) fact = served_has scene serving fact
 
-awaited : (app : Application) (v : View) (parts : InboundParts) (rest : List ToHost) → Kept app v → v.up ≡ ToHost.Data parts ∷ rest → IsAwaitedBy v.host parts
+pub awaited : (app : Application) (v : View) (parts : InboundParts) (rest : List ToHost) → Kept app v → v.up ≡ ToHost.Data parts ∷ rest → IsAwaitedBy v.host parts
 awaited app v parts rest k e =
     let both = comes (form_awaited (pending_at k.moment)) v.host.shape v.lost v.up (up_at v.model k.wanted k.moment) parts rest k.at.goes_up e (first_has (scene_of v) v.model k.wanted k.moment k.fact) in
     record { form = both.0 ∙ sym (ap form_awaited k.at.pending); size = both.1 }

@@ -2,14 +2,13 @@
 use Rattle.std.proofs.Common.{◌≡◌, ℕ, Bool, true, false, ◌||◌, Option, Some, None, List, [], ◌∷◌, ◌++◌, refl, ap, sym, subst, ◌∙◌}
 use Rattle.codes3270.specs.declared.size.Model.{Model}
 use Rattle.std.specs.List.{list_any}
+use Rattle.std.specs.Prelude.{is_some}
 use Rattle.codes3270.specs.declared.attention.Aid.{Aid}
 use Rattle.codes3270.specs.declared.attention.Aid.TheVariants.{NoAid, Enter as EnterAid, Clear as ClearAid, Pf as PfAid, Pa as PaAid}
 use Rattle.shadow.specs.Meets.{Meets, ListsFields, IsTold}
 use Rattle.shadow.specs.Belief.{Shadow}
 use Rattle.shadow.specs.Openness.{NothingIsOpen}
 use Rattle.tn3270e_msg.specs.HostTable.{granted}
-use Rattle.tn3270e_msg.specs.Talk.{Talk}
-use Rattle.tn3270e_msg.specs.TermTable.{Term}
 use Rattle.tn3270e_msg.specs.declared.host_talk.HostState.{HostState}
 use Rattle.tn3270e_msg.specs.declared.host_talk.HostState.TheVariants.{Offered, Asked, Asking, Named, Countered, Agreed, Closed}
 use Rattle.lu_pool.specs.Holders.{holder}
@@ -25,7 +24,7 @@ use Rattle.world3270.specs.Given.{Given}
 use Rattle.world3270.specs.Happens.{run}
 use Rattle.world3270.specs.Headline.{SentFields, OneSessionEach, BoundIsGranted, IsHostsTurn, Agrees}
 use Rattle.world3270.specs.Link.{Link}
-use Rattle.world3270.specs.Moments.{Talking, Serving, Moment, UnderWay, term_state_at, host_talk_at, turn_at, pending_at, up_at}
+use Rattle.world3270.specs.Moments.{Talking, Serving, Moment, UnderWay, IsAt, turn_at, pending_at, up_at}
 use Rattle.world3270.specs.TurnReasons.{IsOccasion, IsOpenBy, IsOpenFor, IsCleared, ActsOnTheKey, KnowsTheCleared, LeavesNothingOpen}
 use Rattle.world3270.specs.Seen.{HostSeen, TerminalSeen, conn_seen, end_seen, host_seen, seen, seen_link, terminal_seen}
 use Rattle.world3270.specs.Stages.{scene_of, Fact, IfRelies, Kept}
@@ -35,27 +34,18 @@ use Rattle.world3270.specs.World.{World, new_world}
 use Rattle.world3270.proofs.Down.{none_open}
 use Rattle.world3270.proofs.AsLeft.{as_left}
 use Rattle.world3270.proofs.Worlds.{GoodWorld, run_good, new_good}
+use Rattle.world3270.proofs.TalkStates.{agreed_on, talking_unbound}
 
 -- ---- who is bound to what
 
 -- where the terminal is bound to an LU, the host's end agreed on it
-agrees_at : (model : Model) (moment : Moment) (mine : List ℕ) → bound_to (term_state_at moment) ≡ Some mine → agreed_lu (host_talk_at model moment).state ≡ Some mine
-agrees_at model (Moment.Talks Talking.Offering) mine e = absurd (cc)
-agrees_at model (Moment.Talks Talking.Accepting) mine e = absurd (cc)
-agrees_at model (Moment.Talks Talking.AskingType) mine e = absurd (cc)
-agrees_at model (Moment.Talks Talking.NamingType) mine e = absurd (cc)
-agrees_at model (Moment.Talks (Talking.Granting lu)) mine e = absurd (cc)
-agrees_at model (Moment.Talks (Talking.AskingFunctions lu)) mine e = absurd (cc)
-agrees_at model (Moment.Talks (Talking.Agreeing lu)) mine e = absurd (cc)
-agrees_at model (Moment.Talks (Talking.Rejecting reason)) mine e = absurd (cc)
-agrees_at model (Moment.Talks (Talking.Rejected reason)) mine e = absurd (cc)
-agrees_at model (Moment.Begins lu number command wanted over) mine e = absurd (cc)
-agrees_at model (Moment.Serves lu serving) mine e = e
-
-bound_agrees : (app : Application) (v : View) (mine : List ℕ) → Kept app v → bound_to v.talk.talk.state ≡ Some mine → agreed_lu v.host.talk.state ≡ Some mine
-bound_agrees app v mine k e =
-    ap (λ (t : Talk HostState). agreed_lu t.state) k.at.host_talk
-    ∙ agrees_at v.model k.moment mine (sym (ap (λ (t : Term). bound_to t.talk.state) k.at.term_talk) ∙ e)
+pub bound_agrees : (app : Application) (v : View) (mine : List ℕ) → Kept app v → bound_to v.talk.talk.state ≡ Some mine → agreed_lu v.host.talk.state ≡ Some mine
+bound_agrees app v mine k e = by_moment k.moment k.at
+  where
+    by_moment : (moment : Moment) → IsAt v k.wanted moment → agreed_lu v.host.talk.state ≡ Some mine
+    by_moment (Moment.Talks talking) at = absurd (talking_unbound v.model k.wanted talking v.talk at.term_talk (ap is_some e))
+    by_moment (Moment.Begins lu number command wanted over) at = absurd (let wrong = sym (ap bound_to at.term_talk) ∙ e in cc)
+    by_moment (Moment.Serves lu serving) at = agreed_on v.host.talk at.host_talk ∙ sym (ap bound_to at.term_talk) ∙ e
 
 -- an LU that was agreed on was granted
 agreed_granted : (state : HostState) (mine : List ℕ) → agreed_lu state ≡ Some mine → granted state ≡ Some mine
@@ -68,7 +58,7 @@ agreed_granted (Countered device lu) mine e = absurd (cc)
 agreed_granted (Closed cause) mine e = absurd (cc)
 
 -- an end that is seen is attached
-host_attached : (here : Bool) (conn : Conn) (host : HostSeen) → host_seen here conn ≡ Some host → (here ≡ true) × (host ≡ conn_seen conn)
+pub host_attached : (here : Bool) (conn : Conn) (host : HostSeen) → host_seen here conn ≡ Some host → (here ≡ true) × (host ≡ conn_seen conn)
 host_attached true conn host e = (refl, let same : Some host ≡ Some (conn_seen conn) = sym e in cc)
 host_attached false conn host e = absurd (cc)
 
@@ -134,7 +124,7 @@ pub knows_at : (app : Application) (v : View) → Kept app v → v.host.turn ≡
 knows_at app v k t p = knows_by k.wanted v k.moment k.fact (sym k.at.turn ∙ t) (sym k.at.pending ∙ p)
 
 -- no number waits: nothing does
-nothing_waits : (pending : Pending) → number_of pending ≡ None → pending ≡ Pending.Nothing
+pub nothing_waits : (pending : Pending) → number_of pending ≡ None → pending ≡ Pending.Nothing
 nothing_waits Pending.Nothing e = refl
 nothing_waits (Pending.Writing number command) e = absurd (cc)
 nothing_waits (Pending.Reading number) e = absurd (cc)
@@ -154,7 +144,7 @@ not_clear (PfAid key) sent is = absurd (cc)
 not_clear (PaAid key) sent is = absurd sent
 not_clear ClearAid sent is = absurd sent
 
-agrees : Given → (app : Application) (link : Link) → Kept app (view_of link) → (h : IsHostsTurn (seen_link link)) → Agrees h.host h.terminal
+pub agrees : Given → (app : Application) (link : Link) → Kept app (view_of link) → (h : IsHostsTurn (seen_link link)) → Agrees h.host h.terminal
 agrees given app link k h =
     let v : View = view_of link in
     let known = knows_turn app link k h in
@@ -219,7 +209,7 @@ heard_by wanted v (Moment.Talks talking) f t e = absurd (let first = sym f.0.tur
 heard_by wanted v (Moment.Begins lu number command wants over) f t e = absurd (cc)
 heard_by wanted v (Moment.Serves lu Serving.Deciding) f t e = no_refusal v.host.turn_reason v.screen.aid f.turn_reason e
 heard_by wanted v (Moment.Serves lu (Serving.Reading number)) f t e = no_refusal v.host.turn_reason v.screen.aid f.decides.turn_reason e
-heard_by wanted v (Moment.Serves lu (Serving.Reported number parts)) f t e = no_refusal v.host.turn_reason v.screen.aid f.0.decides.turn_reason e
+heard_by wanted v (Moment.Serves lu (Serving.Reported number parts)) f t e = no_refusal v.host.turn_reason v.screen.aid f.turn_reason e
 heard_by wanted v (Moment.Serves lu (Serving.NotedLate number command)) f t e = no_refusal v.host.turn_reason v.screen.aid f.0.turn_reason e
 heard_by wanted v (Moment.Serves lu (Serving.AnsweredLate number command)) f t e = no_refusal v.host.turn_reason v.screen.aid f.turn_reason e
 heard_by wanted v (Moment.Serves lu (Serving.Painting number command wants over)) f t e = absurd (cc)

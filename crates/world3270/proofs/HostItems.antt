@@ -1,10 +1,15 @@
--- What a host makes of an item is what it makes of the message that the item stands for.
-use Rattle.std.proofs.Common.{◌≡◌, ◌<◌, ◌≤◌, ◌/◌, ◌%◌, ◌^◌, ℕ, Bool, true, false, List, [], ◌∷◌, ◌++◌, Ok, refl, ap, sym, subst, ◌∙◌, arith}
-use Rattle.std.specs.Prelude.{⊤}
-use Rattle.codes3270.specs.Size.{Shape}
-use Rattle.datastream.specs.InboundText.{InboundParts, IsInbound, IsNoInbound}
+-- What a host makes of an item is what it makes of the message as which it reads the item.
+use Rattle.std.proofs.Common.{◌≡◌, ◌<◌, ◌≤◌, ◌/◌, ◌%◌, ◌^◌, ◌&&◌, inl, inr, ℕ, Bool, true, false, List, [], ◌∷◌, ◌++◌, length, Ok, refl, ap, sym, subst, ◌∙◌, arith}
+use Rattle.codes3270.specs.Size.{Shape, cells_in}
+use Rattle.codes3270.specs.Storable.{is_storable}
+use Rattle.datastream.specs.Grammar.{set_buffer_address, start_field}
+use Rattle.datastream.specs.InboundText.{AreParts, InboundParts, IsCellPart, IsInbound, IsNoInbound, IsWhole, stands_alone}
+use Rattle.datastream.specs.InboundText.IsInbound.{alone, long}
 use Rattle.datastream.specs.declared.inbound_part.Form.{Form}
+use Rattle.datastream.specs.declared.inbound_part.Form.TheVariants.{Buffer, Modified}
 use Rattle.datastream.specs.declared.inbound_part.InboundFault.{InboundFault}
+use Rattle.datastream.specs.declared.inbound_part.Part.{Part}
+use Rattle.datastream.specs.declared.inbound_part.Part.TheVariants.{At, Char, Attr}
 use Rattle.datastream.specs.Laws.{OneInbound}
 use Rattle.datastream.proofs.InboundData.{first_inbound_fault}
 use Rattle.telnet_wire.specs.Items.{WireItem}
@@ -17,25 +22,14 @@ use Rattle.tn3270e_msg.proofs.Hearings.{sent_is_heard}
 use Rattle.term_core.specs.Says.{outcome_flag, outcome_code, response_header, data_header}
 use Rattle.term_core.specs.declared.outcome.Outcome.{Outcome}
 use Rattle.term_core.specs.declared.outcome.Outcome.TheVariants.{DeviceEnd, Refused}
-use Rattle.host_core.specs.Items.{TakesData, IsOther, TakesRecord, TakesRecordIf, Talks, TakesItem, verdict_of}
+use Rattle.host_core.specs.Items.{TakesData, IsNoSecondKey, IsOther, TakesRecord, TakesRecordIf, Talks, TakesItem, is_read_pending, verdict_of}
 use Rattle.host_core.specs.Messages.{ToHost, Verdict}
-use Rattle.host_core.specs.Session.{Conn, is_agreed}
-use Rattle.host_core.specs.Takes.{Answers, HostStep, form_awaited, data_came, response_came, once_agreed, talked, took}
+use Rattle.host_core.specs.Session.{Conn, Pending, is_agreed}
+use Rattle.host_core.specs.Takes.{Answers, HostStep, form_awaited, data_came, may_have_changed, response_came, once_agreed, talked, took}
 use Rattle.world3270.specs.Forms.{IsAwaitedBy}
+use Rattle.world3270.specs.Readings.{HasNoLead, IsReadAs, IsSecondKeyIn, MayComeUp}
 use Rattle.world3270.specs.Stands.{OutcomeIs, StandsUp}
 use Rattle.world3270.specs.StandsEnds.{IsSaid}
-
--- what is said of LUs is their names
-abbrev pub IsSaidUp : ToHost → Type 0
-IsSaidUp (ToHost.TalksUp saying) = IsSaid saying
-IsSaidUp (ToHost.Data parts) = ⊤
-IsSaidUp (ToHost.Response number verdict) = ⊤
-
--- data has the form and the size that the host awaits
-abbrev pub IsAwaited : Conn → ToHost → Type 0
-IsAwaited conn (ToHost.TalksUp saying) = ⊤
-IsAwaited conn (ToHost.Data parts) = IsAwaitedBy conn parts
-IsAwaited conn (ToHost.Response number verdict) = ⊤
 
 -- ---- the talk
 
@@ -54,52 +48,104 @@ takes_talk saying answers conn step said taken =
     let talks = is_talk saying answers conn step taken in
     talks.2 ∙ ap (λ (c : Comes). talked answers conn conn.talk c) (is_heard saying said talks.0 talks.1)
 
--- ---- headers
-
--- data begins with a header whatever its number: the number's two low bytes count
-data_begins : (number : ℕ) (body : List ℕ) → Begins (spelling (data_header number) ++ body) (data_header (number % 65536)) body
-data_begins number body =
-    let high : number / 256 % 256 ≡ number % 65536 / 256 % 256 = omega arith in
-    let low : number % 256 ≡ number % 65536 % 256 = omega arith in
-    record {
-      is_header = record { kind = tt; flag = omega arith };
-      number = omega arith;
-      spelt = ap (λ (b : ℕ). 0 ∷ 0 ∷ 0 ∷ b ∷ (number % 256) ∷ body) high ∙ ap (λ (b : ℕ). 0 ∷ 0 ∷ 0 ∷ (number % 65536 / 256 % 256) ∷ b ∷ body) low;
-    }
-
-flag_is : (outcome : Outcome) → outcome_flag outcome ≤ negative
-flag_is DeviceEnd = omega arith
-flag_is (Refused sense) = omega arith
-
-response_begins : (number : ℕ) (outcome : Outcome) (body : List ℕ) → number < 2 ^ 16
-    → Begins (spelling (response_header number outcome) ++ body) (response_header number outcome) body
-response_begins number outcome body below = record { is_header = record { kind = tt; flag = flag_is outcome }; number = below; spelt = refl }
-
--- the flag says the verdict
-verdict_is : (verdict : Verdict) (outcome : Outcome) → OutcomeIs verdict outcome → verdict_of (outcome_flag outcome) ≡ verdict
-verdict_is Verdict.Positive outcome is = ap (λ (o : Outcome). verdict_of (outcome_flag o)) is
-verdict_is Verdict.Negative DeviceEnd is = absurd (is refl)
-verdict_is Verdict.Negative (Refused sense) is = refl
+-- ---- data
 
 -- inbound data has no fault
 no_fault : (size : Shape) (form : Form) (parts : InboundParts) (fault : InboundFault) (body : List ℕ) → parts.form ≡ form → parts.size ≡ size → IsInbound parts body
     → IsNoInbound size form fault body → ⊥
 no_fault size form parts fault body of_form of_size is bad = let same = first_inbound_fault form size (Ok parts) body (of_form, of_size, is) fault bad in absurd (cc)
 
+heads : (x y : ℕ) (xs ys : List ℕ) → x ∷ xs ≡ y ∷ ys → x ≡ y
+heads x y xs ys e = cc
+
+not_stored : is_storable set_buffer_address ≡ true → ⊥
+not_stored e = cc
+
+other_order : start_field ≡ set_buffer_address → ⊥
+other_order e = cc
+
+-- a cell is some bytes, of which the first is no order for an address
+record FirstOfCell (front : List ℕ) : Type 0 where
+  byte : ℕ
+  more : List ℕ
+  is : front ≡ byte ∷ more
+  no_address : byte ≡ set_buffer_address → ⊥
+
+first_of_cell : (cell : Part) (front : List ℕ) → IsCellPart cell front → FirstOfCell front
+first_of_cell (At address) front is = absurd is
+first_of_cell (Char char) front is = record { byte = char; more = []; is = is.1; no_address = λ same. not_stored (ap is_storable (sym same) ∙ is.0) }
+first_of_cell (Attr attr) front is = record { byte = start_field; more = is.0 ∷ []; is = is.2; no_address = other_order }
+
+-- the fields of a screen that has fields begin with an address
+first_of_fields : (size : ℕ) (parts : List Part) (text : List ℕ) (byte : ℕ) (more : List ℕ) → HasNoLead parts → AreParts size Modified parts text → text ≡ byte ∷ more → byte ≡ set_buffer_address
+first_of_fields size [] text byte more no_lead are is = let both : [] ≡ byte ∷ more = sym are ∙ is in absurd (cc)
+first_of_fields size (At address ∷ parts) text byte more no_lead are is =
+    heads byte set_buffer_address more (are.2.0 ∷ are.2.1 ∷ are.1) (sym is ∙ are.4 ∙ ap (λ (front : List ℕ). front ++ are.1) are.2.3)
+first_of_fields size (Char char ∷ parts) text byte more no_lead are is = absurd no_lead
+first_of_fields size (Attr attr ∷ parts) text byte more no_lead are is = absurd no_lead
+
+-- the data of a key on a screen with fields is no whole screen
+not_whole : (size : ℕ) (parts cells : List Part) (text : List ℕ) → 0 < size → HasNoLead parts → AreParts size Modified parts text → AreParts size Buffer cells text → length cells ≡ size → ⊥
+not_whole size parts [] text some no_lead are whole sized = absurd (omega (arith, some, sized))
+not_whole size parts (cell ∷ cells) text some no_lead are whole sized =
+    let first = first_of_cell cell whole.0 whole.2 in
+    first.no_address (first_of_fields size parts text first.byte (first.more ++ whole.1) no_lead are (whole.4 ∙ ap (λ (front : List ℕ). front ++ whole.1) first.is))
+
+no_buffer : (size : Shape) (parts buffer : InboundParts) (body : List ℕ) → 0 < cells_in size → parts.form ≡ Modified → parts.size ≡ size → HasNoLead parts.parts → IsInbound parts body
+    → buffer.form ≡ Buffer → buffer.size ≡ size → IsInbound buffer body → ⊥
+no_buffer size parts buffer body some form sized no_lead (alone byte is_alone aid none nothing spelt) of_form of_size (alone other alone_too aid_too none_too nothing_too spelt_too) =
+    let both : false ≡ true = sym (ap (λ (f : Form). stands_alone f buffer.aid) of_form) ∙ alone_too in absurd (cc)
+no_buffer size parts buffer body some form sized no_lead (long byte high low cursor text is_long aid at address are whole spelt) of_form of_size (alone other alone_too aid_too none_too nothing_too spelt_too) =
+    let both : false ≡ true = sym (ap (λ (f : Form). stands_alone f buffer.aid) of_form) ∙ alone_too in absurd (cc)
+no_buffer size parts buffer body some form sized no_lead (alone byte is_alone aid none nothing spelt) of_form of_size (long other high low cursor text is_long aid_too at address are whole spelt_too) =
+    let both : byte ∷ [] ≡ other ∷ high ∷ low ∷ text = sym spelt ∙ spelt_too in absurd (cc)
+no_buffer size parts buffer body some form sized no_lead (long byte high low cursor text is_long aid at address are whole spelt) of_form of_size (long other high' low' cursor' text' is_long' aid' at' address' are' whole' spelt') =
+    let both : byte ∷ high ∷ low ∷ text ≡ other ∷ high' ∷ low' ∷ text' = sym spelt ∙ spelt' in
+    let same : text ≡ text' = cc in
+    not_whole (cells_in size) parts.parts buffer.parts text' some no_lead
+    (subst (λ (t : List ℕ). AreParts (cells_in size) Modified parts.parts t) same
+    (subst (λ (f : Form). AreParts (cells_in size) f parts.parts text) form (subst (λ (s : Shape). AreParts (cells_in s) parts.form parts.parts text) sized are)))
+    (subst (λ (f : Form). AreParts (cells_in size) f buffer.parts text') of_form (subst (λ (s : Shape). AreParts (cells_in s) buffer.form buffer.parts text') of_size are'))
+    (subst (λ (f : Form). IsWhole (cells_in size) f buffer.parts) of_form (subst (λ (s : Shape). IsWhole (cells_in s) buffer.form buffer.parts) of_size whole'))
+
+-- while a key's data may be a second one's a read is pending
+reads_then : (pending : Pending) (may : Bool) → (may && is_read_pending pending) ≡ true → form_awaited pending ≡ Buffer
+reads_then (Pending.Reading number) may is = refl
+reads_then Pending.Nothing true is = absurd (cc)
+reads_then Pending.Nothing false is = absurd (cc)
+reads_then (Pending.Writing number command) true is = absurd (cc)
+reads_then (Pending.Writing number command) false is = absurd (cc)
+reads_then (Pending.Noting number command) true is = absurd (cc)
+reads_then (Pending.Noting number command) false is = absurd (cc)
+
 -- ---- records
 
 module _ (one_header : OneHeader) (fault_or_header : FaultIsNoHeader) (one_inbound : OneInbound) where
   -- data in the form that is awaited is no second key's
-  data_is_taken : (conn : Conn) (body : List ℕ) (parts : InboundParts) (step : HostStep) → IsAwaitedBy conn parts → IsInbound parts body → TakesData conn body step → step ≡ data_came parts conn.turn conn.pending conn
-  data_is_taken conn body parts step awaited is (TakesData.hears parts' form size is' e) =
+  awaited_is_taken : (conn : Conn) (body : List ℕ) (parts : InboundParts) (step : HostStep) → IsAwaitedBy conn parts → IsInbound parts body → TakesData conn body step → step ≡ data_came parts conn.turn conn.pending conn
+  awaited_is_taken conn body parts step awaited is (TakesData.hears parts' form size is' e) =
       e ∙ ap (λ (p : InboundParts). data_came p conn.turn conn.pending conn) (one_inbound body parts' parts (form ∙ sym awaited.form) (size ∙ sym awaited.size) is' is)
-  data_is_taken conn body parts step awaited is (TakesData.is_second_key fault parts' bad may form size is' e) =
+  awaited_is_taken conn body parts step awaited is (TakesData.is_second_key fault parts' bad may form size is' e) =
       absurd (no_fault conn.shape (form_awaited conn.pending) parts fault body awaited.form awaited.size is bad)
-  data_is_taken conn body parts step awaited is (TakesData.no_data fault bad no_key e) =
+  awaited_is_taken conn body parts step awaited is (TakesData.no_data fault bad no_key e) =
       absurd (no_fault conn.shape (form_awaited conn.pending) parts fault body awaited.form awaited.size is bad)
 
+  -- and a second key's data isn't in the form that is awaited
+  second_is_taken : (conn : Conn) (body : List ℕ) (parts : InboundParts) (step : HostStep) → IsSecondKeyIn conn parts → IsInbound parts body → TakesData conn body step → step ≡ data_came parts conn.turn conn.pending conn
+  second_is_taken conn body parts step second is (TakesData.hears parts' form size is' e) =
+      absurd (no_buffer conn.shape parts parts' body second.some second.form second.size second.no_lead is (form ∙ reads_then conn.pending (may_have_changed conn.unheard) second.may_be) size is')
+  second_is_taken conn body parts step second is (TakesData.is_second_key fault parts' bad may form size is' e) =
+      e ∙ ap (λ (p : InboundParts). data_came p conn.turn conn.pending conn) (one_inbound body parts' parts (form ∙ sym second.form) (size ∙ sym second.size) is' is)
+  second_is_taken conn body parts step second is (TakesData.no_data fault bad no_key e) =
+      let none = subst (λ (b : Bool). IsNoSecondKey b conn.shape body) second.may_be no_key in
+      absurd (no_fault conn.shape Modified parts none.0 body second.form second.size is none.1)
+
+  data_is_taken : (conn : Conn) (body : List ℕ) (parts : InboundParts) (step : HostStep) → MayComeUp conn (ToHost.Data parts) → IsInbound parts body → TakesData conn body step → step ≡ data_came parts conn.turn conn.pending conn
+  data_is_taken conn body parts step (inl awaited) is takes = awaited_is_taken conn body parts step awaited is takes
+  data_is_taken conn body parts step (inr second) is takes = second_is_taken conn body parts step second is takes
+
   data_taken : (conn : Conn) (bytes body : List ℕ) (header : Header) (parts : InboundParts) (step : HostStep) → header.kind ≡ Data3270 → Begins bytes header body
-      → IsAwaitedBy conn parts → IsInbound parts body → TakesRecord conn bytes step → step ≡ data_came parts conn.turn conn.pending conn
+      → MayComeUp conn (ToHost.Data parts) → IsInbound parts body → TakesRecord conn bytes step → step ≡ data_came parts conn.turn conn.pending conn
   data_taken conn bytes body header parts step kind begins awaited is (TakesRecord.no_header fault has e) = absurd (fault_or_header bytes fault header body has begins)
   data_taken conn bytes body header parts step kind begins awaited is (TakesRecord.dropped other rest begins' drops e) =
       let same = (one_header bytes other header rest body begins' begins).0 in
@@ -134,21 +180,68 @@ module _ (one_header : OneHeader) (fault_or_header : FaultIsNoHeader) (one_inbou
 
   -- ---- any item
 
-  pub host_takes : (answers : Answers) (conn : Conn) (item : WireItem) (message : ToHost) (step : HostStep)
-      → StandsUp item message → IsSaidUp message → IsAwaited conn message → TakesItem answers conn item step → step ≡ took answers conn message
-  host_takes answers conn item (ToHost.TalksUp saying) step stands said awaited taken =
-      takes_talk saying answers conn step said (subst (λ (i : WireItem). TakesItem answers conn i step) stands taken)
-  host_takes answers conn item (ToHost.Data parts) step stands said awaited taken =
-      let number : ℕ = stands.0 in
-      let body : List ℕ = stands.1 in
-      let bytes : List ℕ = spelling (data_header number) ++ body in
-      taken_if (is_agreed conn.talk.state) conn bytes step (data_came parts conn.turn conn.pending conn)
-      (data_taken conn bytes body (data_header (number % 65536)) parts step refl (data_begins number body) awaited stands.3)
-      (subst (λ (i : WireItem). TakesItem answers conn i step) stands.2 taken)
-  host_takes answers conn item (ToHost.Response number verdict) step stands said awaited taken =
-      let outcome : Outcome = stands.0 in
-      let body : List ℕ = outcome_code outcome ∷ [] in
-      let bytes : List ℕ = spelling (response_header number outcome) ++ body in
-      taken_if (is_agreed conn.talk.state) conn bytes step (response_came number verdict conn.pending conn)
-      (response_taken conn bytes body (response_header number outcome) verdict step refl (response_begins number outcome body stands.2) (verdict_is verdict outcome stands.3))
-      (subst (λ (i : WireItem). TakesItem answers conn i step) stands.1 taken)
+  pub host_reads : (answers : Answers) (conn : Conn) (item : WireItem) (message : ToHost) (step : HostStep)
+      → IsReadAs item message → MayComeUp conn message → TakesItem answers conn item step → step ≡ took answers conn message
+  host_reads answers conn item (ToHost.TalksUp saying) step read may taken =
+      takes_talk saying answers conn step may (subst (λ (i : WireItem). TakesItem answers conn i step) read taken)
+  host_reads answers conn item (ToHost.Data parts) step read may taken =
+      taken_if (is_agreed conn.talk.state) conn read.bytes step (data_came parts conn.turn conn.pending conn)
+      (data_taken conn read.bytes read.body read.header parts step read.kind read.begins may read.inbound)
+      (subst (λ (i : WireItem). TakesItem answers conn i step) read.is_record taken)
+  host_reads answers conn item (ToHost.Response number verdict) step read may taken =
+      taken_if (is_agreed conn.talk.state) conn read.bytes step (response_came number verdict conn.pending conn)
+      (λ takes. response_taken conn read.bytes read.body read.header verdict step read.kind read.begins read.verdict_is takes
+      ∙ ap (λ (n : ℕ). response_came n verdict conn.pending conn) read.number_is)
+      (subst (λ (i : WireItem). TakesItem answers conn i step) read.is_record taken)
+
+-- ---- our terminal's items
+
+-- data begins with a header whatever its number: the number's two low bytes count
+data_begins : (number : ℕ) (body : List ℕ) → Begins (spelling (data_header number) ++ body) (data_header (number % 65536)) body
+data_begins number body =
+    let high : number / 256 % 256 ≡ number % 65536 / 256 % 256 = omega arith in
+    let low : number % 256 ≡ number % 65536 % 256 = omega arith in
+    record {
+      is_header = record { kind = tt; flag = omega arith };
+      number = omega arith;
+      spelt = ap (λ (b : ℕ). 0 ∷ 0 ∷ 0 ∷ b ∷ (number % 256) ∷ body) high ∙ ap (λ (b : ℕ). 0 ∷ 0 ∷ 0 ∷ (number % 65536 / 256 % 256) ∷ b ∷ body) low;
+    }
+
+flag_is : (outcome : Outcome) → outcome_flag outcome ≤ negative
+flag_is DeviceEnd = omega arith
+flag_is (Refused sense) = omega arith
+
+response_begins : (number : ℕ) (outcome : Outcome) (body : List ℕ) → number < 2 ^ 16
+    → Begins (spelling (response_header number outcome) ++ body) (response_header number outcome) body
+response_begins number outcome body below = record { is_header = record { kind = tt; flag = flag_is outcome }; number = below; spelt = refl }
+
+-- the flag says the verdict
+verdict_is : (verdict : Verdict) (outcome : Outcome) → OutcomeIs verdict outcome → verdict_of (outcome_flag outcome) ≡ verdict
+verdict_is Verdict.Positive outcome is = ap (λ (o : Outcome). verdict_of (outcome_flag o)) is
+verdict_is Verdict.Negative DeviceEnd is = absurd (is refl)
+verdict_is Verdict.Negative (Refused sense) is = refl
+
+-- the host reads them as what they stand for
+pub stands_read : (item : WireItem) (message : ToHost) → StandsUp item message → IsReadAs item message
+stands_read item (ToHost.TalksUp saying) stands = stands
+stands_read item (ToHost.Data parts) stands = record {
+  bytes = spelling (data_header stands.0) ++ stands.1;
+  header = data_header (stands.0 % 65536);
+  body = stands.1;
+  is_record = stands.2;
+  begins = data_begins stands.0 stands.1;
+  kind = refl;
+  inbound = stands.3;
+}
+stands_read item (ToHost.Response number verdict) stands =
+    let body : List ℕ = outcome_code stands.0 ∷ [] in
+    record {
+      bytes = spelling (response_header number stands.0) ++ body;
+      header = response_header number stands.0;
+      body = body;
+      is_record = stands.1;
+      begins = response_begins number stands.0 body stands.2;
+      kind = refl;
+      number_is = refl;
+      verdict_is = verdict_is verdict stands.0 stands.3;
+    }

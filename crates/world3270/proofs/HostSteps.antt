@@ -1,5 +1,5 @@
--- What a host makes of a message leaves its number and its values as they are; it says nothing but talk.
-use Rattle.std.proofs.Common.{◌≡◌, ◌⊎◌, inl, inr, ◌==◌, ℕ, Bool, true, false, Option, None, Result, Ok, Err, List, [], map, refl, if◌then◌else◌}
+-- What a host makes of a message leaves its number and its values as they are, and its turn; it says nothing but talk.
+use Rattle.std.proofs.Common.{◌≡◌, ◌⊎◌, inl, inr, ◌==◌, ℕ, Bool, true, false, Option, None, Result, Ok, Err, List, [], map, refl, ◌∙◌, if◌then◌else◌}
 use Rattle.codes3270.specs.declared.attention.Aid.{Aid}
 use Rattle.codes3270.specs.declared.attention.Aid.TheVariants.{NoAid, Enter, Clear, Pf, Pa}
 use Rattle.datastream.specs.Grammar.{CommandParts}
@@ -34,22 +34,28 @@ pub record JustTalks (old : Conn) (step : HostStep) : Type 0 where
   pub panel : step.conn.panel ≡ old.panel
   pub values : step.conn.values ≡ old.values
   pub message : step.conn.message ≡ old.message
+  pub turn : old.turn ≡ whose.Host → step.conn.turn ≡ whose.Host
   pub pending : (step.conn.pending ≡ old.pending) ⊎ (step.conn.pending ≡ Pending.Nothing)
+  pub unheard : (step.conn.unheard ≡ old.unheard) ⊎ (step.conn.unheard ≡ unheards.Clear)
+  pub reason : (step.conn.turn_reason ≡ old.turn_reason) ⊎ (step.conn.turn_reason ≡ turn_reasons.Agreement → ⊥)
   pub talk : List Saying
   pub says : step.sends ≡ map ToTerminal.TalksDown talk
 
 quietly : (conn : Conn) → JustTalks conn (quiet conn)
-quietly conn = record { number = refl; panel = refl; values = refl; message = refl; pending = inl refl; talk = []; says = refl }
+quietly conn = record { number = refl; panel = refl; values = refl; message = refl; turn = λ is. is; pending = inl refl; unheard = inl refl; reason = inl refl; talk = []; says = refl }
 
 closes : (conn : Conn) (cause : Cause) → JustTalks conn (closed_by cause conn)
-closes conn cause = record { number = refl; panel = refl; values = refl; message = refl; pending = inl refl; talk = []; says = refl }
+closes conn cause = record { number = refl; panel = refl; values = refl; message = refl; turn = λ is. is; pending = inl refl; unheard = inl refl; reason = inl refl; talk = []; says = refl }
 
 -- nothing is pending then
-settles : (conn new : Conn) → new.next_seq ≡ conn.next_seq → new.panel ≡ conn.panel → new.values ≡ conn.values → new.message ≡ conn.message → new.pending ≡ Pending.Nothing → JustTalks conn (quiet new)
-settles conn new number panel values message none = record { number = number; panel = panel; values = values; message = message; pending = inr none; talk = []; says = refl }
+settles : (conn new : Conn) → new.next_seq ≡ conn.next_seq → new.panel ≡ conn.panel → new.values ≡ conn.values → new.message ≡ conn.message → (conn.turn ≡ whose.Host → new.turn ≡ whose.Host)
+    → new.pending ≡ Pending.Nothing → new.unheard ≡ conn.unheard → (new.turn_reason ≡ conn.turn_reason) ⊎ (new.turn_reason ≡ turn_reasons.Agreement → ⊥) → JustTalks conn (quiet new)
+settles conn new number panel values message turn none unheard reason =
+    record { number = number; panel = panel; values = values; message = message; turn = turn; pending = inr none; unheard = inl unheard; reason = reason; talk = []; says = refl }
 
 replies : (conn : Conn) (lu grants : Option (List ℕ)) (next : Talk HostState × Reply) → JustTalks conn (replied conn lu grants next)
-replies conn lu grants next = record { number = refl; panel = refl; values = refl; message = refl; pending = inl refl; talk = sayings next.1; says = refl }
+replies conn lu grants next =
+    record { number = refl; panel = refl; values = refl; message = refl; turn = λ is. is; pending = inl refl; unheard = inl refl; reason = inl refl; talk = sayings next.1; says = refl }
 
 asks : (conn : Conn) (lu : Option (List ℕ)) (talk : Talk HostState) (answer : Result (List ℕ) Reason) (state : HostState) → JustTalks conn (asked conn lu talk answer state)
 asks conn lu talk answer (Asking device) = replies conn lu (granted_by answer) (follow Closed talk (answer_transition device answer))
@@ -73,34 +79,38 @@ talks pool conn lu talk (reply.Close cause) = replies conn lu None (talk, reply.
 
 -- what waits for an answer still does, or nothing does
 believes : (turn_reason : TurnReason) (pending : Pending) (cursor : Option ℕ) (conn : Conn) (result : Result Shadow HeardFault) → (pending ≡ conn.pending) ⊎ (pending ≡ Pending.Nothing)
+    → (turn_reason ≡ conn.turn_reason) ⊎ (turn_reason ≡ turn_reasons.Agreement → ⊥)
     → JustTalks conn (believed turn_reason pending cursor conn result)
-believes turn_reason pending cursor conn (Ok shadow) waits = record { number = refl; panel = refl; values = refl; message = refl; pending = waits; talk = []; says = refl }
-believes turn_reason pending cursor conn (Err fault) waits = closes conn _
+believes turn_reason pending cursor conn (Ok shadow) waits reason =
+    record { number = refl; panel = refl; values = refl; message = refl; turn = λ is. refl; pending = waits; unheard = inl refl; reason = reason; talk = []; says = refl }
+believes turn_reason pending cursor conn (Err fault) waits reason = closes conn _
 
 hears_key : (parts : InboundParts) (aid : Aid) (conn : Conn) → JustTalks conn (key_came parts aid conn)
 hears_key parts NoAid conn = closes conn _
-hears_key parts Enter conn = believes (turn_reasons.Key Enter false) conn.pending parts.cursor conn (hears parts conn) (inl refl)
-hears_key parts Clear conn = believes (turn_reasons.Key Clear false) conn.pending parts.cursor conn (hears parts conn) (inl refl)
-hears_key parts (Pf key) conn = believes (turn_reasons.Key (Pf key) false) conn.pending parts.cursor conn (hears parts conn) (inl refl)
-hears_key parts (Pa key) conn = believes (turn_reasons.Key (Pa key) false) conn.pending parts.cursor conn (hears parts conn) (inl refl)
+hears_key parts Enter conn = believes (turn_reasons.Key Enter false) conn.pending parts.cursor conn (hears parts conn) (inl refl) (inr (λ e. cc))
+hears_key parts Clear conn = believes (turn_reasons.Key Clear false) conn.pending parts.cursor conn (hears parts conn) (inl refl) (inr (λ e. cc))
+hears_key parts (Pf key) conn = believes (turn_reasons.Key (Pf key) false) conn.pending parts.cursor conn (hears parts conn) (inl refl) (inr (λ e. cc))
+hears_key parts (Pa key) conn = believes (turn_reasons.Key (Pa key) false) conn.pending parts.cursor conn (hears parts conn) (inl refl) (inr (λ e. cc))
 
 hears_key_data : (parts : InboundParts) (form : Form) (conn : Conn) → JustTalks conn (key_data_came parts form conn)
 hears_key_data parts Modified conn = hears_key parts parts.aid conn
 hears_key_data parts AllModified conn = closes conn _
 hears_key_data parts Buffer conn = closes conn _
 
-drops : (conn new : Conn) (aid : Aid) → new.next_seq ≡ conn.next_seq → new.panel ≡ conn.panel → new.values ≡ conn.values → new.message ≡ conn.message → new.pending ≡ conn.pending → JustTalks conn (dropping aid new)
-drops conn new aid number panel values message pending = record { number = number; panel = panel; values = values; message = message; pending = inl pending; talk = []; says = refl }
+drops : (conn new : Conn) (aid : Aid) → new.next_seq ≡ conn.next_seq → new.panel ≡ conn.panel → new.values ≡ conn.values → new.message ≡ conn.message → new.turn ≡ conn.turn → new.pending ≡ conn.pending
+    → (new.unheard ≡ conn.unheard) ⊎ (new.unheard ≡ unheards.Clear) → new.turn_reason ≡ conn.turn_reason → JustTalks conn (dropping aid new)
+drops conn new aid number panel values message turn pending unheard reason =
+    record { number = number; panel = panel; values = values; message = message; turn = λ is. turn ∙ is; pending = inl pending; unheard = unheard; reason = inl reason; talk = []; says = refl }
 
 drops_key : (aid : Aid) (pending : Pending) (conn : Conn) → JustTalks conn (second_key aid pending conn)
 drops_key NoAid pending conn = closes conn _
-drops_key Enter pending conn = drops conn conn Enter refl refl refl refl refl
-drops_key Clear Pending.Nothing conn = drops conn (record conn { unheard = unheards.Clear }) Clear refl refl refl refl refl
+drops_key Enter pending conn = drops conn conn Enter refl refl refl refl refl refl (inl refl) refl
+drops_key Clear Pending.Nothing conn = drops conn (record conn { unheard = unheards.Clear }) Clear refl refl refl refl refl refl (inr refl) refl
 drops_key Clear (Pending.Writing number command) conn = closes conn _
 drops_key Clear (Pending.Reading number) conn = closes conn _
 drops_key Clear (Pending.Noting number command) conn = closes conn _
-drops_key (Pf key) pending conn = drops conn conn (Pf key) refl refl refl refl refl
-drops_key (Pa key) pending conn = drops conn conn (Pa key) refl refl refl refl refl
+drops_key (Pf key) pending conn = drops conn conn (Pf key) refl refl refl refl refl refl (inl refl) refl
+drops_key (Pa key) pending conn = drops conn conn (Pa key) refl refl refl refl refl refl (inl refl) refl
 
 drops_key_data : (parts : InboundParts) (form : Form) (conn : Conn) → JustTalks conn (second_key_data parts form conn)
 drops_key_data parts Modified conn = drops_key parts.aid conn.pending conn
@@ -114,8 +124,13 @@ comes_out_of_turn parts conn = by_test (may_have_changed conn.unheard)
     by_test true = drops_key_data parts parts.form conn
     by_test false = closes conn BadInbound
 
+read_reason : (reason : TurnReason) → (once_read reason ≡ reason) ⊎ (once_read reason ≡ turn_reasons.Agreement → ⊥)
+read_reason turn_reasons.Agreement = inl refl
+read_reason turn_reasons.Refusal = inl refl
+read_reason (turn_reasons.Key aid buffered) = inr (λ e. cc)
+
 hears_buffer : (parts : InboundParts) (form : Form) (conn : Conn) → JustTalks conn (buffer_came parts form conn)
-hears_buffer parts Buffer conn = believes (once_read conn.turn_reason) Pending.Nothing parts.cursor conn (hears parts conn) (inr refl)
+hears_buffer parts Buffer conn = believes (once_read conn.turn_reason) Pending.Nothing parts.cursor conn (hears parts conn) (inr refl) (read_reason conn.turn_reason)
 hears_buffer parts Modified conn = comes_out_of_turn parts conn
 hears_buffer parts AllModified conn = comes_out_of_turn parts conn
 
@@ -138,15 +153,15 @@ loses_a_write command conn = by_test (is_erase command.code)
   where
     by_test : (b : Bool) → JustTalks conn (if b then closed_by Negative conn else quiet (refused conn))
     by_test true = closes conn Negative
-    by_test false = settles conn (refused conn) refl refl refl refl refl
+    by_test false = settles conn (refused conn) refl refl refl refl (λ is. refl) refl refl (inr (λ e. cc))
 
 judges : (command : CommandParts) (verdict : Verdict) (conn : Conn) → JustTalks conn (verdict_came command verdict conn)
-judges command Verdict.Positive conn = settles conn (answered command conn) refl refl refl refl refl
+judges command Verdict.Positive conn = settles conn (answered command conn) refl refl refl refl (λ is. is) refl refl (inl refl)
 judges command Verdict.Negative conn = loses_a_write command conn
 
 judges_read : (answers : Bool) (verdict : Verdict) (conn : Conn) → JustTalks conn (read_verdict_came answers verdict conn)
 judges_read answers Verdict.Positive conn = closes conn _
-judges_read answers Verdict.Negative conn = if_it_answers answers _ conn (settles conn (refused conn) refl refl refl refl refl)
+judges_read answers Verdict.Negative conn = if_it_answers answers _ conn (settles conn (refused conn) refl refl refl refl (λ is. refl) refl refl (inr (λ e. cc)))
 
 is_answered : (number : ℕ) (verdict : Verdict) (pending : Pending) (conn : Conn) → JustTalks conn (response_came number verdict pending conn)
 is_answered number verdict Pending.Nothing conn = closes conn _

@@ -21,7 +21,7 @@ use Rattle.keyboard.specs.declared.key.Pressed.TheVariants.{Done, Refused, Send}
 use Rattle.keyboard.specs.declared.key.Refusal.{Refusal}
 use Rattle.host_core.specs.Messages.{ToHost}
 use Rattle.world3270.proofs.Keys.{or_false, quiet_done, quiet_refused}
-use Rattle.world3270.specs.RuleLaws.{KeysOperate, ImpatientKeysOperate, freed_by_reset, impatient_key}
+use Rattle.world3270.specs.RuleLaws.{KeepsTheRules}
 use Rattle.world3270.specs.Rules.{Operates, with_aid}
 use Rattle.world3270.specs.Terminal.{Display, TermEnd, TermStep, data_of, erases_if, is_bound, key_came, outcome_of}
 
@@ -92,12 +92,12 @@ sent_screen none columns key keyboard screen aid Error locked e = absurd ((none 
 -- ---- the end after a key
 
 -- part by part
-abbrev stepped : TermEnd → Keyboard → Screen → Bool → List ToHost → TermStep
+abbrev pub stepped : TermEnd → Keyboard → Screen → Bool → List ToHost → TermStep
 stepped end keyboard screen erased sends =
     record { end = record end { display = record end.display { screen = screen; keyboard = keyboard; erased = erased } }; sends = sends; closes = None }
 
 -- a screen is its parts
-same_parts : (now was : Screen) → now.aid ≡ was.aid → now ≡ record was { cells = now.cells; cursor = now.cursor }
+pub same_parts : (now was : Screen) → now.aid ≡ was.aid → now ≡ record was { cells = now.cells; cursor = now.cursor }
 same_parts now was e = ap (λ aid. record now { aid = aid }) e
 
 module _ (leave : KeysLeave) (on_screen : KeysStayOnTheScreen) (keep_aid : SilentKeysKeepTheAid) (none : NothingIsSentAtALock) (sending : SendingWaits) (at_first : HeldAtFirst) (holds : EraseInputHolds)
@@ -145,15 +145,5 @@ module _ (leave : KeysLeave) (on_screen : KeysStayOnTheScreen) (keep_aid : Silen
   key_operates : Operates end (key_came key end)
   key_operates = by_answer outcome.answer refl
 
-pub keys_operate : KeysLeave → KeysStayOnTheScreen → SilentKeysKeepTheAid → NothingIsSentAtALock → SendingWaits → HeldAtFirst → EraseInputHolds → KeysOperate
+pub keys_operate : KeysLeave → KeysStayOnTheScreen → SilentKeysKeepTheAid → NothingIsSentAtALock → SendingWaits → HeldAtFirst → EraseInputHolds → KeepsTheRules key_came
 keys_operate leave on_screen keep_aid none sending at_first holds key end below = key_operates leave on_screen keep_aid none sending at_first holds key end below
-
--- What is done from another keyboard is done from this one: each move sets the keyboard.
-from_any_keyboard : (keyboard : Keyboard) (end : TermEnd) (step : TermStep) → Operates (record end { display = record end.display { keyboard = keyboard } }) step → Operates end step
-from_any_keyboard before end step (Operates.edits keyboard cells cursor erases held on is) = Operates.edits keyboard cells cursor erases held on is
-from_any_keyboard before end step (Operates.sends keyboard aid some is) = Operates.sends keyboard aid some is
-
-pub impatient_keys_operate : KeysOperate → ImpatientKeysOperate
-impatient_keys_operate operate key end below =
-    let keyboard = freed_by_reset key end.display.keyboard in
-    from_any_keyboard keyboard end (impatient_key key end) (operate key (record end { display = record end.display { keyboard = keyboard } }) below)

@@ -15,7 +15,7 @@ use Rattle.datastream.specs.InboundText.{InboundParts}
 use Rattle.datastream.specs.Screen.{Screen, is_char}
 use Rattle.datastream.specs.declared.inbound_part.Form.TheVariants.{Modified}
 use Rattle.keyboard.specs.Edits.{typed, with_deleted, with_field_erased}
-use Rattle.keyboard.specs.Keys.{Outcome, edited, lock_after, at_lock, pressed}
+use Rattle.keyboard.specs.Keys.{Outcome, edited as edit_or_refusal, lock_after, at_lock, pressed}
 use Rattle.keyboard.specs.Leaves.{erases, Keeps, KeepsSent}
 use Rattle.keyboard.specs.State.{Keyboard}
 use Rattle.keyboard.specs.declared.key.Key.{Key}
@@ -33,7 +33,6 @@ use Rattle.shadow.specs.Laws.{Believed, IsSentFrom}
 use Rattle.shadow.specs.Meets.{Meets, Knows}
 use Rattle.shadow.specs.Openness.{IsClearedBelief, IsLong, IsNotOpen, NothingIsOpen}
 use Rattle.shadow.specs.declared.fault.HeardFault.{HeardFault}
-use Rattle.tn3270e_msg.specs.TermTable.{Term}
 use Rattle.host_core.specs.Application.{Application, message_place}
 use Rattle.host_core.specs.Messages.{ToHost}
 use Rattle.host_core.specs.NoteLaws.{HasMessageRow, TakesNotes}
@@ -110,7 +109,7 @@ lock_stays Protected lock h e = absurd (cc)
 lock_stays NotNumeric lock h e = absurd (cc)
 lock_stays NoRoom lock h e = absurd (cc)
 
-edits : (r : Result Screen Refusal) (keyboard : Keyboard) (screen : Screen) → (keyboard.lock ≡ Wait → ⊥) → Acts (edited r keyboard screen)
+edits : (r : Result Screen Refusal) (keyboard : Keyboard) (screen : Screen) → (keyboard.lock ≡ Wait → ⊥) → Acts (edit_or_refusal r keyboard screen)
 edits (Ok new) keyboard screen h = h
 edits (Err why) keyboard screen h = lock_stays why keyboard.lock h
 
@@ -170,7 +169,7 @@ abbrev key_view : Key → Link → Link
 key_view key link = term_stepped (key_came key link.term) link.down link
 
 -- what the view of it has, part by part
-abbrev seen_as : View → List ToHost → Screen → Lock → Bool → View
+abbrev pub seen_as : View → List ToHost → Screen → Lock → Bool → View
 seen_as v up screen lock erased = record v { up = up; screen = screen; lock = lock; erased = erased }
 
 pub or_false : (b : Bool) → (b || false) ≡ b
@@ -256,9 +255,9 @@ will_see given unheard erased shape size shadow left screen aid is whole exact k
     is_long : is_short_aid screen.aid ≡ false → IsLong parts.form parts.aid
     is_long long = subst (λ f. IsLong f parts.aid) (sym (key_form size screen)) (ap is_short_aid (key_aid size screen) ∙ long)
 
--- ---- by what the key is answered
+-- ---- what the operator does at a moment at which he types
 
-module _ (given : Given) (app : Application) (link : Link) (key : Key) (k : Kept app (view_of link)) (lu : List ℕ) (from : Serving) (shadow : Shadow)
+module _ (given : Given) (app : Application) (link : Link) (k : Kept app (view_of link)) (lu : List ℕ) (from : Serving) (shadow : Shadow)
     (at : IsAt (view_of link) k.wanted (Moment.Serves lu from)) (same : link.term.display.shape ≡ link.host.shape) (f : Operates shadow (scene_of (view_of link))) where
   abbrev v : View
   v = view_of link
@@ -270,7 +269,6 @@ module _ (given : Given) (app : Application) (link : Link) (key : Key) (k : Kept
     term_talk = at.term_talk;
     turn = at.turn;
     pending = at.pending;
-    not_cleared = at.not_cleared;
     goes_down = at.goes_down;
     goes_up = subst (UnderWay v.lost (sent v.lost v.up [])) (append-nil (served_up from)) (more v.lost v.up (served_up from) [] at.goes_up);
   }
@@ -283,7 +281,6 @@ module _ (given : Given) (app : Application) (link : Link) (key : Key) (k : Kept
     term_talk = at.term_talk;
     turn = at.turn ∙ sym turn;
     pending = at.pending ∙ sym pending;
-    not_cleared = at.not_cleared;
     goes_down = subst (UnderWay v.lost v.down) (sym down) at.goes_down;
     goes_up = subst (UnderWay v.lost (sent v.lost v.up (ToHost.Data parts ∷ []))) up (more v.lost v.up (served_up from) (ToHost.Data parts ∷ []) at.goes_up);
   }
@@ -292,21 +289,21 @@ module _ (given : Given) (app : Application) (link : Link) (key : Key) (k : Kept
   scene_now screen lock erased = scene_of (seen_as v v.up screen lock erased)
 
   -- what a moment has of an operator who types, and of a key that was pressed
-  record Typing : Type 0 where
-    to : InboundParts → Serving
-    stay : (screen : Screen) (lock : Lock) (erased : Bool) → Operates shadow (scene_now screen lock erased) → Fact k.wanted (scene_now screen lock erased) (Moment.Serves lu from)
-    press : (parts : InboundParts) (screen : Screen) (lock : Lock) (erased : Bool) → IsPressed (scene_now screen lock erased) parts → WillSee (scene_now screen lock erased) shadow parts → TakesNotes v.host.shape screen.cells
+  pub record Typing : Type 0 where
+    pub to : InboundParts → Serving
+    pub stay : (screen : Screen) (lock : Lock) (erased : Bool) → Operates shadow (scene_now screen lock erased) → Fact k.wanted (scene_now screen lock erased) (Moment.Serves lu from)
+    pub press : (parts : InboundParts) (screen : Screen) (lock : Lock) (erased : Bool) → IsPressed (scene_now screen lock erased) parts → WillSee (scene_now screen lock erased) shadow parts → TakesNotes v.host.shape screen.cells
         → Fact k.wanted (scene_now screen lock erased) (Moment.Serves lu (to parts))
-    at_to : (parts : InboundParts) (screen : Screen) (lock : Lock) (erased : Bool) → IsAt (seen_as v (sent v.lost v.up (ToHost.Data parts ∷ [])) screen lock erased) k.wanted (Moment.Serves lu (to parts))
-    shown : (screen : Screen) → ShownAt app v.host v.before_restored v.last_restored screen (Moment.Serves lu from)
-    shown_to : (parts : InboundParts) (screen : Screen) → ShownAt app v.host v.before_restored v.last_restored screen (Moment.Serves lu (to parts))
+    pub at_to : (parts : InboundParts) (screen : Screen) (lock : Lock) (erased : Bool) → IsAt (seen_as v (sent v.lost v.up (ToHost.Data parts ∷ [])) screen lock erased) k.wanted (Moment.Serves lu (to parts))
+    pub shown : (screen : Screen) → ShownAt app v.waits v.host v.before_restored v.last_restored screen (Moment.Serves lu from)
+    pub shown_to : (parts : InboundParts) (screen : Screen) → ShownAt app v.waits v.host v.before_restored v.last_restored screen (Moment.Serves lu (to parts))
 
   -- what was noted, on the screen of this size
   noted_here : NotedSince (message_place v.shape) v.last_restored.cells f.shown.cells
   noted_here = subst (λ (s : Shape). NotedSince (message_place s) v.last_restored.cells f.shown.cells) (sym same) f.noted
 
   -- a key that sends nothing
-  stays : Typing → (screen : Screen) (lock : Lock) (erased : Bool) → length screen.cells ≡ cells_in v.shape → screen.cursor < cells_in v.shape → (lock ≡ Wait → ⊥) → Held erased f.shown.cells screen.cells
+  pub stays : Typing → (screen : Screen) (lock : Lock) (erased : Bool) → length screen.cells ≡ cells_in v.shape → screen.cursor < cells_in v.shape → (lock ≡ Wait → ⊥) → Held erased f.shown.cells screen.cells
       → Kept app (seen_as v (sent v.lost v.up []) screen lock erased)
   stays typing screen lock erased whole cursor free held = record {
     whole = whole;
@@ -323,7 +320,7 @@ module _ (given : Given) (app : Application) (link : Link) (key : Key) (k : Kept
   }
 
   -- a key that sends
-  sends : Typing → (screen : Screen) (lock : Lock) (erased : Bool) (aid : Aid) → length screen.cells ≡ cells_in v.shape → screen.cursor < cells_in v.shape → lock ≡ Wait → screen.aid ≡ aid → (aid ≡ NoAid → ⊥)
+  pub sends : Typing → (screen : Screen) (lock : Lock) (erased : Bool) (aid : Aid) → length screen.cells ≡ cells_in v.shape → screen.cursor < cells_in v.shape → lock ≡ Wait → screen.aid ≡ aid → (aid ≡ NoAid → ⊥)
       → KeepsSent erased aid f.shown.cells screen.cells → Kept app (seen_as v (sent v.lost v.up (ToHost.Data (modified_data Modified v.shape screen) ∷ [])) screen lock erased)
   sends typing screen lock erased aid whole cursor waits is some keeps =
       let parts : InboundParts = modified_data Modified v.shape screen in
@@ -346,88 +343,146 @@ module _ (given : Given) (app : Application) (link : Link) (key : Key) (k : Kept
         shown = typing.shown_to parts screen;
       }
 
+-- ---- the moments at which he types
+
+-- the terminal has the turn, and takes keys
+pub record TypingNow (given : Given) (app : Application) (link : Link) (k : Kept app (view_of link)) : Type 0 where
+  pub lu : List ℕ
+  pub from : Serving
+  pub shadow : Shadow
+  pub at : IsAt (view_of link) k.wanted (Moment.Serves lu from)
+  pub same : link.term.display.shape ≡ link.host.shape
+  pub operates : Operates shadow (scene_of (view_of link))
+  pub typing : Typing given app link k lu from shadow at same operates
+
+pub types_now : (given : Given) (app : Application) (link : Link) (k : Kept app (view_of link)) → (link.term.display.keyboard.lock ≡ Wait → ⊥) → TypingNow given app link k
+types_now given app link k free = by_moment k.moment k.sizes k.at k.fact k.shown
+  where
+    by_serving : (lu : List ℕ) (serving : Serving) → Sizes app (view_of link) (Moment.Serves lu serving) → IsAt (view_of link) k.wanted (Moment.Serves lu serving) → Fact k.wanted (scene_of (view_of link)) (Moment.Serves lu serving)
+        → ShownAt app link.term.waits link.host link.term.display.before_restored link.term.display.last_restored link.term.display.screen (Moment.Serves lu serving) → TypingNow given app link k
+    by_serving lu (Serving.Answering kind number command) s at f shown =
+        let shadow : Shadow = once_taken link.host.shape command link.host.shadow in
+        record {
+          lu = lu;
+          from = Serving.Answering kind number command;
+          shadow = shadow;
+          at = at;
+          same = s.same refl;
+          operates = f;
+          typing = record {
+            to = λ parts. Serving.KeyBehind kind number command parts;
+            stay = λ screen lock erased operates. operates;
+            press = λ parts screen lock erased pressed sees takes. (pressed, sees, takes, f.exact);
+            at_to = λ parts screen lock erased. sends_at given app link k lu (Serving.Answering kind number command) shadow at (s.same refl) f (Serving.KeyBehind kind number command parts) parts screen lock erased refl refl refl refl;
+            shown = λ screen. shown;
+            shown_to = λ parts screen. shown;
+          };
+        }
+    by_serving lu Serving.Operating s at f shown =
+        record {
+          lu = lu;
+          from = Serving.Operating;
+          shadow = link.host.shadow;
+          at = at;
+          same = s.same refl;
+          operates = f;
+          typing = record {
+            to = λ parts. Serving.KeyAlone parts;
+            stay = λ screen lock erased operates. operates;
+            press = λ parts screen lock erased pressed sees takes. (pressed, sees, takes);
+            at_to = λ parts screen lock erased. sends_at given app link k lu Serving.Operating link.host.shadow at (s.same refl) f (Serving.KeyAlone parts) parts screen lock erased refl refl refl refl;
+            shown = λ screen. shown;
+            shown_to = λ parts screen. shown;
+          };
+        }
+    by_serving lu (Serving.Noting number command) s at f shown =
+        record {
+          lu = lu;
+          from = Serving.Noting number command;
+          shadow = link.host.shadow;
+          at = at;
+          same = s.same refl;
+          operates = f.0;
+          typing = record {
+            to = λ parts. Serving.KeyNoted number command parts;
+            stay = λ screen lock erased operates. (operates, f.1);
+            press = λ parts screen lock erased pressed sees takes. (pressed, sees, record { note = f.1; takes = takes });
+            at_to = λ parts screen lock erased. sends_at given app link k lu (Serving.Noting number command) link.host.shadow at (s.same refl) f.0 (Serving.KeyNoted number command parts) parts screen lock erased refl refl refl refl;
+            shown = λ screen. shown;
+            shown_to = λ parts screen. shown;
+          };
+        }
+    by_serving lu Serving.Deciding s at f shown = absurd (free f.lock)
+    by_serving lu (Serving.Reading number) s at f shown = absurd (free f.decides.lock)
+    by_serving lu (Serving.Reported number parts) s at f shown = absurd (free f.lock)
+    by_serving lu (Serving.NotedLate number command) s at f shown = absurd (free f.0.lock)
+    by_serving lu (Serving.AnsweredLate number command) s at f shown = absurd (free f.lock)
+    by_serving lu (Serving.Painting number command wants over) s at f shown = absurd (free f.lock)
+    by_serving lu (Serving.KeyAlone parts) s at f shown = absurd (free f.0.lock)
+    by_serving lu (Serving.KeyBehind kind number command parts) s at f shown = absurd (free f.0.lock)
+    by_serving lu (Serving.KeyNoted number command parts) s at f shown = absurd (free f.0.lock)
+    by_serving lu (Serving.KeyBefore number command parts) s at f shown = absurd (free f.0.lock)
+
+    by_moment : (moment : Moment) → Sizes app (view_of link) moment → IsAt (view_of link) k.wanted moment → Fact k.wanted (scene_of (view_of link)) moment
+        → ShownAt app link.term.waits link.host link.term.display.before_restored link.term.display.last_restored link.term.display.screen moment → TypingNow given app link k
+    by_moment (Moment.Talks talking) s at f shown = absurd (free f.0.lock)
+    by_moment (Moment.Begins lu number command wants over) s at f shown = absurd (free f.lock)
+    by_moment (Moment.Serves lu serving) s at f shown = by_serving lu serving s at f shown
+
+-- ---- by what a key is answered
+
+module _ (given : Given) (app : Application) (link : Link) (key : Key) (k : Kept app (view_of link)) (now : TypingNow given app link k) where
+  abbrev here : View
+  here = view_of link
+
+  abbrev left : List Cell
+  left = now.operates.shown.cells
+
   -- the connection with what was said, by the answer
   abbrev said : Outcome → Pressed → View
   said outcome answer =
-      seen_as v (sent v.lost v.up (data_of (is_bound link.term) answer v.shape outcome.screen)) outcome.screen outcome.keyboard.lock (v.erased || erases_if answer key)
+      seen_as here (sent here.lost here.up (data_of (is_bound link.term) answer here.shape outcome.screen)) outcome.screen outcome.keyboard.lock (here.erased || erases_if answer key)
 
   bound : is_bound link.term ≡ true
-  bound = ap (λ (t : Term). is_some (bound_to t.talk.state)) at.term_talk
+  bound = ap (λ state. is_some (bound_to state)) now.at.term_talk
 
-  by_answer : Typing → (outcome : Outcome) (answer : Pressed) → length outcome.screen.cells ≡ cells_in v.shape → outcome.screen.cursor < cells_in v.shape → ActsBy answer outcome
-      → Keeps v.erased key answer f.shown.cells outcome.screen.cells → Kept app (said outcome answer)
-  by_answer typing outcome Done whole cursor a keeps =
-      subst (λ says. Kept app (seen_as v (sent v.lost v.up says) outcome.screen outcome.keyboard.lock (v.erased || erases key))) (sym (quiet_done (is_bound link.term) v.shape outcome.screen))
-      (stays typing outcome.screen outcome.keyboard.lock (v.erased || erases key) whole cursor a keeps)
-  by_answer typing outcome (Refused why) whole cursor a keeps =
-      subst (λ says. Kept app (seen_as v (sent v.lost v.up says) outcome.screen outcome.keyboard.lock (v.erased || false))) (sym (quiet_refused (is_bound link.term) why v.shape outcome.screen))
-      (stays typing outcome.screen outcome.keyboard.lock (v.erased || false) whole cursor a (subst (λ b. Held b f.shown.cells outcome.screen.cells) (sym (or_false v.erased)) keeps))
-  by_answer typing outcome (Send aid) whole cursor a keeps =
-      subst (λ b. Kept app (seen_as v (sent v.lost v.up (data_of b (Send aid) v.shape outcome.screen)) outcome.screen outcome.keyboard.lock (v.erased || false))) (sym bound)
-      (sends typing outcome.screen outcome.keyboard.lock (v.erased || false) aid whole cursor a.0 a.1 a.2 (subst (λ b. KeepsSent b aid f.shown.cells outcome.screen.cells) (sym (or_false v.erased)) keeps))
+  pub stay : (screen : Screen) (lock : Lock) (erased : Bool) → length screen.cells ≡ cells_in here.shape → screen.cursor < cells_in here.shape → (lock ≡ Wait → ⊥) → Held erased left screen.cells
+      → Kept app (seen_as here (sent here.lost here.up []) screen lock erased)
+  stay screen lock erased whole cursor free held = stays given app link k now.lu now.from now.shadow now.at now.same now.operates now.typing screen lock erased whole cursor free held
 
-  types : Typing → Kept app (view_of (key_view key link))
-  types typing =
+  by_answer : (outcome : Outcome) (answer : Pressed) → length outcome.screen.cells ≡ cells_in here.shape → outcome.screen.cursor < cells_in here.shape → ActsBy answer outcome
+      → Keeps here.erased key answer left outcome.screen.cells → Kept app (said outcome answer)
+  by_answer outcome Done whole cursor a keeps =
+      subst (λ says. Kept app (seen_as here (sent here.lost here.up says) outcome.screen outcome.keyboard.lock (here.erased || erases key))) (sym (quiet_done (is_bound link.term) here.shape outcome.screen))
+      (stay outcome.screen outcome.keyboard.lock (here.erased || erases key) whole cursor a keeps)
+  by_answer outcome (Refused why) whole cursor a keeps =
+      subst (λ says. Kept app (seen_as here (sent here.lost here.up says) outcome.screen outcome.keyboard.lock (here.erased || false))) (sym (quiet_refused (is_bound link.term) why here.shape outcome.screen))
+      (stay outcome.screen outcome.keyboard.lock (here.erased || false) whole cursor a (subst (λ b. Held b left outcome.screen.cells) (sym (or_false here.erased)) keeps))
+  by_answer outcome (Send aid) whole cursor a keeps =
+      subst (λ b. Kept app (seen_as here (sent here.lost here.up (data_of b (Send aid) here.shape outcome.screen)) outcome.screen outcome.keyboard.lock (here.erased || false))) (sym bound)
+      (sends given app link k now.lu now.from now.shadow now.at now.same now.operates now.typing outcome.screen outcome.keyboard.lock (here.erased || false) aid whole cursor a.0 a.1 a.2
+      (subst (λ b. KeepsSent b aid left outcome.screen.cells) (sym (or_false here.erased)) keeps))
+
+  types : Kept app (view_of (key_view key link))
+  types =
       let display : Display = link.term.display in
       let outcome : Outcome = outcome_of key display in
       let columns : ℕ = display.shape.columns in
       let on : display.screen.cursor < length display.screen.cells = subst (λ n. display.screen.cursor < n) (sym k.whole) k.cursor in
       let stayed = given.keys.on_screen columns key display.keyboard display.screen on in
-      by_answer typing outcome outcome.answer (stayed.0 ∙ k.whole) (subst (λ n. outcome.screen.cursor < n) k.whole stayed.1)
-      (acts columns key display.keyboard display.screen f.lock)
-      (given.keys.keep display.erased f.shown.cells columns key display.keyboard display.screen on f.held)
+      by_answer outcome outcome.answer (stayed.0 ∙ k.whole) (subst (λ n. outcome.screen.cursor < n) k.whole stayed.1)
+      (acts columns key display.keyboard display.screen now.operates.lock)
+      (given.keys.keep display.erased left columns key display.keyboard display.screen on now.operates.held)
 
 -- ---- any key, at any moment
 
 pub keys : Given → (app : Application) (link : Link) (key : Key) → Kept app (view_of link) → Kept app (view_of (key_view key link))
-keys given app link key k = by_moment k.moment k.sizes k.at k.fact k.shown
+keys given app link key k = by_lock link.term.display.keyboard.lock refl
   where
-    wait : link.term.display.keyboard.lock ≡ Wait → Kept app (view_of (key_view key link))
-    wait e = subst (Kept app) (sym (key_waits key link e)) k
+    types_at : (lock : Lock) → link.term.display.keyboard.lock ≡ lock → (lock ≡ Wait → ⊥) → Kept app (view_of (key_view key link))
+    types_at lock is free = types given app link key k (types_now given app link k (λ waits. free (sym is ∙ waits)))
 
-    by_serving : (lu : List ℕ) (serving : Serving) → Sizes app (view_of link) (Moment.Serves lu serving) → IsAt (view_of link) k.wanted (Moment.Serves lu serving) → Fact k.wanted (scene_of (view_of link)) (Moment.Serves lu serving)
-        → ShownAt app link.host link.term.display.before_restored link.term.display.last_restored link.term.display.screen (Moment.Serves lu serving) → Kept app (view_of (key_view key link))
-    by_serving lu (Serving.Answering kind number command) s at f shown =
-        let shadow : Shadow = once_taken link.host.shape command link.host.shadow in
-        types given app link key k lu (Serving.Answering kind number command) shadow at (s.same refl) f (record {
-          to = λ parts. Serving.KeyBehind kind number command parts;
-          stay = λ screen lock erased operates. operates;
-          press = λ parts screen lock erased pressed sees takes. (pressed, sees, takes, f.exact);
-          at_to = λ parts screen lock erased. sends_at given app link key k lu (Serving.Answering kind number command) shadow at (s.same refl) f (Serving.KeyBehind kind number command parts) parts screen lock erased refl refl refl refl;
-          shown = λ screen. shown;
-          shown_to = λ parts screen. shown;
-        })
-    by_serving lu Serving.Operating s at f shown =
-        types given app link key k lu Serving.Operating link.host.shadow at (s.same refl) f (record {
-          to = λ parts. Serving.KeyAlone parts;
-          stay = λ screen lock erased operates. operates;
-          press = λ parts screen lock erased pressed sees takes. (pressed, sees, takes);
-          at_to = λ parts screen lock erased. sends_at given app link key k lu Serving.Operating link.host.shadow at (s.same refl) f (Serving.KeyAlone parts) parts screen lock erased refl refl refl refl;
-          shown = λ screen. shown;
-          shown_to = λ parts screen. shown;
-        })
-    by_serving lu (Serving.Noting number command) s at f shown =
-        types given app link key k lu (Serving.Noting number command) link.host.shadow at (s.same refl) f.0 (record {
-          to = λ parts. Serving.KeyNoted number command parts;
-          stay = λ screen lock erased operates. (operates, f.1);
-          press = λ parts screen lock erased pressed sees takes. (pressed, sees, record { note = f.1; takes = takes });
-          at_to = λ parts screen lock erased. sends_at given app link key k lu (Serving.Noting number command) link.host.shadow at (s.same refl) f.0 (Serving.KeyNoted number command parts) parts screen lock erased refl refl refl refl;
-          shown = λ screen. shown;
-          shown_to = λ parts screen. shown;
-        })
-    by_serving lu Serving.Deciding s at f shown = wait f.lock
-    by_serving lu (Serving.Reading number) s at f shown = wait f.decides.lock
-    by_serving lu (Serving.Reported number parts) s at f shown = wait f.0.decides.lock
-    by_serving lu (Serving.NotedLate number command) s at f shown = wait f.0.lock
-    by_serving lu (Serving.AnsweredLate number command) s at f shown = wait f.lock
-    by_serving lu (Serving.Painting number command wants over) s at f shown = wait f.lock
-    by_serving lu (Serving.KeyAlone parts) s at f shown = wait f.0.lock
-    by_serving lu (Serving.KeyBehind kind number command parts) s at f shown = wait f.0.lock
-    by_serving lu (Serving.KeyNoted number command parts) s at f shown = wait f.0.lock
-    by_serving lu (Serving.KeyBefore number command parts) s at f shown = wait f.0.lock
-
-    by_moment : (moment : Moment) → Sizes app (view_of link) moment → IsAt (view_of link) k.wanted moment → Fact k.wanted (scene_of (view_of link)) moment → ShownAt app link.host link.term.display.before_restored link.term.display.last_restored link.term.display.screen moment
-        → Kept app (view_of (key_view key link))
-    by_moment (Moment.Talks talking) s at f shown = wait f.0.lock
-    by_moment (Moment.Begins lu number command wants over) s at f shown = wait f.lock
-    by_moment (Moment.Serves lu serving) s at f shown = by_serving lu serving s at f shown
+    by_lock : (lock : Lock) → link.term.display.keyboard.lock ≡ lock → Kept app (view_of (key_view key link))
+    by_lock Wait is = subst (Kept app) (sym (key_waits key link is)) k
+    by_lock Free is = types_at Free is (λ waits. absurd (cc))
+    by_lock Error is = types_at Error is (λ waits. absurd (cc))

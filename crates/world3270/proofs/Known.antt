@@ -43,7 +43,7 @@ asks_for_screens : KnownWorlds → (begin : Begin) → IsBegin begin → AsksFor
 asks_for_screens known begin is = known.screens begin.panels is.panels.laid_out is.panels.characters
 
 -- panels have the sizes of the 3278's models
-the_sizes : (panels : Panels) → HasTheSizes (application_of panels)
+pub the_sizes : (panels : Panels) → HasTheSizes (application_of panels)
 the_sizes panels = record { begins = refl; alternate = λ model. refl }
 
 pub facts : KnownWorlds → (begin : Begin) → IsBegin begin → (events : List Event) → AreEvents events → All IsTyped events → Facts (after begin events)

@@ -26,7 +26,7 @@ use Rattle.world3270.specs.Terminal.{TermEnd, is_bound, data_of, once_bound, out
 use Rattle.world3270.proofs.HostSteps.{just_talks}
 use Rattle.world3270.proofs.Everywhere.{Steps, everywhere}
 
-abbrev FitsDown : ToTerminal → Type 0
+abbrev pub FitsDown : ToTerminal → Type 0
 FitsDown message = IfSome (number_in message) IsNumber
 
 abbrev FitsUp : ToHost → Type 0
@@ -45,19 +45,19 @@ next_fits number = by_test (nat_lt number 32767) refl
 
 -- ---- what a host makes of a message
 
-record Numbered (conn : Conn) : Type 0 where
-  next : IsNumber conn.next_seq
-  pending : IfSome (number_of conn.pending) IsNumber
+pub record Numbered (conn : Conn) : Type 0 where
+  pub next : IsNumber conn.next_seq
+  pub pending : IfSome (number_of conn.pending) IsNumber
 
-record StepFits (step : HostStep) : Type 0 where
-  conn : Numbered step.conn
-  sends : All FitsDown step.sends
+pub record StepFits (step : HostStep) : Type 0 where
+  pub conn : Numbered step.conn
+  pub sends : All FitsDown step.sends
 
 still_pending : (old new : Pending) → (new ≡ old) ⊎ (new ≡ Pending.Nothing) → IfSome (number_of old) IsNumber → IfSome (number_of new) IsNumber
 still_pending old new (inl same) fits = subst (λ p. IfSome (number_of p) IsNumber) (sym same) fits
 still_pending old new (inr none) fits = subst (λ p. IfSome (number_of p) IsNumber) (sym none) tt
 
-host_fits : (pool : Answers) (conn : Conn) (message : ToHost) → Numbered conn → StepFits (host_took pool conn message)
+pub host_fits : (pool : Answers) (conn : Conn) (message : ToHost) → Numbered conn → StepFits (host_took pool conn message)
 host_fits pool conn message n =
     let step : HostStep = host_took pool conn message in
     let just = just_talks pool conn message in
@@ -68,15 +68,15 @@ host_fits pool conn message n =
 
 -- ---- what a host does
 
-record SendingFits (sending : Sent) : Type 0 where
-  conn : Numbered sending.conn
-  message : FitsDown sending.message
+pub record SendingFits (sending : Sent) : Type 0 where
+  pub conn : Numbered sending.conn
+  pub message : FitsDown sending.message
 
-done_fits : (app : Application) (conn : Conn) (act : Act) → Numbered conn → SendingFits (done app conn act)
+pub done_fits : (app : Application) (conn : Conn) (act : Act) → Numbered conn → SendingFits (done app conn act)
 done_fits app conn Act.Read n = record { conn = record { next = next_fits conn.next_seq; pending = n.next }; message = n.next }
 done_fits app conn (Act.Show panel message keep values) n = record { conn = record { next = next_fits conn.next_seq; pending = n.next }; message = n.next }
 
-note_fits : (text : List ℕ) (conn : Conn) → Numbered conn → SendingFits (noted_as text conn)
+pub note_fits : (text : List ℕ) (conn : Conn) → Numbered conn → SendingFits (noted_as text conn)
 note_fits text conn n = record { conn = record { next = next_fits conn.next_seq; pending = n.next }; message = n.next }
 
 -- ---- what a terminal makes of a message, and of a key

@@ -6,6 +6,7 @@ use Rattle.world3270.proofs.RunsOfLosses.{losing_run}
 use Rattle.world3270.proofs.RunsOfNotes.{notes_run}
 use Rattle.world3270.proofs.RunsOfReads.{reading_run, doubting_run}
 use Rattle.world3270.proofs.RunsOfRestarts.{restarting_run}
+use Rattle.world3270.proofs.RunsOfRules.{broken_rules, kept_rules, told_run, waiting_run}
 use Rattle.world3270.proofs.RunsOfTargets.{leading_run}
 use Rattle.world3270.proofs.RunsOfQuestions.{asking_run}
 
@@ -22,4 +23,8 @@ the_runs = record {
   leading = leading_run;
   asking = asking_run;
   losing = losing_run;
+  waiting = waiting_run;
+  told = told_run;
+  broken = broken_rules;
+  kept = kept_rules;
 }

@@ -1,5 +1,6 @@
 -- What a terminal says of LUs is their names, after any list of events.
 use Rattle.std.proofs.Common.{◌≡◌, ℕ, Bool, true, false, Option, None, Some, List, [], ◌∷◌, ◌++◌, map, refl, subst, if◌then◌else◌}
+use Rattle.std.specs.Prelude.{⊤}
 use Rattle.codes3270.specs.declared.size.Model.{Model}
 use Rattle.std.specs.List.{AllByRecursion}
 use Rattle.keyboard.specs.declared.key.Key.{Key}
@@ -25,12 +26,17 @@ use Rattle.host_core.specs.declared.terminals.Terminals.{Terminals}
 use Rattle.world3270.specs.Happens.{closed_if, said, came_up, place_after, came_down, went_down, key_went, term_saw, joined, term_anew, host_left_from, done, happens, run}
 use Rattle.world3270.specs.Link.{Link, sent as sent_on, host_left, host_left_if, host_stepped, host_sent, term_left, term_left_if, term_stepped, begun}
 use Rattle.world3270.specs.Placed.{has_place, free_number}
-use Rattle.world3270.specs.StandsEnds.{NamesWanted}
+use Rattle.world3270.specs.StandsEnds.{IsSaid, NamesWanted}
 use Rattle.world3270.specs.Terminal.{TermEnd, TermStep, is_bound, once_bound, outcome_of, data_of, key_came, took as term_took}
 use Rattle.world3270.specs.World.{Place, World, Event, IsEvent, AreEvents, new_world, with_at, display_at}
-use Rattle.world3270.proofs.HostItems.{IsSaidUp}
 use Rattle.world3270.proofs.OneOfMany.{all_with}
 use Rattle.world3270.proofs.StandsFits.{Fits, answer_fits}
+
+-- what is said of LUs is their names
+abbrev pub IsSaidUp : ToHost → Type 0
+IsSaidUp (ToHost.TalksUp saying) = IsSaid saying
+IsSaidUp (ToHost.Data parts) = ⊤
+IsSaidUp (ToHost.Response number verdict) = ⊤
 
 -- ---- what a terminal's talk sends of LUs, where it wants one by its name or any
 

@@ -180,13 +180,13 @@ comes_fitting size may_differ lost queue (message ∷ messages) number command r
     subst (λ m. FirstFits size may_differ (m ∷ messages)) (sym (front lost queue (ToTerminal.Note number command) rest message messages e under).0) first
 
 -- the note was written for the screen that it finds
-abbrev NoteFits : Shape → ToTerminal → Type 0
+abbrev pub NoteFits : Shape → ToTerminal → Type 0
 NoteFits shape (ToTerminal.TalksDown saying) = ⊤
 NoteFits shape (ToTerminal.Paint number wanted over) = ⊤
 NoteFits shape (ToTerminal.ReadBuffer number) = ⊤
 NoteFits shape (ToTerminal.Note number command) = command.size ≡ shape
 
-note_fits : (app : Application) (link : Link) (message : ToTerminal) (rest : List ToTerminal) → link.down ≡ message ∷ rest → Kept app (view_of link) → NoteFits link.term.display.shape message
+pub note_fits : (app : Application) (link : Link) (message : ToTerminal) (rest : List ToTerminal) → link.down ≡ message ∷ rest → Kept app (view_of link) → NoteFits link.term.display.shape message
 note_fits app link (ToTerminal.TalksDown saying) rest e k = tt
 note_fits app link (ToTerminal.Paint number wanted over) rest e k = tt
 note_fits app link (ToTerminal.ReadBuffer number) rest e k = tt
@@ -246,7 +246,7 @@ set_texts : (number : ℕ) (text : Option (List ℕ)) (values : Values) → AreT
 set_texts number None values texts is = texts
 set_texts number (Some text) values texts is = All-values-insert_entry nat_cmp number text AreCharacters values texts is
 
-learned_texts : (shadow : Shadow) (screen : Screen) (panel : List PanelField) (values : Values) → Meets shadow screen → CellsAreStored screen.cells → AreTexts values → AreTexts (learned shadow panel values)
+pub learned_texts : (shadow : Shadow) (screen : Screen) (panel : List PanelField) (values : Values) → Meets shadow screen → CellsAreStored screen.cells → AreTexts values → AreTexts (learned shadow panel values)
 learned_texts shadow screen [] values meets each texts = texts
 learned_texts shadow screen (field ∷ panel) values meets each texts =
     learned_texts shadow screen panel (set_if field.number (text_known shadow field) values) meets each
@@ -325,15 +325,15 @@ wanted_is app conn panel message true values asks texts = by_fit (fits conn.shad
     by_fit false = asks panel values message false texts
 
 -- a paint of a screen of the profile, or a note that some bytes spell
-abbrev IsWritten : ToTerminal → Type 0
+abbrev pub IsWritten : ToTerminal → Type 0
 IsWritten (ToTerminal.TalksDown saying) = ⊤
 IsWritten (ToTerminal.Paint number wanted over) = IsScreen wanted
 IsWritten (ToTerminal.ReadBuffer number) = ⊤
 IsWritten (ToTerminal.Note number command) = IsProperNote command × IsSpeltCommand command
 
-record SendsTexts (sending : Sent) : Type 0 where
-  message : IsWritten sending.message
-  values : AreTexts sending.conn.values
+pub record SendsTexts (sending : Sent) : Type 0 where
+  pub message : IsWritten sending.message
+  pub values : AreTexts sending.conn.values
 
 done_texts : (app : Application) (conn : Conn) (act : Act) → AsksForScreens app → AreTexts conn.values → ActsOnTexts act → SendsTexts (done app conn act)
 done_texts app conn Act.Read asks texts is = record { message = tt; values = texts }
@@ -392,15 +392,15 @@ painted_sendable wanted screen w is = record {
   storable = painted_stored wanted.reset wanted.cells wanted.cells (cells_under (length wanted.cells) screen.cells) w.proper (under_stored (length wanted.cells) screen.cells is.storable);
 }
 
-record StepSends (step : TermStep) : Type 0 where
-  screen : IsSendable step.end.display.screen
-  spelt : All CanBeSpelt step.sends
+pub record StepSends (step : TermStep) : Type 0 where
+  pub screen : IsSendable step.end.display.screen
+  pub spelt : All CanBeSpelt step.sends
 
 once_bound_sends : (bound : Bool) (end : TermEnd) (step : TermStep) → IsSendable end.display.screen → StepSends step → StepSends (once_bound bound step end)
 once_bound_sends true end step is sends = sends
 once_bound_sends false end step is sends = record { screen = is; spelt = All-nil CanBeSpelt }
 
-term_sends : SentIsRead → Given → (end : TermEnd) (message : ToTerminal) → IsWritten message → NoteFits end.display.shape message → length end.display.screen.cells ≡ cells_in end.display.shape → IsSendable end.display.screen → StepSends (term_took end message)
+pub term_sends : SentIsRead → Given → (end : TermEnd) (message : ToTerminal) → IsWritten message → NoteFits end.display.shape message → length end.display.screen.cells ≡ cells_in end.display.shape → IsSendable end.display.screen → StepSends (term_took end message)
 term_sends read given end (ToTerminal.TalksDown saying) written fits whole is = record { screen = is; spelt = All-map CanBeSpelt ToHost.TalksUp _ (λ k d below. tt) }
 term_sends read given end (ToTerminal.Paint number wanted over) written fits whole is =
     once_bound_sends (is_bound end) end (paint_came number wanted end) is
@@ -446,8 +446,10 @@ sends link (Some sending) c is = record {
 }
 
 -- where the host may act, the screen meets what it believes, and so what it learns is characters
-what_is_learned : (app : Application) (link : Link) → Kept app (view_of link) → CanSend link → link.host.turn ≡ whose.Host → link.host.pending ≡ Pending.Nothing
-    → AreTexts (learned link.host.shadow (app.fields link.host.panel) link.host.values)
+abbrev pub LearnsTexts : Application → Conn → Type 0
+LearnsTexts app conn = conn.turn ≡ whose.Host → conn.pending ≡ Pending.Nothing → AreTexts (learned conn.shadow (app.fields conn.panel) conn.values)
+
+what_is_learned : (app : Application) (link : Link) → Kept app (view_of link) → CanSend link → LearnsTexts app link.host
 what_is_learned app link k c turns pends =
     let known = knows_at app (view_of link) k turns pends in
     learned_texts link.host.shadow link.term.display.screen (app.fields link.host.panel) link.host.values known.meets c.screen.storable c.values
@@ -456,36 +458,44 @@ decided_texts : (app : Application) (conn : Conn) (decision : Decision) → Asks
 decided_texts app conn (Decision.Do act) asks texts is = done_texts app conn act asks texts is
 decided_texts app conn Decision.Asks asks texts is = tt
 
-acts_by : (app : Application) → AsksForScreens app → (link : Link) (turn : Turn) (pending : Pending) (agreed : Bool) → Kept app (view_of link) → CanSend link
-    → link.host.turn ≡ turn → link.host.pending ≡ pending → IfSome (if may_act turn pending agreed then decided app link.host (decision_on app link.host link.host.turn_reason) else None) SendsTexts
-acts_by app asks link whose.Host Pending.Nothing true k c turns pends =
-    decided_texts app link.host (decision_on app link.host link.host.turn_reason) asks c.values
-    (decision_texts app link.host link.host.turn_reason c.values (what_is_learned app link k c turns pends))
-acts_by app asks link whose.Host Pending.Nothing false k c turns pends = tt
-acts_by app asks link whose.Host (Pending.Writing number command) agreed k c turns pends = tt
-acts_by app asks link whose.Host (Pending.Reading number) agreed k c turns pends = tt
-acts_by app asks link whose.Host (Pending.Noting number command) agreed k c turns pends = tt
-acts_by app asks link whose.Terminal pending agreed k c turns pends = tt
+acts_by : (app : Application) → AsksForScreens app → (conn : Conn) (turn : Turn) (pending : Pending) (agreed : Bool) → AreTexts conn.values → LearnsTexts app conn
+    → conn.turn ≡ turn → conn.pending ≡ pending → IfSome (if may_act turn pending agreed then decided app conn (decision_on app conn conn.turn_reason) else None) SendsTexts
+acts_by app asks conn whose.Host Pending.Nothing true values learns turns pends =
+    decided_texts app conn (decision_on app conn conn.turn_reason) asks values (decision_texts app conn conn.turn_reason values (learns turns pends))
+acts_by app asks conn whose.Host Pending.Nothing false values learns turns pends = tt
+acts_by app asks conn whose.Host (Pending.Writing number command) agreed values learns turns pends = tt
+acts_by app asks conn whose.Host (Pending.Reading number) agreed values learns turns pends = tt
+acts_by app asks conn whose.Host (Pending.Noting number command) agreed values learns turns pends = tt
+acts_by app asks conn whose.Terminal pending agreed values learns turns pends = tt
 
-answers_by : (app : Application) → AsksForScreens app → (said : Said) → AreTexts said.values → (link : Link) (turn : Turn) (pending : Pending) (agreed asks_it has : Bool) → Kept app (view_of link) → CanSend link
-    → link.host.turn ≡ turn → link.host.pending ≡ pending
-    → IfSome (if (may_act turn pending agreed && asks_it) && has then Some (done app link.host (act_by app link.host said said.panel)) else None) SendsTexts
-answers_by app asks said are link whose.Host Pending.Nothing true true true k c turns pends =
-    done_texts app link.host (act_by app link.host said said.panel) asks c.values (answer_texts app link.host said said.panel (what_is_learned app link k c turns pends) are)
-answers_by app asks said are link whose.Host Pending.Nothing true true false k c turns pends = tt
-answers_by app asks said are link whose.Host Pending.Nothing true false has k c turns pends = tt
-answers_by app asks said are link whose.Host Pending.Nothing false asks_it has k c turns pends = tt
-answers_by app asks said are link whose.Host (Pending.Writing number command) agreed asks_it has k c turns pends = tt
-answers_by app asks said are link whose.Host (Pending.Reading number) agreed asks_it has k c turns pends = tt
-answers_by app asks said are link whose.Host (Pending.Noting number command) agreed asks_it has k c turns pends = tt
-answers_by app asks said are link whose.Terminal pending agreed asks_it has k c turns pends = tt
+pub acts_texts : (app : Application) → AsksForScreens app → (conn : Conn) → AreTexts conn.values → LearnsTexts app conn → IfSome (acted app conn) SendsTexts
+acts_texts app asks conn values learns = acts_by app asks conn conn.turn conn.pending (is_agreed conn.talk.state) values learns refl refl
 
-notes_if : Given → (text : List ℕ) (link : Link) (b : Bool) → IsShape link.host.shape → IsNoteText text → CanSend link
-    → IfSome (if b then Some (noted_as text link.host) else None) SendsTexts
-notes_if given text link true is note c = note_texts given text link.host is note c.values
-notes_if given text link false is note c = tt
+answers_by : (app : Application) → AsksForScreens app → (said : Said) → AreTexts said.values → (conn : Conn) (turn : Turn) (pending : Pending) (agreed asks_it has : Bool) → AreTexts conn.values → LearnsTexts app conn
+    → conn.turn ≡ turn → conn.pending ≡ pending
+    → IfSome (if (may_act turn pending agreed && asks_it) && has then Some (done app conn (act_by app conn said said.panel)) else None) SendsTexts
+answers_by app asks said are conn whose.Host Pending.Nothing true true true values learns turns pends =
+    done_texts app conn (act_by app conn said said.panel) asks values (answer_texts app conn said said.panel (learns turns pends) are)
+answers_by app asks said are conn whose.Host Pending.Nothing true true false values learns turns pends = tt
+answers_by app asks said are conn whose.Host Pending.Nothing true false has values learns turns pends = tt
+answers_by app asks said are conn whose.Host Pending.Nothing false asks_it has values learns turns pends = tt
+answers_by app asks said are conn whose.Host (Pending.Writing number command) agreed asks_it has values learns turns pends = tt
+answers_by app asks said are conn whose.Host (Pending.Reading number) agreed asks_it has values learns turns pends = tt
+answers_by app asks said are conn whose.Host (Pending.Noting number command) agreed asks_it has values learns turns pends = tt
+answers_by app asks said are conn whose.Terminal pending agreed asks_it has values learns turns pends = tt
 
-blank_sendable : (model : Model) (shape : Shape) → IsShape shape → IsSendable (new_display model shape).screen
+pub answers_texts : (app : Application) → AsksForScreens app → (said : Said) → AreTexts said.values → (conn : Conn) → AreTexts conn.values → LearnsTexts app conn → IfSome (answered_on app conn said) SendsTexts
+answers_texts app asks said are conn values learns =
+    answers_by app asks said are conn conn.turn conn.pending (is_agreed conn.talk.state) (is_ask (decision_on app conn conn.turn_reason)) (has_its_panel app said) values learns refl refl
+
+pub notes_texts : Given → (text : List ℕ) (conn : Conn) → IsShape conn.shape → IsNoteText text → AreTexts conn.values → IfSome (noted text conn) SendsTexts
+notes_texts given text conn is note values = by_test (may_note conn.turn conn.pending (is_agreed conn.talk.state))
+  where
+    by_test : (b : Bool) → IfSome (if b then Some (noted_as text conn) else None) SendsTexts
+    by_test true = note_texts given text conn is note values
+    by_test false = tt
+
+pub blank_sendable : (model : Model) (shape : Shape) → IsShape shape → IsSendable (new_display model shape).screen
 blank_sendable model shape is = record {
   few = subst (λ (n : ℕ). n ≤ most_cells) (sym (blank_length model shape)) is.addresses;
   cursor = subst (λ (n : ℕ). 0 < n) (sym (blank_length model shape)) (first_cell shape is);
@@ -515,12 +525,11 @@ steps read given app is asks = record {
         writes = sent_all IsWritten link.lost link.down step.sends c.writes (subst (All IsWritten) (sym just.says) (All-map IsWritten ToTerminal.TalksDown just.talk (λ k d below. tt)));
         values = subst AreTexts (sym just.values) c.values;
       });
-  acts = λ link k c. sends link (acted app link.host) c (acts_by app asks link link.host.turn link.host.pending (is_agreed link.host.talk.state) k c refl refl);
+  acts = λ link k c. sends link (acted app link.host) c (acts_texts app asks link.host c.values (what_is_learned app link k c));
   answers = λ number said link such k c.
-      sends link (answered_on app link.host said) c
-      (answers_by app asks said such.0 link link.host.turn link.host.pending (is_agreed link.host.talk.state) (is_ask (decision_on app link.host link.host.turn_reason)) (has_its_panel app said) k c refl refl);
+      sends link (answered_on app link.host said) c (answers_texts app asks said such.0 link.host c.values (what_is_learned app link k c));
   notes = λ number text link such k c.
-      sends link (noted text link.host) c (notes_if given text link (may_note link.host.turn link.host.pending (is_agreed link.host.talk.state)) (shape_of_model app link.term.display.model link.host.shape is k.sizes.host) such.0 c);
+      sends link (noted text link.host) c (notes_texts given text link.host (shape_of_model app link.term.display.model link.host.shape is k.sizes.host) such.0 c.values);
   down = λ link message rest e k c.
       let down : All IsWritten (message ∷ rest) = subst (All IsWritten) e c.writes in
       let says = term_sends read given link.term message (All-head IsWritten message rest down) (note_fits app link message rest e k) k.whole c.screen in
@@ -583,7 +592,7 @@ each_written P has [] each = All-nil P
 each_written P has (message ∷ messages) each =
     All-cons P message messages (has message (All-head IsWritten message messages each)) (each_written P has messages (All-tail IsWritten message messages each))
 
-paints_a_screen : (message : ToTerminal) → IsWritten message → PaintsAScreen message
+pub paints_a_screen : (message : ToTerminal) → IsWritten message → PaintsAScreen message
 paints_a_screen (ToTerminal.TalksDown saying) written = tt
 paints_a_screen (ToTerminal.Paint number wanted over) written = written
 paints_a_screen (ToTerminal.ReadBuffer number) written = tt
@@ -594,7 +603,7 @@ paints_are_screens read given app serves pool models events is asks lists few ar
     let all = all_can read given app serves pool models events is asks lists few are typed in
     each_written PaintsAScreen paints_a_screen ((run app events (new_world app serves pool models)).link number).down (all.links number).writes
 
-message_spelt : PaintIsSpelt → (message : ToTerminal) → IsWritten message → IsSpelt message
+pub message_spelt : PaintIsSpelt → (message : ToTerminal) → IsWritten message → IsSpelt message
 message_spelt law (ToTerminal.TalksDown saying) written = tt
 message_spelt law (ToTerminal.Paint number wanted over) written =
     λ now alternate sized writes. law now alternate over wanted written sized writes

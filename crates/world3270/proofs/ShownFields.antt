@@ -374,9 +374,9 @@ module _ (app : Application) (is : IsApplication app) (wants : WantsItsFields ap
       let its : Field = record { place = field.extent.first - 1; attr = field_attr values message false field; text = fitted field.extent.length (field_content values message field) } in
       subst (λ (s : Screen). HasField s its) (sym painted) (written (app.screen panel values message false) before its (is.whole panel values message) wants_written)
 
-  is_kept : KeptStaysThere → (over : Shadow) (before screen : Screen) → ((attribute : Attr) (text : List ℕ) → ShowsField before field attribute text → value_of values field.number ≡ Some (without_nulls text)) → is_again message ≡ true → is_paintable over (app.screen panel values message true) ≡ true → Meets over before
-      → screen ≡ plainly_painted (app.screen panel values message true) before → IsKept values message field before screen
-  is_kept kept over before screen value again fits_it meets painted =
+  is_kept : KeptStaysThere → (waits : Bool) (over : Shadow) (before screen : Screen) → (waits ≡ true → (attribute : Attr) (text : List ℕ) → ShowsField before field attribute text → value_of values field.number ≡ Some (without_nulls text)) → is_again message ≡ true → is_paintable over (app.screen panel values message true) ≡ true → Meets over before
+      → screen ≡ plainly_painted (app.screen panel values message true) before → IsKept waits values message field before screen
+  is_kept kept waits over before screen value again fits_it meets painted =
       let attribute : Attr = field_attr values message true field in
       let wanted : WantedScreen = app.screen panel values message true in
       let stays = kept over wanted before (field.extent.first - 1) field.extent.length attribute (is.showable panel values message true).cells fits_it meets
@@ -388,14 +388,14 @@ module _ (app : Application) (is : IsApplication app) (wants : WantsItsFields ap
         text = stays.field.text;
         same_attribute = stays.attribute_is;
         same_length = stays.length_is;
-        value = value stays.field.attr stays.field.text (subst (λ (f : Field). HasField before f) same stays.was);
+        value = λ waiting. value waiting stays.field.attr stays.field.text (subst (λ (f : Field). HasField before f) same stays.was);
         was = subst (λ (f : Field). HasField before f) same stays.was;
         is = subst (λ (s : Screen). HasField s its) (sym painted) (subst (λ (f : Field). HasField (plainly_painted wanted before) f) same stays.is);
       }
 
-pub fields_shown : WrittenIsThere → KeptStaysThere → (app : Application) → IsApplication app → WantsItsFields app → (host : Conn) (before screen : Screen) → ShowsItsPanel app host before screen
-    → AreShown (app.fields host.panel) host.values host.message before screen
-fields_shown written kept app is wants host before screen shown = by_keep shown.wanted_for.keep shown.wanted_for.is_decided shown.wanted_for.knows shown.wanted_for.wanted_is
+pub fields_shown : WrittenIsThere → KeptStaysThere → (app : Application) → IsApplication app → WantsItsFields app → (waits : Bool) (host : Conn) (before screen : Screen) → ShowsItsPanel app waits host before screen
+    → AreShown waits (app.fields host.panel) host.values host.message before screen
+fields_shown written kept app is wants waits host before screen shown = by_keep shown.wanted_for.keep shown.wanted_for.is_decided shown.wanted_for.knows shown.wanted_for.wanted_is
   where
     panel : ℕ
     panel = host.panel
@@ -409,7 +409,7 @@ fields_shown written kept app is wants host before screen shown = by_keep shown.
     conn : Conn
     conn = shown.wanted_for.conn
 
-    in_full : shown.wanted ≡ app.screen panel values message false → AreShown (app.fields panel) values message before screen
+    in_full : shown.wanted ≡ app.screen panel values message false → AreShown waits (app.fields panel) values message before screen
     in_full is_that =
         AreShown.all_written (λ index field at.
         is_written app is wants panel values message index field at written before screen (shown.is ∙ ap (λ (w : WantedScreen). plainly_painted w before) is_that))
@@ -423,12 +423,12 @@ fields_shown written kept app is wants host before screen shown = by_keep shown.
 
     -- the values are the texts that were there
     has_values : Keeps app conn shown.wanted_for.asked values → KnowsItsFields app conn → shown.wanted ≡ app.screen panel values message true → (index : ℕ) (field : PanelField) → slice_get (app.fields panel) index ≡ Some field
-        → (attribute : Attr) (text : List ℕ) → ShowsField before field attribute text → value_of values field.number ≡ Some (without_nulls text)
-    has_values keeps knows is_that index field at attribute text shows =
+        → waits ≡ true → (attribute : Attr) (text : List ℕ) → ShowsField before field attribute text → value_of values field.number ≡ Some (without_nulls text)
+    has_values keeps knows is_that index field at waiting attribute text shows =
         let same_panel : panel ≡ conn.panel =
         shown.wanted_for.panel_is ∙ ap (λ (p : ℕ). app.shown (model_in conn) p) (keeps.again ∙ knows.shown) ∙ wants.again (model_in conn) knows.earlier ∙ sym knows.shown in
         let at_conn : slice_get (app.fields conn.panel) index ≡ Some field = ap (λ (p : ℕ). slice_get (app.fields p) index) (sym same_panel) ∙ at in
-        let meets : Meets conn.shadow before = shown.told in
+        let meets : Meets conn.shadow before = shown.told waiting in
         let fits_it : is_paintable (when_shown conn).shadow shown.wanted ≡ true = ap (λ (s : Shadow). is_paintable s shown.wanted) (sym shown.wanted_for.over_is) ∙ shown.fits in
         let cell : slice_get shown.wanted.cells (field.extent.first + 0) ≡ Some want.Keep =
         ap (λ (w : WantedScreen). slice_get w.cells (field.extent.first + 0)) is_that ∙ wants.kept panel values message index field (field.extent.first + 0) at (is_character field.extent 0 (some_cell field.extent)) in
@@ -437,20 +437,20 @@ fields_shown written kept app is wants host before screen shown = by_keep shown.
         keeps.learnt index field at_conn ∙ learned_has conn.shadow (app.fields conn.panel) conn.values index field told.0 (wants.numbers conn.panel) at_conn told.1
         ∙ ap Some (sym (stands_text field told.0 before attribute text stands shows))
 
-    again : Keeps app conn shown.wanted_for.asked values → KnowsItsFields app conn → is_again message ≡ true → shown.wanted ≡ app.screen panel values message true → AreShown (app.fields panel) values message before screen
+    again : Keeps app conn shown.wanted_for.asked values → KnowsItsFields app conn → is_again message ≡ true → shown.wanted ≡ app.screen panel values message true → AreShown waits (app.fields panel) values message before screen
     again keeps knows is_so is_that =
         AreShown.all_kept is_so (λ index field at.
-        is_kept app is wants panel values message index field at kept shown.over before screen (has_values keeps knows is_that index field at) is_so
+        is_kept app is wants panel values message index field at kept waits shown.over before screen (has_values keeps knows is_that index field at) is_so
         (ap (λ (w : WantedScreen). is_paintable shown.over w) (sym is_that) ∙ shown.fits) shown.meets
         (shown.is ∙ ap (λ (w : WantedScreen). plainly_painted w before) is_that))
 
     if_fits : (fit : Bool) → Keeps app conn shown.wanted_for.asked values → KnowsItsFields app conn → is_again message ≡ true → shown.wanted ≡ (if fit then app.screen panel values message true else app.screen panel values message false)
-        → AreShown (app.fields panel) values message before screen
+        → AreShown waits (app.fields panel) values message before screen
     if_fits true keeps knows is_so is_that = again keeps knows is_so is_that
     if_fits false keeps knows is_so is_that = in_full is_that
 
     by_keep : (keep : Bool) → IsDecided app conn (Act.Show shown.wanted_for.asked message keep values) → (keep ≡ true → KnowsItsFields app conn) → shown.wanted ≡ wanted_by app (when_shown conn) panel message keep values
-        → AreShown (app.fields panel) values message before screen
+        → AreShown waits (app.fields panel) values message before screen
     by_keep true decided knows is_that =
         if_fits (fits (when_shown conn).shadow (app.screen panel values message true)) (act_keeps app conn shown.wanted_for.asked message values decided (knows refl)) (knows refl)
         (kept_again app conn shown.wanted_for.asked message values decided) is_that
@@ -458,9 +458,9 @@ fields_shown written kept app is wants host before screen shown = by_keep shown.
 
 -- ---- the cursor
 
-pub cursor_shown : (app : Application) → WantsItsFields app → (host : Conn) (before screen : Screen) → ShowsItsPanel app host before screen
+pub cursor_shown : (app : Application) → WantsItsFields app → (waits : Bool) (host : Conn) (before screen : Screen) → ShowsItsPanel app waits host before screen
     → screen.cursor ≡ (app.screen host.panel host.values host.message false).cursor
-cursor_shown app wants host before screen shown =
+cursor_shown app wants waits host before screen shown =
     let way = wanted_in_a_way app (when_shown shown.wanted_for.conn) host.panel host.message shown.wanted_for.keep host.values in
     ap (λ (s : Screen). s.cursor) shown.is ∙ ap (λ (w : WantedScreen). w.cursor) (shown.wanted_for.wanted_is ∙ way.1) ∙ either way.0
   where
@@ -477,9 +477,9 @@ one_text screen field one other text another first second =
     (listed_field screen.cells its first).characters ∙ sym (listed_field screen.cells also second).characters
 
 pub other_texts_are_not : OtherTextsAreNot
-other_texts_are_not panel values message before screen index field attribute text at shows differs never (AreShown.all_written each) =
+other_texts_are_not waits panel values message before screen index field attribute text at shows differs never (AreShown.all_written each) =
     differs (one_text screen field attribute (field_attr values message false field) text (fitted field.extent.length (field_content values message field)) shows (each index field at))
-other_texts_are_not panel values message before screen index field attribute text at shows differs never (AreShown.all_kept again each) =
-    let kept : IsKept values message field before screen = each index field at in
+other_texts_are_not waits panel values message before screen index field attribute text at shows differs never (AreShown.all_kept again each) =
+    let kept : IsKept waits values message field before screen = each index field at in
     let same : text ≡ kept.text = one_text screen field attribute kept.attribute text kept.text shows kept.is in
     never kept.attribute (subst (λ (t : List ℕ). ShowsField before field kept.attribute t) (sym same) kept.was)

@@ -32,11 +32,12 @@ use Rattle.world3270.proofs.AskedOverBytes.{panel_there}
 use Rattle.world3270.proofs.Headline.{terminal_attached}
 use Rattle.world3270.proofs.SeenStands.{same_seen}
 use Rattle.world3270.proofs.ShownFields.{cursor_shown, fields_shown}
+use Rattle.world3270.proofs.Waits.{all_wait}
 use Rattle.world3270.proofs.Worlds.{new_good, run_good}
 
-module _ (app : Application) (host : Conn) (before left now : Screen) (has : HasShown host) where
+module _ (app : Application) (waits : Bool) (host : Conn) (before left now : Screen) (has : HasShown host) where
   shown_in : (lu : List ℕ) (serving : Serving) → host.turn ≡ turn_at (Moment.Serves lu serving) → is_painting (pending_at (Moment.Serves lu serving)) ≡ false
-      → ShownAt app host before left now (Moment.Serves lu serving) → ShowsItsPanel app host before left
+      → ShownAt app waits host before left now (Moment.Serves lu serving) → ShowsItsPanel app waits host before left
   shown_in lu Serving.Deciding turn answered shown = shown.0 (has.not_first turn)
   shown_in lu (Serving.Reading number) turn answered shown = shown (has.not_first turn)
   shown_in lu (Serving.Reported number parts) turn answered shown = shown (has.not_first turn)
@@ -52,14 +53,14 @@ module _ (app : Application) (host : Conn) (before left now : Screen) (has : Has
   shown_in lu (Serving.KeyBefore number command parts) turn answered shown = shown
 
   shown_at : (wanted : Option (List ℕ)) (s : Scene) (moment : Moment) → s.turn_reason ≡ host.turn_reason → host.turn ≡ turn_at moment → is_painting (pending_at moment) ≡ false → Fact wanted s moment
-      → ShownAt app host before left now moment → ShowsItsPanel app host before left
+      → ShownAt app waits host before left now moment → ShowsItsPanel app waits host before left
   shown_at wanted s (Moment.Talks talking) same turn answered fact shown = absurd (has.not_first turn (sym same ∙ fact.0.turn_reason))
   shown_at wanted s (Moment.Begins lu number command wants over) same turn answered fact shown = absurd (cc)
   shown_at wanted s (Moment.Serves lu serving) same turn answered fact shown = shown_in lu serving turn answered shown
 
-shown_now : (app : Application) (link : Link) → Kept app (view_of link) → HasShown link.host → ShowsItsPanel app link.host link.term.display.before_restored link.term.display.last_restored
+pub shown_now : (app : Application) (link : Link) → Kept app (view_of link) → HasShown link.host → ShowsItsPanel app link.term.waits link.host link.term.display.before_restored link.term.display.last_restored
 shown_now app link k has =
-    shown_at app link.host link.term.display.before_restored link.term.display.last_restored link.term.display.screen has k.wanted (scene_of (view_of link)) k.moment refl k.at.turn (ap is_painting (sym k.at.pending) ∙ has.answered) k.fact k.shown
+    shown_at app link.term.waits link.host link.term.display.before_restored link.term.display.last_restored link.term.display.screen has k.wanted (scene_of (view_of link)) k.moment refl k.at.turn (ap is_painting (sym k.at.pending) ∙ has.answered) k.fact k.shown
 
 pub panel_is_shown : Given → AlwaysOf PanelIsShown
 panel_is_shown given app serves pool models events is lists few are =
@@ -68,7 +69,7 @@ panel_is_shown given app serves pool models events is lists few are =
     λ number terminal here terminal_is has.
     let link : Link = world.link number in
     let there = terminal_attached link.term_here link.term terminal terminal_is in
-    subst (λ (t : TerminalSeen). ShowsItsPanel app link.host t.before_restored t.last_restored) (sym there.2) (shown_now app link (g.links number) has)
+    subst (λ (t : TerminalSeen). ShowsItsPanel app true link.host t.before_restored t.last_restored) (sym there.2) (subst (λ (waits : Bool). ShowsItsPanel app waits link.host link.term.display.before_restored link.term.display.last_restored) (all_wait given app is serves pool models events lists are number) (shown_now app link (g.links number) has))
 
 pub fields_are_shown : WrittenIsThere → KeptStaysThere → AlwaysOf PanelIsShown → AlwaysOf FieldsAreShown
 fields_are_shown written kept always app serves pool models events is lists few are =
@@ -77,8 +78,8 @@ fields_are_shown written kept always app serves pool models events is lists few 
     let shown = always app serves pool models events is lists few are number terminal here terminal_is has in
     record {
       shown = shown;
-      fields = fields_shown written kept app is wants (world.link number).host terminal.before_restored terminal.last_restored shown;
-      cursor = cursor_shown app wants (world.link number).host terminal.before_restored terminal.last_restored shown;
+      fields = fields_shown written kept app is wants true (world.link number).host terminal.before_restored terminal.last_restored shown;
+      cursor = cursor_shown app wants true (world.link number).host terminal.before_restored terminal.last_restored shown;
     }
 
 -- ---- of a world over bytes
@@ -166,8 +167,8 @@ panel_is_shown_over_bytes known always bytes is number rest host terminal servic
     let here : link.host_here ≡ true = sym stands.host_here ∙ ap is_there service_is in
     let same : host ≡ link.host = sym (ap conn_of service_is) ∙ (stands.host here).host in
     let seen_there = sym (ap (λ (l : SeenLink). l.terminal) (same_seen bytes world is.reached.stands number)) ∙ terminal_is in
-    let shown : IsPanelShown app link.host terminal.before_restored terminal.last_restored =
+    let shown : IsPanelShown app true link.host terminal.before_restored terminal.last_restored =
     always app begin.serves begin.pool begin.models is.events is_app is.is_begin.pool is.is_begin.few is.reached.are_events
     (wants_its_fields known begin.panels is.is_begin.panels) number terminal here seen_there (subst HasShown same has) in
-    subst (λ (p : Panels). IsPanelShown (application_of p) host terminal.before_restored terminal.last_restored) (sym is.reached.panels)
-    (subst (λ (c : Conn). IsPanelShown app c terminal.before_restored terminal.last_restored) (sym same) shown)
+    subst (λ (p : Panels). IsPanelShown (application_of p) true host terminal.before_restored terminal.last_restored) (sym is.reached.panels)
+    (subst (λ (c : Conn). IsPanelShown app true c terminal.before_restored terminal.last_restored) (sym same) shown)

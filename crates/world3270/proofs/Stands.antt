@@ -62,10 +62,10 @@ use Rattle.term_core.proofs.Lengths.{read_buffer_fits, read_modified_fits}
 use Rattle.world3270.proofs.StandsFits.{talk_comes}
 use Rattle.world3270.specs.Sendable.{CanBeSent}
 use Rattle.host_core.specs.Says.{command_header, read_buffer_command}
-use Rattle.world3270.specs.Stands.{IsPaint, IsRead, IsNoted, StandsDown, StandsUp, IsEnd, all_items, is_nop, without_nops, sized}
+use Rattle.world3270.specs.Stands.{BytesStand, IsPaint, IsRead, IsNoted, StandsDown, StandsUp, IsEnd, all_items, is_nop, without_nops, sized}
 use Rattle.world3270.specs.TrackedTerminals.{History, ByteEnd, ByteStep, restored_by}
 use Rattle.world3270.specs.StandsEnds.{PaintStands, IsSaid, NamesWanted, IsOpen, ItemComes, TermTakes, is_painted, NopHasNoEffect, WritesAreMarked, TermPresses, MayBePainted, MayTakeNote}
-use Rattle.world3270.specs.StandsLinks.{NothingStands, StandsCompose, StandsGoOn, BeginStands}
+use Rattle.world3270.specs.StandsLinks.{NothingStands, StandsCompose, StandsJoin, StandsGoOn, BeginStands}
 use Rattle.world3270.specs.Terminal.{Display, TermEnd, TermStep, bound_to, is_bound, quiet, replied, paint_came, note_came, read_came, once_bound, took, erases_if, outcome_of, data_of}
 use Rattle.std.specs.Prelude.{is_some}
 
@@ -663,16 +663,26 @@ pairs_more R [] us (y ∷ ys) vs h k = absurd h
 pairs_more R (x ∷ xs) us [] vs h k = absurd h
 pairs_more R (x ∷ xs) us (y ∷ ys) vs h k = (h.0, pairs_more R xs us ys vs h.1 k)
 
+pub stands_join : {X : Type 0} (spoken : List WireItem → List WireItem) (Stands : WireItem → X → Type 0) → IsPiecewise spoken → DeliveriesCompose → StandsJoin spoken Stands
+stands_join spoken Stands piecewise compose rest bytes more messages others stands behind = record {
+  is_rest = stands.is_rest;
+  items = stands.items ++ behind.items;
+  delivers = compose record_limit rest nothing nothing bytes more stands.items behind.items stands.delivers behind.delivers;
+  each = subst (λ (l : List WireItem). Pairwise Stands l (messages ++ others)) (sym (piecewise stands.items behind.items))
+      (pairs_more Stands (spoken stands.items) (spoken behind.items) messages others stands.each behind.each);
+}
+
+-- items as they are written
+pub written_stand : {X : Type 0} (spoken : List WireItem → List WireItem) (Stands : WireItem → X → Type 0) → ItemsAreRead → (items : List WireItem) (messages : List X)
+    → AllByRecursion (CanCome record_limit) items → Pairwise Stands (spoken items) messages → BytesStand spoken Stands nothing (sent_bytes items) messages
+written_stand spoken Stands written items messages can each =
+    let delivers = subst (λ (b : List ℕ). Delivers record_limit nothing b items nothing) (sent_text items) (written record_limit items can) in
+    record { is_rest = delivers.is_rest; items = items; delivers = delivers; each = each }
+
 pub stands_compose : {X : Type 0} (spoken : List WireItem → List WireItem) (Stands : WireItem → X → Type 0) → IsPiecewise spoken → DeliveriesCompose → ItemsAreRead
     → StandsCompose spoken Stands
-stands_compose spoken Stands piecewise compose written rest bytes messages more items stands can each = record {
-  is_rest = stands.is_rest;
-  items = stands.items ++ items;
-  delivers = compose record_limit rest nothing nothing bytes (sent_bytes items) stands.items items stands.delivers
-      (subst (λ (b : List ℕ). Delivers record_limit nothing b items nothing) (sent_text items) (written record_limit items can));
-  each = subst (λ (l : List WireItem). Pairwise Stands l (messages ++ more)) (sym (piecewise stands.items items))
-      (pairs_more Stands (spoken stands.items) (spoken items) messages more stands.each each);
-}
+stands_compose spoken Stands piecewise compose written rest bytes messages more items stands can each =
+    stands_join spoken Stands piecewise compose rest bytes (sent_bytes items) messages more stands (written_stand spoken Stands written items more can each)
 
 -- the items behind these stand for the messages behind
 record Parts {X Y : Type 0} (R : X → Y → Type 0) (xs us : List X) (ys : List Y) : Type 0 where

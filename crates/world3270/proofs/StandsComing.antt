@@ -7,8 +7,10 @@ use Rattle.codes3270.specs.declared.size.Model.{Model}
 use Rattle.datastream.specs.Grammar.{CommandParts}
 use Rattle.telnet_wire.specs.declared.wire.Verb.TheVariants.{Do}
 use Rattle.tn3270e_msg.specs.Talk.{Saying}
+use Rattle.tn3270e_msg.specs.declared.term_talk.TermState.TheVariants.{Willing}
 use Rattle.tn3270e_msg.specs.TermTable.{Term}
 use Rattle.tn3270e_msg.specs.declared.reply.OwnedMessage.TheVariants.{SendType, TypeIs, TypeReject, FunIs}
+use Rattle.tn3270e_msg.specs.declared.term_talk.TermState.TheVariants.{Willing}
 use Rattle.host_core.specs.Application.{Application, IsApplication, IsSizeOf}
 use Rattle.host_core.specs.Messages.{ToTerminal}
 use Rattle.host_core.specs.NoteLaws.{IsNoteOf}
@@ -23,12 +25,14 @@ use Rattle.world3270.specs.StandsLinks.{MayComeAll, NoneCloses, WhatComesMayCome
 use Rattle.world3270.specs.Terminal.{took}
 use Rattle.world3270.specs.View.{view_of}
 use Rattle.world3270.specs.World.{World, new_world}
-use Rattle.world3270.proofs.Down.{term_view, obeys, shape_of_model}
+use Rattle.world3270.proofs.Down.{term_view, shape_of_model}
+use Rattle.world3270.proofs.Obeys.{obeys}
 use Rattle.world3270.proofs.Queues.{front, nothing}
 use Rattle.world3270.proofs.Worlds.{run_good, new_good}
+use Rattle.world3270.proofs.TalkStates.{term_state}
 
 -- where the application's sizes are the models', so are those that its terminals may have
-has_size : (app : Application) (model : Model) (size : Shape) → HasTheSizes app → IsSizeOf app model size → HasSize model size
+pub has_size : (app : Application) (model : Model) (size : Shape) → HasTheSizes app → IsSizeOf app model size → HasSize model size
 has_size app model size sizes (inl base) = inl (base ∙ sizes.begins)
 has_size app model size sizes (inr alternate) = inr (alternate ∙ sizes.alternate model)
 
@@ -41,17 +45,17 @@ module _ (given : Given) (app : Application) (is : IsApplication app) (sizes : H
 
   -- a saying, in the state that the talk is in
   saying_may : (moment : Moment) (saying : Saying) (behind : List ToTerminal) → IsAt (view_of link) k.wanted moment → down_at link.term.display.model moment ≡ ToTerminal.TalksDown saying ∷ behind
-      → IsSaid saying → NamesWanted (term_state_at moment) k.wanted → MayCome link.term message
+      → IsSaid saying → NamesWanted (term_state_at moment) link.term.talk.wanted → MayCome link.term message
   saying_may moment saying behind at down said wish =
       subst (λ m. MayCome link.term m) (sym (is_first moment (ToTerminal.TalksDown saying) behind at down))
-      (said, subst (λ (t : Term). NamesWanted t.talk.state t.wanted) (sym at.term_talk) wish)
+      (said, subst (λ state. NamesWanted state link.term.talk.wanted) (sym (term_state link.term.display.model k.wanted moment link.term.talk at.term_talk)) wish)
 
   -- a record, while the talk goes on
   record_may : (lu : List ℕ) (serving : Serving) (first : ToTerminal) → IsAt (view_of link) k.wanted (Moment.Serves lu serving) → served_down serving ≡ first ∷ []
       → (IsOpen link.term.talk.talk.state → MayCome link.term first) → MayCome link.term message
   record_may lu serving first at down may =
       subst (λ m. MayCome link.term m) (sym (is_first (Moment.Serves lu serving) first [] at down))
-      (may (subst (λ (t : Term). IsOpen t.talk.state) (sym at.term_talk) tt))
+      (may (subst IsOpen (sym at.term_talk) tt))
 
   none : (moment : Moment) → IsAt (view_of link) k.wanted moment → down_at link.term.display.model moment ≡ [] → MayCome link.term message
   none moment at down = absurd (nothing link.lost link.down message rest e (subst (UnderWay link.lost link.down) down at.goes_down))
@@ -68,7 +72,7 @@ module _ (given : Given) (app : Application) (is : IsApplication app) (sizes : H
 
   talk_may : (talking : Talking) → IsAt (view_of link) k.wanted (Moment.Talks talking) → Fact k.wanted (scene_of (view_of link)) (Moment.Talks talking) → MayCome link.term message
   talk_may Talking.Offering at f = saying_may (Moment.Talks Talking.Offering) (Saying.Opt Do 40) [] at refl tt tt
-  talk_may Talking.AskingType at f = saying_may (Moment.Talks Talking.AskingType) (Saying.Sub SendType) [] at refl tt f.1
+  talk_may Talking.AskingType at f = saying_may (Moment.Talks Talking.AskingType) (Saying.Sub SendType) [] at refl tt (subst (λ (t : Term). NamesWanted Willing t.wanted) (sym at.term_talk) f.1)
   talk_may (Talking.Granting lu) at f = saying_may (Moment.Talks (Talking.Granting lu)) (Saying.Sub (TypeIs (device_for link.term.display.model) lu)) [] at refl f.1.is_lu tt
   talk_may (Talking.Agreeing lu) at f = saying_may (Moment.Talks (Talking.Agreeing lu)) (Saying.Sub FunIs) [] at refl tt tt
   talk_may (Talking.Rejecting reason) at f = saying_may (Moment.Talks (Talking.Rejecting reason)) (Saying.Sub (TypeReject reason)) [] at refl tt tt
@@ -106,7 +110,7 @@ module _ (given : Given) (app : Application) (is : IsApplication app) (sizes : H
       saying_may (Moment.Begins lu number command wanted over) (Saying.Sub FunIs) (ToTerminal.Paint number wanted over ∷ []) at refl tt tt
   moment_may (Moment.Serves lu serving) s at f = serving_may lu serving s at f
 
-  may_come : MayCome link.term message
+  pub may_come : MayCome link.term message
   may_come = moment_may k.moment k.sizes k.at k.fact
 
 -- the talk goes on at each moment
@@ -126,8 +130,8 @@ open_at (Moment.Talks talking) = open_in_talk talking
 open_at (Moment.Begins lu number command wanted over) = tt
 open_at (Moment.Serves lu serving) = tt
 
-is_open : (app : Application) (link : Link) → Kept app (view_of link) → IsOpen link.term.talk.talk.state
-is_open app link k = subst (λ (t : Term). IsOpen t.talk.state) (sym k.at.term_talk) (open_at k.moment)
+pub is_open : (app : Application) (link : Link) → Kept app (view_of link) → IsOpen link.term.talk.talk.state
+is_open app link k = subst IsOpen (sym (term_state link.term.display.model k.wanted k.moment link.term.talk k.at.term_talk)) (open_at k.moment)
 
 all_may : Given → (app : Application) → IsApplication app → HasTheSizes app → (messages : List ToTerminal) (link : Link) → link.down ≡ messages → Kept app (view_of link)
     → MayComeAll link.term messages × NoneCloses link.term messages

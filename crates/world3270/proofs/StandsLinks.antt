@@ -22,10 +22,11 @@ use Rattle.host_core.specs.KeepAlive.{no_operation}
 use Rattle.host_core.specs.Messages.{ToTerminal, ToHost}
 use Rattle.world3270.specs.Always.{is_refusal}
 use Rattle.world3270.specs.Link.{Link, sent, term_left_if, term_stepped}
-use Rattle.world3270.specs.TrackedTerminals.{History, TrackedTerminal, marked, TrackedTakes, HistoryFollows, tracked_after_key, ByteStep, end_at, EndTakes}
-use Rattle.world3270.specs.Stands.{StandsDown, StandsUp, BytesUp, BytesDown, ByteLink, IsEnd, Holds, HostStands, TermStands, LinkStands, all_items, is_nop, without_nops}
+use Rattle.world3270.specs.TrackedTerminals.{History, TrackedTerminal, marked, TrackedTakesByte, TrackedTakes, HistoryFollows, tracked_after_key, ByteStep, end_at, EndTakes}
+use Rattle.world3270.specs.Standing.{with_out}
+use Rattle.world3270.specs.Stands.{StandsDown, StandsUp, BytesUp, BytesDown, ByteLink, IsEnd, Holds, BytesStand, HostStands, TermStands, LinkStands, LinkStandsBy, all_items, is_nop, without_nops}
 use Rattle.world3270.specs.StandsEnds.{IsOpen, TakesKeepSendable, TermTakes, is_painted, NopHasNoEffect, WritesAreMarked, TermPresses}
-use Rattle.world3270.specs.StandsLinks.{StandsCompose, StandsGoOn, PressStands, MayComeAll, NoneCloses, took_down, fed, DownStands, DownIsNotRefused, any_painted, BytesAreMarked, HostSends, NopStands, UpStands, LossStands, HostLeaves, TermLeaves}
+use Rattle.world3270.specs.StandsLinks.{StandsCompose, StandsGoOn, PressStands, MayComeAll, NoneCloses, took_down, fed, DownStands, DownIsNotRefused, any_painted, BytesAreMarked, HostSendsBy, NopStandsBy, UpStandsBy, LossStands, HostLeaves, TermLeaves}
 use Rattle.world3270.specs.Terminal.{TermEnd, TermStep, is_bound, note_came, once_bound, paint_came, read_came, took, key_came}
 use Rattle.world3270.proofs.Stands.{all_spoken, nop_is, pairs_more}
 
@@ -88,28 +89,29 @@ press_stands presses compose key bytes link terminal stands here sendable =
 -- ---- what comes down
 
 -- the connection once messages came down, and what the terminal said to them
-record Ran (link now : Link) (old new : TrackedTerminal) (behind : List ℕ) : Type 0 where
-  lost : now.lost ≡ link.lost
-  host_here : now.host_here ≡ link.host_here
-  host : now.host ≡ link.host
-  term_here : now.term_here ≡ link.term_here
-  rest : Rest
-  holds : Holds rest new now.term
-  down : BytesDown rest behind now.down
-  says : List WireItem
-  out : new.terminal.out ≡ old.terminal.out ++ sent_bytes says
-  sends : List ToHost
-  up : now.up ≡ sent link.lost link.up sends
-  said : Pairwise StandsUp says sends
-  fit : AllByRecursion (CanCome record_limit) says
-  none : list_any is_refusal sends ≡ false
+pub record Ran (link now : Link) (old new : TrackedTerminal) (behind : List ℕ) : Type 0 where
+  pub lost : now.lost ≡ link.lost
+  pub host_here : now.host_here ≡ link.host_here
+  pub host : now.host ≡ link.host
+  pub term_here : now.term_here ≡ link.term_here
+  pub rest : Rest
+  pub holds : Holds rest new now.term
+  pub down : BytesDown rest behind now.down
+  pub says : List WireItem
+  pub out : new.terminal.out ≡ old.terminal.out ++ sent_bytes says
+  pub sends : List ToHost
+  pub up : now.up ≡ sent link.lost link.up sends
+  pub said : Pairwise StandsUp says sends
+  pub fit : AllByRecursion (CanCome record_limit) says
+  pub none : list_any is_refusal sends ≡ false
+  pub can : CanBeSent now.term.display.shape now.term.display.screen
 
 -- the first of the messages came down
-record CameSome (link : Link) (old new : TrackedTerminal) (behind : List ℕ) : Type 0 where
-  taken : List ToTerminal
-  others : List ToTerminal
-  whole : link.down ≡ taken ++ others
-  ran : Ran link (took_down taken others link) old new behind
+pub record CameSome (link : Link) (old new : TrackedTerminal) (behind : List ℕ) : Type 0 where
+  pub taken : List ToTerminal
+  pub others : List ToTerminal
+  pub whole : link.down ≡ taken ++ others
+  pub ran : Ran link (took_down taken others link) old new behind
 
 all_more : {X : Type 0} (P : X → Type 0) (xs ys : List X) → AllByRecursion P xs → AllByRecursion P ys → AllByRecursion P (xs ++ ys)
 all_more P [] ys h k = k
@@ -148,8 +150,9 @@ stepped_stays : (step : TermStep) (rest others : List ToTerminal) (link : Link) 
 stepped_stays step rest others link goes_on same =
     ap (λ (c : Option Cause). term_left_if c (stayed step rest link)) goes_on ∙ ap (λ (m : List ToTerminal). stayed step m link) (sym same)
 
-ran_nothing : (link : Link) (old new : TrackedTerminal) (behind : List ℕ) (rest : Rest) → Holds rest old link.term → BytesDown rest behind link.down → new ≡ old → Ran link link old new behind
-ran_nothing link old new behind rest holds down same = record {
+ran_nothing : (link : Link) (old new : TrackedTerminal) (behind : List ℕ) (rest : Rest) → Holds rest old link.term → BytesDown rest behind link.down
+    → CanBeSent link.term.display.shape link.term.display.screen → new ≡ old → Ran link link old new behind
+ran_nothing link old new behind rest holds down can same = record {
   lost = refl;
   host_here = refl;
   host = refl;
@@ -164,6 +167,7 @@ ran_nothing link old new behind rest holds down same = record {
   said = tt;
   fit = tt;
   none = refl;
+  can = can;
 }
 
 -- a byte before that completes nothing
@@ -183,6 +187,7 @@ ran_since link now old mid new behind out ran = record {
   said = ran.said;
   fit = ran.fit;
   none = ran.none;
+  can = ran.can;
 }
 
 -- an item before, to which it says some
@@ -205,6 +210,7 @@ one_more link now step rest old mid new behind some said fit none out ran = reco
   said = pairs_more StandsUp some ran.says step.sends ran.sends said ran.said;
   fit = all_more (CanCome record_limit) some ran.says fit ran.fit;
   none = none_more is_refusal step.sends ran.sends none ran.none;
+  can = ran.can;
 }
 
 -- and the messages behind it
@@ -225,8 +231,8 @@ link_parts : (rest to : Rest) (talk after : Term) → Attached rest talk ≡ Att
 link_parts rest to talk after e = (cc, cc)
 
 -- no bytes of the queue break the stream
-not_wrong : WrongIsFinal → (rest : Rest) (byte : ℕ) (bytes : List ℕ) (fault : WireFault) (messages : List ToTerminal)
-    → BytesDown rest (byte ∷ bytes) messages → GoesWrong record_limit rest (byte ∷ []) fault → ⊥
+pub not_wrong : {X : Type 0} {spoken : List WireItem → List WireItem} {Stands : WireItem → X → Type 0} → WrongIsFinal → (rest : Rest) (byte : ℕ) (bytes : List ℕ) (fault : WireFault) (messages : List X)
+    → BytesStand spoken Stands rest (byte ∷ bytes) messages → GoesWrong record_limit rest (byte ∷ []) fault → ⊥
 not_wrong final rest byte bytes fault messages stands wrong =
     final record_limit rest (byte ∷ []) bytes fault stands.delivers.tokens nothing wrong stands.delivers.reads stands.delivers.is_rest
 
@@ -343,7 +349,7 @@ module _ (takes : TermTakes) (keeps : TakesKeepSendable) (nop : NopHasNoEffect) 
 
   bytes_come : (front behind : List ℕ) (new : TrackedTerminal) → Comes front behind new
   bytes_come [] behind new old rest link holds down may none can taken =
-      record { taken = []; others = link.down; whole = refl; ran = ran_nothing link old new behind rest holds down taken }
+      record { taken = []; others = link.down; whole = refl; ran = ran_nothing link old new behind rest holds down can taken }
   bytes_come (byte ∷ front) behind new old rest link holds down may none can taken =
       byte_comes byte front behind old taken.0 new rest link (bytes_come front behind new) holds down may none can taken.1.history taken.1.takes taken.2
 
@@ -389,22 +395,27 @@ module _ (takes : TermTakes) (keeps : TakesKeepSendable) (nop : NopHasNoEffect) 
       let parts = link_parts rest rest' holds.talk talk' (sym holds.attached ∙ at') in
       absurd (not_wrong final rest byte behind fault link.down down (subst (λ (r : Rest). GoesWrong record_limit r (byte ∷ []) fault) (sym parts.0) wrong))
 
--- what both ends have once the terminal took what came
-ran_stands : StandsCompose all_items StandsUp → (bytes : ByteLink) (link now : Link) (behind : List ℕ) (new : TrackedTerminal)
-    → LinkStands bytes link → bytes.tracked.terminal.out ≡ [] → Ran link now bytes.tracked new behind → LinkStands (fed new behind bytes) now
-ran_stands compose bytes link now behind new stands silent ran =
+-- what both ends have once the terminal took what came, and said this
+pub ran_stands : {Up : WireItem → ToHost → Type 0} (bytes : ByteLink) (link now : Link) (behind said : List ℕ) (new : TrackedTerminal) (stands : LinkStandsBy Up bytes link)
+    (ran : Ran link now bytes.tracked new behind) → BytesStand all_items Up stands.read (sent link.lost bytes.up said) (sent link.lost link.up ran.sends)
+    → LinkStandsBy Up (fed (with_out said new) behind bytes) now
+ran_stands {Up} bytes link now behind said new stands ran queue = record {
+  lost = stands.lost ∙ sym ran.lost;
+  host_here = stands.host_here ∙ sym ran.host_here;
+  term_here = stands.term_here ∙ sym ran.term_here;
+  read = stands.read;
+  up = subst (λ (m : List ToHost). BytesStand all_items Up stands.read (sent bytes.lost bytes.up said) m) (sym ran.up)
+      (subst (λ (l : Bool). BytesStand all_items Up stands.read (sent l bytes.up said) (sent link.lost link.up ran.sends)) (sym stands.lost) queue);
+  host = λ there. let host = stands.host (sym ran.host_here ∙ there) in record { host = host.host ∙ sym ran.host; rest_is = host.rest_is };
+  term = λ which is. record { rest = ran.rest; holds = silenced ran.rest (with_out said new) now.term (record { talk = ran.holds.talk; attached = ran.holds.attached; is_end = ran.holds.is_end }); silent = refl; down = ran.down };
+}
+
+-- as our terminal says it
+ours_stand : StandsCompose all_items StandsUp → (bytes : ByteLink) (link now : Link) (behind : List ℕ) (new : TrackedTerminal) → LinkStands bytes link → bytes.tracked.terminal.out ≡ []
+    → Ran link now bytes.tracked new behind → LinkStands (fed new behind bytes) now
+ours_stand compose bytes link now behind new stands silent ran =
     let out : new.terminal.out ≡ sent_bytes ran.says = ran.out ∙ ap (λ (b : List ℕ). b ++ sent_bytes ran.says) silent in
-    record {
-      lost = stands.lost ∙ sym ran.lost;
-      host_here = stands.host_here ∙ sym ran.host_here;
-      term_here = stands.term_here ∙ sym ran.term_here;
-      read = stands.read;
-      up = subst (λ (m : List ToHost). BytesUp stands.read (sent bytes.lost bytes.up new.terminal.out) m) (sym ran.up)
-          (subst (λ (l : Bool). BytesUp stands.read (sent l bytes.up new.terminal.out) (sent link.lost link.up ran.sends)) (sym stands.lost)
-          (said_goes_up compose link.lost stands.read bytes.up new.terminal.out link.up ran.sends ran.says stands.up out ran.fit ran.said));
-      host = λ there. let host = stands.host (sym ran.host_here ∙ there) in record { host = host.host ∙ sym ran.host; rest_is = host.rest_is };
-      term = λ which is. record { rest = ran.rest; holds = silenced ran.rest new now.term ran.holds; silent = refl; down = ran.down };
-    }
+    ran_stands bytes link now behind new.terminal.out new stands ran (said_goes_up compose link.lost stands.read bytes.up new.terminal.out link.up ran.sends ran.says stands.up out ran.fit ran.said)
 
 pub down_stands : TermTakes → TakesKeepSendable → NopHasNoEffect → StandsCompose all_items StandsUp → StandsGoOn without_nops StandsDown → WrongIsFinal → DownStands
 down_stands takes keeps nop compose goes_on final bytes link front behind new ready queue taken =
@@ -415,7 +426,7 @@ down_stands takes keeps nop compose goes_on final bytes link front behind new re
       taken = came.taken;
       others = came.others;
       whole = came.whole;
-      stands = ran_stands compose bytes link (took_down came.taken came.others link) behind new ready.stands term.silent came.ran;
+      stands = ours_stand compose bytes link (took_down came.taken came.others link) behind new ready.stands term.silent came.ran;
     }
 
 pub down_is_not_refused : TermTakes → TakesKeepSendable → NopHasNoEffect → StandsGoOn without_nops StandsDown → WrongIsFinal → DownIsNotRefused
@@ -425,20 +436,32 @@ down_is_not_refused takes keeps nop goes_on final bytes link front behind new re
     let ran = (bytes_come takes keeps nop goes_on final front behind new bytes.tracked term.rest link term.holds down ready.may ready.none ready.sendable taken).ran in
     record { says = ran.says; out = ran.out; fit = ran.fit; sends = ran.sends; said = ran.said; none = ran.none }
 
+-- one byte came, and marks a write where a paint came with it that finds the terminal bound
+pub record ByteCame (link : Link) (old new : TrackedTerminal) (behind : List ℕ) : Type 0 where
+  pub came : CameSome link old new behind
+  pub marked : new.terminal.station.took_write ≡ any_painted link.term came.taken
+
+pub byte_came : TermTakes → TakesKeepSendable → NopHasNoEffect → StandsGoOn without_nops StandsDown → WrongIsFinal → WritesAreMarked → (byte : ℕ) (behind : List ℕ) (old new : TrackedTerminal) (rest : Rest) (link : Link)
+    → Holds rest old link.term → BytesDown rest (byte ∷ behind) link.down → MayComeAll link.term link.down → NoneCloses link.term link.down → CanBeSent link.term.display.shape link.term.display.screen
+    → TrackedTakesByte old byte new → ByteCame link old new behind
+byte_came takes keeps nop goes_on final marks byte behind old new rest link holds down may none can taken = record {
+  came = byte_comes takes keeps nop goes_on final byte [] behind old new new rest link (bytes_come takes keeps nop goes_on final [] behind new) holds down may none can taken.history taken.takes refl;
+  marked = byte_marks takes keeps nop goes_on final marks byte behind old new rest link holds down may none can taken.history taken.takes;
+}
+
 pub bytes_are_marked : TermTakes → TakesKeepSendable → NopHasNoEffect → StandsCompose all_items StandsUp → StandsGoOn without_nops StandsDown → WrongIsFinal → WritesAreMarked → BytesAreMarked
 bytes_are_marked takes keeps nop compose goes_on final marks bytes link byte behind new ready queue taken =
     let term = ready.stands.term ready.terminal ready.here in
     let down : BytesDown term.rest (byte ∷ behind) link.down = subst (λ (b : List ℕ). BytesDown term.rest b link.down) queue term.down in
-    let came = byte_comes takes keeps nop goes_on final byte [] behind bytes.tracked new new term.rest link (bytes_come takes keeps nop goes_on final [] behind new) term.holds down
-    ready.may ready.none ready.sendable taken.history taken.takes refl in
+    let one = byte_came takes keeps nop goes_on final marks byte behind bytes.tracked new term.rest link term.holds down ready.may ready.none ready.sendable taken in
     record {
       came = record {
-        taken = came.taken;
-        others = came.others;
-        whole = came.whole;
-        stands = ran_stands compose bytes link (took_down came.taken came.others link) behind new ready.stands term.silent came.ran;
+        taken = one.came.taken;
+        others = one.came.others;
+        whole = one.came.whole;
+        stands = ours_stand compose bytes link (took_down one.came.taken one.came.others link) behind new ready.stands term.silent one.came.ran;
       };
-      marked = byte_marks takes keeps nop goes_on final marks byte behind bytes.tracked new term.rest link term.holds down ready.may ready.none ready.sendable taken.history taken.takes;
+      marked = one.marked;
     }
 
 -- ---- the host, and losses
@@ -449,7 +472,7 @@ goes_down : StandsCompose without_nops StandsDown → (lost : Bool) (rest : Rest
 goes_down compose true rest bytes messages more items stands fit said = stands
 goes_down compose false rest bytes messages more items stands fit said = compose rest bytes messages more items stands fit said
 
-pub host_sends : StandsCompose without_nops StandsDown → HostSends
+pub host_sends : {Up : WireItem → ToHost → Type 0} → StandsCompose without_nops StandsDown → HostSendsBy Up
 host_sends compose bytes link conn items messages stands fit said = record {
   lost = stands.lost;
   host_here = stands.host_here;
@@ -470,7 +493,7 @@ host_sends compose bytes link conn items messages stands fit said = record {
 nop_can_come : CanCome record_limit no_operation
 nop_can_come = (λ e. absurd (omega (arith, e)), omega arith)
 
-pub nop_stands : StandsCompose without_nops StandsDown → NopStands
+pub nop_stands : {Up : WireItem → ToHost → Type 0} → StandsCompose without_nops StandsDown → NopStandsBy Up
 nop_stands compose bytes link stands = record {
   lost = stands.lost;
   host_here = stands.host_here;
@@ -498,14 +521,15 @@ same_term bytes with_bytes link with_link term a b c d = record {
 }
 
 -- Where the host is there, its decoder holds what was read.
-pub up_behind_rest : (bytes : ByteLink) (link : Link) → LinkStands bytes link → link.host_here ≡ true → BytesUp bytes.host_rest bytes.up link.up
-up_behind_rest bytes link stands here = subst (λ (r : Rest). BytesUp r bytes.up link.up) (sym (stands.host here).rest_is) stands.up
+pub up_behind_rest : {Up : WireItem → ToHost → Type 0} (bytes : ByteLink) (link : Link) → LinkStandsBy Up bytes link → link.host_here ≡ true
+    → BytesStand all_items Up bytes.host_rest bytes.up link.up
+up_behind_rest {Up} bytes link stands here = subst (λ (r : Rest). BytesStand all_items Up r bytes.up link.up) (sym (stands.host here).rest_is) stands.up
 
-pub up_stands : StandsGoOn all_items StandsUp → UpStands
-up_stands goes_on bytes link front behind items to stands here queue delivers =
+pub up_stands : {Up : WireItem → ToHost → Type 0} → StandsGoOn all_items Up → UpStandsBy Up
+up_stands {Up} goes_on bytes link front behind items to stands here queue delivers =
     let host = stands.host here in
     let some = goes_on bytes.host_rest to front behind items link.up
-    (subst (λ (b : List ℕ). BytesUp bytes.host_rest b link.up) queue (up_behind_rest bytes link stands here)) delivers in
+    (subst (λ (b : List ℕ). BytesStand all_items Up bytes.host_rest b link.up) queue (up_behind_rest bytes link stands here)) delivers in
     record {
       taken = some.taken;
       others = some.others;

@@ -2,13 +2,13 @@
 use Rattle.std.proofs.Common.{◌≡◌, ◌≤◌, ◌-◌, not, ℕ, zero, suc, Bool, true, false, List, [], ◌∷◌, ◌++◌, drop, take, length, length-append, length-drop, refl, ap, subst, ◌∙◌, arith, if◌then◌else◌}
 use Rattle.std.proofs.lemmas.List.{take-append-le}
 use Rattle.telnet_wire.specs.Items.{WireItem, sent_bytes}
-use Rattle.host_core.specs.Messages.{ToTerminal}
+use Rattle.host_core.specs.Messages.{ToTerminal, ToHost}
 use Rattle.host_core.specs.Session.{Conn}
 use Rattle.world3270.specs.ByteWorld.{Transit, under_way, came, cut, is_live, is_senders}
 use Rattle.world3270.specs.Link.{Link, sent}
 use Rattle.world3270.specs.Standing.{IsFlow}
-use Rattle.world3270.specs.Stands.{ByteLink, LinkStands}
-use Rattle.world3270.specs.StandsLinks.{HostSends, said_down, sent_down}
+use Rattle.world3270.specs.Stands.{ByteLink, LinkStandsBy}
+use Rattle.world3270.specs.StandsLinks.{HostSendsBy, said_down, sent_down}
 
 -- ---- a sender says more
 
@@ -28,12 +28,12 @@ vanishes : {X : Type 0} (lost : Bool) (queue some others : List X) → lost ≡ 
 vanishes true queue some others is = refl
 vanishes false queue some others is = absurd (cc)
 
-pub lost_says : HostSends → (bytes : ByteLink) (link : Link) (conn : Conn) (items : List WireItem) (messages : List ToTerminal) → LinkStands bytes link → link.lost ≡ true
-    → LinkStands (said_down conn items bytes) (sent_down conn messages link)
-lost_says sends bytes link conn items messages stands is =
-    subst (λ (down : List ℕ). LinkStands (record bytes { host = conn; down = down }) (sent_down conn messages link))
+pub lost_says : {Up : WireItem → ToHost → Type 0} → HostSendsBy Up → (bytes : ByteLink) (link : Link) (conn : Conn) (items : List WireItem) (messages : List ToTerminal)
+    → LinkStandsBy Up bytes link → link.lost ≡ true → LinkStandsBy Up (said_down conn items bytes) (sent_down conn messages link)
+lost_says {Up} sends bytes link conn items messages stands is =
+    subst (λ (down : List ℕ). LinkStandsBy Up (record bytes { host = conn; down = down }) (sent_down conn messages link))
     (vanishes bytes.lost bytes.down (sent_bytes []) (sent_bytes items) (stands.lost ∙ is))
-    (subst (λ (down : List ToTerminal). LinkStands (said_down conn [] bytes) (record link { host = conn; down = down }))
+    (subst (λ (down : List ToTerminal). LinkStandsBy Up (said_down conn [] bytes) (record link { host = conn; down = down }))
     (vanishes link.lost link.down [] messages is)
     (sends bytes link conn [] [] stands tt tt))
 

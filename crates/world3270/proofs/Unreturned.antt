@@ -58,7 +58,7 @@ char_by erased false true left now p m h = absurd (cc)
 char_by true false false left now p m h = h
 char_by false false false left now p m h = h
 
-cell_kept : (erased : Bool) (over : Option Attribute) (shown now : Cell) → IsInUnmodified over → CellHeld erased over shown now → IsKept erased shown now
+pub cell_kept : (erased : Bool) (over : Option Attribute) (shown now : Cell) → IsInUnmodified over → CellHeld erased over shown now → IsKept erased shown now
 cell_kept erased over shown (Attr now) unmodified h = tt
 cell_kept erased over (Attr shown) (Char now) unmodified h = absurd h
 cell_kept erased None (Char shown) (Char now) unmodified h = absurd unmodified
@@ -71,7 +71,7 @@ held_kind erased over (Char shown) (Attr now) h = absurd h
 held_kind erased over (Attr shown) (Char now) h = absurd h
 held_kind erased over (Attr shown) (Attr now) h = refl
 
-held_places : (erased : Bool) (shown now : List Cell) → Held erased shown now → SamePlaces shown now
+pub held_places : (erased : Bool) (shown now : List Cell) → Held erased shown now → SamePlaces shown now
 held_places erased shown now held = record { size = held.same_length; kinds = λ place. by_place place (cases_lt place (length now)) }
   where
     by_place : (place : ℕ) → (place < length now) ⊎ (length now ≤ place) → is_char_at now place ≡ is_char_at shown place
@@ -79,7 +79,7 @@ held_places erased shown now held = record { size = held.same_length; kinds = λ
     by_place place (inr beyond) = rw (get_or_past now place (Char 0) beyond, get_or_past shown place (Char 0) (subst (λ n. n ≤ place) held.same_length beyond)) refl
 
 -- places that are the same in two steps
-places_compose : (left shown now : List Cell) → SamePlaces left shown → SamePlaces shown now → SamePlaces left now
+pub places_compose : (left shown now : List Cell) → SamePlaces left shown → SamePlaces shown now → SamePlaces left now
 places_compose left shown now first second =
     record { size = second.size ∙ first.size; kinds = λ place. second.kinds place ∙ first.kinds place }
 
@@ -219,7 +219,7 @@ cell_attribute erased over (Char shown) (Attr now) h = absurd h
 cell_attribute erased over (Attr shown) (Char now) h = absurd h
 cell_attribute erased over (Attr shown) (Attr now) h = ap (λ (a : Attribute). Some a) h.0
 
-held_attribute : (erased : Bool) (shown now : List Cell) → Held erased shown now → (place : ℕ) → attribute_at now place ≡ attribute_at shown place
+pub held_attribute : (erased : Bool) (shown now : List Cell) → Held erased shown now → (place : ℕ) → attribute_at now place ≡ attribute_at shown place
 held_attribute erased shown now held place = by_place (cases_lt place (length now))
   where
     by_place : (place < length now) ⊎ (length now ≤ place) → attribute_at now place ≡ attribute_at shown place
@@ -246,7 +246,7 @@ cell_same erased (Some over) (Attr shown) (Attr now) guarded itself h =
     let still : now.protected ≡ true = sym (ap (λ (a : Attribute). a.protected) here) ∙ guarded in
     ap (λ (a : Attribute). Attr a) (whole_attribute now shown h.0 (h.1 still))
 
-held_cell : (erased : Bool) (shown now : List Cell) → Held erased shown now → (place : ℕ) → is_protected now place ≡ true
+pub held_cell : (erased : Bool) (shown now : List Cell) → Held erased shown now → (place : ℕ) → is_protected now place ≡ true
     → slice_index_or now place (Char 0) ≡ slice_index_or shown place (Char 0)
 held_cell erased shown now held place guarded = by_place (cases_lt place (length now))
   where

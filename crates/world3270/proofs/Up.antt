@@ -27,6 +27,7 @@ use Rattle.telnet_wire.specs.declared.wire.Verb.TheVariants.{Will}
 use Rattle.tn3270e_msg.specs.HostTable.{host_transition, answer_transition, request_transition, named_transition, granted}
 use Rattle.tn3270e_msg.specs.Message.{Connect}
 use Rattle.tn3270e_msg.specs.Talk.{Comes, Talk, start_at, follow, IsLuIfSome, Saying, says}
+use Rattle.tn3270e_msg.specs.TermTable.{Term}
 use Rattle.tn3270e_msg.specs.declared.host_talk.HostState.{HostState}
 use Rattle.tn3270e_msg.specs.declared.host_talk.HostState.TheVariants.{Offered, Asked, Asking, Named, Closed as HostClosed}
 use Rattle.tn3270e_msg.specs.declared.reply.Reason.{Reason}
@@ -47,12 +48,13 @@ use Rattle.std.specs.Prelude.{All, map, unwrap_or, if◌then◌else◌}
 use Rattle.std.proofs.lemmas.List.Elements.{All-nil, All-cons}
 use Rattle.world3270.specs.Given.{Given}
 use Rattle.world3270.specs.Link.{Link, sent}
-use Rattle.world3270.specs.Moments.{Kind, awaiting, Talking, Serving, Moment, UnderWay, IsAt, host_talk_at, term_state_at, turn_at, pending_at, down_at, up_at, served_down, served_up}
+use Rattle.world3270.specs.Moments.{Kind, awaiting, Talking, Serving, Moment, UnderWay, IsAgreed, IsAt, IsHostTalk, IsTermTalk, host_in_talk, turn_at, pending_at, down_at, up_at, served_down, served_up}
 use Rattle.world3270.specs.TurnReasons.{IsOccasion, IsCursorFor, IsOpenBy, IsOpenFor}
-use Rattle.world3270.specs.Stages.{scene_of, once_taken, FactsAreExact, Suits, Sees, IsPressed, WillBeHeard, IsRead, Fact, Kept, Sizes, IsTextKnown, IsKnownIfRead, IsUnread, ShownAt}
+use Rattle.world3270.specs.Stages.{scene_of, once_taken, FactsAreExact, Suits, Sees, IsPressed, WillBeHeard, IsReported, Fact, Kept, Sizes, IsTextKnown, IsKnownIfRead, IsUnread, ShownAt}
 use Rattle.world3270.specs.View.{view_of}
 use Rattle.world3270.proofs.OneOfMany.{same_number}
 use Rattle.world3270.proofs.Queues.{more, front, nothing}
+use Rattle.world3270.proofs.TalkStates.{is_agreed_on, own_model}
 
 -- the connection once the host took the message before the rest
 abbrev pub host_view : HostStep → List ToHost → Link → Link
@@ -76,17 +78,16 @@ pub record Answered (app : Application) (pool : List Entry) (link : Link) (rest 
 
 -- the host's step leaves the terminal's end as it is
 record Leads (model : Model) (wanted : Option (List ℕ)) (from to : Moment) (sends : List ToTerminal) : Type 0 where
-  term : term_state_at to ≡ term_state_at from
+  term : (term : Term) → IsTermTalk model wanted from term → IsTermTalk model wanted to term
   down : down_at model from ++ sends ≡ down_at model to
 
 leads : (link : Link) (step : HostStep) (rest : List ToHost) (wanted : Option (List ℕ)) (from to : Moment) → IsAt (view_of link) wanted from → Leads link.term.display.model wanted from to step.sends
-    → step.conn.talk ≡ host_talk_at link.term.display.model to → step.conn.turn ≡ turn_at to → step.conn.pending ≡ pending_at to → step.conn.unheard ≡ link.host.unheard → UnderWay link.lost rest (up_at link.term.display.model wanted to) → IsAt (view_of (host_view step rest link)) wanted to
-leads link step rest wanted from to at l talk turn pending waits left = record {
+    → IsHostTalk link.term.display.model to step.conn.talk → step.conn.turn ≡ turn_at to → step.conn.pending ≡ pending_at to → UnderWay link.lost rest (up_at link.term.display.model wanted to) → IsAt (view_of (host_view step rest link)) wanted to
+leads link step rest wanted from to at l talk turn pending left = record {
   host_talk = talk;
-  term_talk = at.term_talk ∙ ap (λ state. record { model = link.term.display.model; wanted = wanted; talk = start_at state }) (sym l.term);
+  term_talk = l.term link.term.talk at.term_talk;
   turn = turn;
   pending = pending;
-  not_cleared = λ clear. at.not_cleared (sym waits ∙ clear);
   goes_down = subst (UnderWay link.lost (sent link.lost link.down step.sends)) l.down (more link.lost link.down (down_at link.term.display.model from) step.sends at.goes_down);
   goes_up = left;
 }
@@ -99,14 +100,14 @@ talk_step link next sends grants rejects = record { conn = with_talk link.host n
 -- the talk moves on, by a step that is known
 talks : (app : Application) (pool : List Entry) (link : Link) (rest : List ToHost) (k : Kept app (view_of link)) (from to : Talking) (saying : Saying) (sends : List ToTerminal) (grants : Option (List ℕ)) (rejects : Option Rejection) (message : ToHost)
     → link.term.display.shape ≡ link.host.shape
-    → IsAt (view_of link) k.wanted (Moment.Talks from) → message ≡ ToHost.TalksUp saying
-    → talked (answer_to pool) link.host (host_talk_at link.term.display.model (Moment.Talks from)) (says saying) ≡ talk_step link (host_talk_at link.term.display.model (Moment.Talks to)) sends grants rejects
-    → Grants pool link.host (talk_step link (host_talk_at link.term.display.model (Moment.Talks to)) sends grants rejects) → Leads link.term.display.model k.wanted (Moment.Talks from) (Moment.Talks to) sends
+    → IsAt (view_of link) k.wanted (Moment.Talks from) → link.host.talk ≡ host_in_talk link.term.display.model from → IsHostTalk link.term.display.model (Moment.Talks to) (host_in_talk link.term.display.model to) → message ≡ ToHost.TalksUp saying
+    → talked (answer_to pool) link.host (host_in_talk link.term.display.model from) (says saying) ≡ talk_step link (host_in_talk link.term.display.model to) sends grants rejects
+    → Grants pool link.host (talk_step link (host_in_talk link.term.display.model to) sends grants rejects) → Leads link.term.display.model k.wanted (Moment.Talks from) (Moment.Talks to) sends
     → UnderWay link.lost rest (up_at link.term.display.model k.wanted (Moment.Talks to))
     → Fact k.wanted (scene_of (view_of link)) (Moment.Talks to) → Answered app pool link rest (took (answer_to pool) link.host message)
-talks app pool link rest k from to saying sends grants rejects message same at is step g l left fact =
+talks app pool link rest k from to saying sends grants rejects message same at talk then_talk is step g l left fact =
     subst (λ m. Answered app pool link rest (took (answer_to pool) link.host m)) (sym is)
-    (subst (Answered app pool link rest) (sym (ap (λ (t : Talk HostState). talked (answer_to pool) link.host t (says saying)) at.host_talk ∙ step))
+    (subst (Answered app pool link rest) (sym (ap (λ (t : Talk HostState). talked (answer_to pool) link.host t (says saying)) talk ∙ step))
     (record {
       kept = record {
         whole = k.whole;
@@ -117,7 +118,7 @@ talks app pool link rest k from to saying sends grants rejects message same at i
         wanted = k.wanted;
         moment = Moment.Talks to;
         sizes = record { host = k.sizes.host; screen = k.sizes.screen; same = λ steady. same };
-        at = leads link (talk_step link (host_talk_at link.term.display.model (Moment.Talks to)) sends grants rejects) rest k.wanted (Moment.Talks from) (Moment.Talks to) at l refl at.turn at.pending refl left;
+        at = leads link (talk_step link (host_in_talk link.term.display.model to) sends grants rejects) rest k.wanted (Moment.Talks from) (Moment.Talks to) at l then_talk at.turn at.pending left;
         fact = fact;
         shown = tt;
       };
@@ -164,26 +165,26 @@ grants_type given app pool sound link rest k message same at f left e = by_answe
   where
     by_answer : (answer : Result (List ℕ) Reason) → answer_to pool k.wanted ≡ answer → Answered app pool link rest (took (answer_to pool) link.host message)
     by_answer (Ok lu) a =
-        talks app pool link rest k Talking.NamingType (Talking.Granting lu) (asking_type link.term.display.model k.wanted) (ToTerminal.TalksDown (Saying.Sub (TypeIs (device_for link.term.display.model) lu)) ∷ []) (Some lu) None message same at e
-        (pool_asked given (answer_to pool) link.host link.term.display.model k.wanted f.1 ∙ ap (answered_by link.host link.term.display.model k.wanted) a) (Grants.one k.wanted lu refl refl a) (record { term = refl; down = refl }) left
+        talks app pool link rest k Talking.NamingType (Talking.Granting lu) (asking_type link.term.display.model k.wanted) (ToTerminal.TalksDown (Saying.Sub (TypeIs (device_for link.term.display.model) lu)) ∷ []) (Some lu) None message same at at.host_talk refl e
+        (pool_asked given (answer_to pool) link.host link.term.display.model k.wanted f.1 ∙ ap (answered_by link.host link.term.display.model k.wanted) a) (Grants.one k.wanted lu refl refl a) (record { term = λ term is. is; down = refl }) left
         (f.0, suits given pool k.wanted lu sound f.1 a)
     by_answer (Err reason) a =
         talks app pool link rest k Talking.NamingType (Talking.Rejecting reason) (asking_type link.term.display.model k.wanted) (ToTerminal.TalksDown (Saying.Sub (TypeReject reason)) ∷ []) None
-        (Some (record { lu = lu_asked (says (asking_type link.term.display.model k.wanted)); reason = reason })) message same at e
-        (pool_asked given (answer_to pool) link.host link.term.display.model k.wanted f.1 ∙ ap (answered_by link.host link.term.display.model k.wanted) a) (Grants.none refl (claim_at link.host (start_at Asked) at.host_talk)) (record { term = refl; down = refl }) left
+        (Some (record { lu = lu_asked (says (asking_type link.term.display.model k.wanted)); reason = reason })) message same at at.host_talk refl e
+        (pool_asked given (answer_to pool) link.host link.term.display.model k.wanted f.1 ∙ ap (answered_by link.host link.term.display.model k.wanted) a) (Grants.none refl (claim_at link.host (start_at Asked) at.host_talk)) (record { term = λ term is. is; down = refl }) left
         (f.0, tt)
 
 -- ---- records
 
 module _ (app : Application) (pool : List Entry) (link : Link) (rest : List ToHost) (k : Kept app (view_of link)) where
   agreed_at : (lu : List ℕ) (serving : Serving) → IsAt (view_of link) k.wanted (Moment.Serves lu serving) → is_agreed link.host.talk.state ≡ true
-  agreed_at lu serving at = ap (λ (t : Talk HostState). is_agreed t.state) at.host_talk
+  agreed_at lu serving at = is_agreed_on link.host.talk at.host_talk
 
-  serves : (lu : List ℕ) (from to : Serving) (conn : Conn) → link.term.display.shape ≡ link.host.shape → IsAt (view_of link) k.wanted (Moment.Serves lu from) → conn.talk ≡ link.host.talk → conn.unheard ≡ link.host.unheard → conn.shape ≡ link.host.shape → FactsAreExact conn.shadow
+  serves : (lu : List ℕ) (from to : Serving) (conn : Conn) → link.term.display.shape ≡ link.host.shape → IsAt (view_of link) k.wanted (Moment.Serves lu from) → conn.talk ≡ link.host.talk → conn.shape ≡ link.host.shape → FactsAreExact conn.shadow
       → conn.turn ≡ turn_at (Moment.Serves lu to) → conn.pending ≡ pending_at (Moment.Serves lu to) → served_down from ++ [] ≡ served_down to → UnderWay link.lost rest (served_up to)
-      → Fact k.wanted (scene_of (view_of (host_view (quiet conn) rest link))) (Moment.Serves lu to) → ShownAt app conn link.term.display.before_restored link.term.display.last_restored link.term.display.screen (Moment.Serves lu to)
+      → Fact k.wanted (scene_of (view_of (host_view (quiet conn) rest link))) (Moment.Serves lu to) → ShownAt app link.term.waits conn link.term.display.before_restored link.term.display.last_restored link.term.display.screen (Moment.Serves lu to)
       → Answered app pool link rest (quiet conn)
-  serves lu from to conn same at talk waits shape exact turn pending down left fact shown = record {
+  serves lu from to conn same at talk shape exact turn pending down left fact shown = record {
     kept = record {
       whole = k.whole;
       cursor = k.cursor;
@@ -197,7 +198,8 @@ module _ (app : Application) (pool : List Entry) (link : Link) (rest : List ToHo
         screen = k.sizes.screen;
         same = λ steady. same ∙ sym shape;
       };
-      at = leads link (quiet conn) rest k.wanted (Moment.Serves lu from) (Moment.Serves lu to) at (record { term = refl; down = down }) (talk ∙ at.host_talk) turn pending waits left;
+      at = leads link (quiet conn) rest k.wanted (Moment.Serves lu from) (Moment.Serves lu to) at (record { term = λ term is. is; down = down })
+          (subst (IsAgreed link.term.display.model lu) (sym talk) at.host_talk) turn pending left;
       fact = fact;
       shown = shown;
     };
@@ -214,7 +216,7 @@ answers_it : (kind : Kind) (number : ℕ) (command : CommandParts) (conn : Conn)
 answers_it Kind.APaint number command conn = ap (λ b. if_answers b (quiet (answered command conn)) conn) (same_number number)
 answers_it Kind.ANote number command conn = ap (λ b. if_answers b (quiet (answered command conn)) conn) (same_number number)
 
-response_took : (pool : Answers) (conn : Conn) (kind : Kind) (number : ℕ) (command : CommandParts) → is_agreed conn.talk.state ≡ true → conn.pending ≡ awaiting kind number command
+pub response_took : (pool : Answers) (conn : Conn) (kind : Kind) (number : ℕ) (command : CommandParts) → is_agreed conn.talk.state ≡ true → conn.pending ≡ awaiting kind number command
     → took pool conn (ToHost.Response number Verdict.Positive) ≡ quiet (answered command conn)
 response_took pool conn kind number command agrees pends =
     ap (λ b. once_agreed b (response_came number Verdict.Positive conn.pending conn) conn) agrees
@@ -224,7 +226,7 @@ response_took pool conn kind number command agrees pends =
 -- ---- data
 
 -- a key's data is heard while nothing waits for an answer, or a note alone
-data IsKeyTime (pending : Pending) : Type 0 where
+pub data IsKeyTime (pending : Pending) : Type 0 where
   nothing_waits : pending ≡ Pending.Nothing → IsKeyTime pending
   note_waits : (number : ℕ) (command : CommandParts) → pending ≡ Pending.Noting number command → IsKeyTime pending
 
@@ -243,14 +245,14 @@ data_took : (parts : InboundParts) (conn : Conn) (pending : Pending) → conn.tu
 data_took parts conn pending turns (IsKeyTime.nothing_waits e) = ap (λ p. data_came parts conn.turn p conn) e ∙ ap (λ t. data_came parts t Pending.Nothing conn) turns
 data_took parts conn pending turns (IsKeyTime.note_waits number command e) = ap (λ p. data_came parts conn.turn p conn) e ∙ ap (λ t. data_came parts t (Pending.Noting number command) conn) turns
 
-key_took : (pool : Answers) (conn : Conn) (parts : InboundParts) (aid : Aid) → is_agreed conn.talk.state ≡ true → conn.turn ≡ whose.Terminal → IsKeyTime conn.pending → parts.form ≡ Modified → parts.aid ≡ aid → (aid ≡ NoAid → ⊥)
+pub key_took : (pool : Answers) (conn : Conn) (parts : InboundParts) (aid : Aid) → is_agreed conn.talk.state ≡ true → conn.turn ≡ whose.Terminal → IsKeyTime conn.pending → parts.form ≡ Modified → parts.aid ≡ aid → (aid ≡ NoAid → ⊥)
     → took pool conn (ToHost.Data parts) ≡ believed (turn_reasons.Key aid false) conn.pending parts.cursor conn (hears parts conn)
 key_took pool conn parts aid agrees turns time form is some =
     ap (λ b. once_agreed b (data_came parts conn.turn conn.pending conn) conn) agrees
     ∙ data_took parts conn conn.pending turns time
     ∙ key_data_took parts conn aid form is some
 
-buffer_took : (pool : Answers) (conn : Conn) (size : Shape) (screen : Screen) (number : ℕ) → is_agreed conn.talk.state ≡ true → conn.pending ≡ Pending.Reading number
+pub buffer_took : (pool : Answers) (conn : Conn) (size : Shape) (screen : Screen) (number : ℕ) → is_agreed conn.talk.state ≡ true → conn.pending ≡ Pending.Reading number
     → took pool conn (ToHost.Data (buffer_data size screen)) ≡ believed (once_read conn.turn_reason) Pending.Nothing (buffer_data size screen).cursor conn (hears (buffer_data size screen) conn)
 buffer_took pool conn size screen number agrees pends =
     let parts : InboundParts = buffer_data size screen in
@@ -330,10 +332,10 @@ module _ (given : Given) (app : Application) (pool : List Entry) (link : Link) (
       → whose.Host ≡ turn_at (Moment.Serves lu to) → pending ≡ pending_at (Moment.Serves lu to) → served_down from ++ [] ≡ served_down to → UnderWay link.lost rest (served_up to)
       → ((shadow : Shadow) → Then shadow
       → Fact k.wanted (record { shape = link.host.shape; shadow = shadow; turn_reason = turn_reason; cursor = unwrap_or cursor link.host.cursor; unheard = link.host.unheard; lock = link.term.display.keyboard.lock; screen = screen; last_restored = link.term.display.last_restored; erased = link.term.display.erased }) (Moment.Serves lu to))
-      → ((shadow : Shadow) → Then shadow → ShownAt app (heard_conn turn_reason pending cursor shadow) link.term.display.before_restored link.term.display.last_restored link.term.display.screen (Moment.Serves lu to))
+      → ((shadow : Shadow) → Then shadow → ShownAt app link.term.waits (heard_conn turn_reason pending cursor shadow) link.term.display.before_restored link.term.display.last_restored link.term.display.screen (Moment.Serves lu to))
       → Answered app pool link rest (believed turn_reason pending cursor link.host r)
   believes lu from to parts turn_reason pending cursor Then (Ok shadow) at knows protects ok turn pends down left fact shown =
-      serves app pool link rest k lu from to (heard_conn turn_reason pending cursor shadow) same at refl refl refl (record { known = knows; protected = protects }) turn pends down left (fact shadow ok) (shown shadow ok)
+      serves app pool link rest k lu from to (heard_conn turn_reason pending cursor shadow) same at refl refl (record { known = knows; protected = protects }) turn pends down left (fact shadow ok) (shown shadow ok)
   believes lu from to parts turn_reason pending cursor Then (Err fault) at knows protects ok turn pends down left fact shown = absurd ok
 
   -- a key's data
@@ -343,7 +345,7 @@ module _ (given : Given) (app : Application) (pool : List Entry) (link : Link) (
       → UnderWay link.lost rest (served_up to)
       → ((shadow : Shadow) → Then shadow
       → Fact k.wanted (record { shape = link.host.shape; shadow = shadow; turn_reason = turn_reasons.Key screen.aid false; cursor = unwrap_or parts.cursor link.host.cursor; unheard = link.host.unheard; lock = link.term.display.keyboard.lock; screen = screen; last_restored = link.term.display.last_restored; erased = link.term.display.erased }) (Moment.Serves lu to))
-      → ((shadow : Shadow) → Then shadow → ShownAt app (heard_conn (turn_reasons.Key screen.aid false) link.host.pending parts.cursor shadow) link.term.display.before_restored link.term.display.last_restored link.term.display.screen (Moment.Serves lu to))
+      → ((shadow : Shadow) → Then shadow → ShownAt app link.term.waits (heard_conn (turn_reasons.Key screen.aid false) link.host.pending parts.cursor shadow) link.term.display.before_restored link.term.display.last_restored link.term.display.screen (Moment.Serves lu to))
       → Answered app pool link rest (took (answer_to pool) link.host message)
   hears_key lu from to parts message Then at p will e turns time turn pends down left fact shown =
       as_step app pool link rest k (ToHost.Data parts) message (believed (turn_reasons.Key screen.aid false) link.host.pending parts.cursor link.host (hears parts link.host)) e
@@ -356,25 +358,26 @@ module _ (given : Given) (app : Application) (pool : List Entry) (link : Link) (
       → pending_at (Moment.Serves lu from) ≡ awaiting kind number command → FactsAreExact (once_taken link.host.shape command link.host.shadow)
       → turn_at (Moment.Serves lu from) ≡ turn_at (Moment.Serves lu to) → Pending.Nothing ≡ pending_at (Moment.Serves lu to) → served_down from ++ [] ≡ served_down to
       → UnderWay link.lost rest (served_up to) → Fact k.wanted (scene_of (view_of (host_view (quiet (answered command link.host)) rest link))) (Moment.Serves lu to)
-      → ShownAt app (answered command link.host) link.term.display.before_restored link.term.display.last_restored link.term.display.screen (Moment.Serves lu to) → Answered app pool link rest (took (answer_to pool) link.host message)
+      → ShownAt app link.term.waits (answered command link.host) link.term.display.before_restored link.term.display.last_restored link.term.display.screen (Moment.Serves lu to) → Answered app pool link rest (took (answer_to pool) link.host message)
   hears_response lu from to kind number command message at e waits exact turn pends down left fact shown =
       as_step app pool link rest k (ToHost.Response number Verdict.Positive) message (quiet (answered command link.host)) e
       (response_took (answer_to pool) link.host kind number command (agreed_at app pool link rest k lu from at) (at.pending ∙ waits))
-      (serves app pool link rest k lu from to (answered command link.host) same at refl refl refl exact (at.turn ∙ turn) pends down left fact shown)
+      (serves app pool link rest k lu from to (answered command link.host) same at refl refl exact (at.turn ∙ turn) pends down left fact shown)
 
   -- the whole screen, as it was asked for
-  hears_buffer : (lu : List ℕ) (number : ℕ) (parts : InboundParts) (message : ToHost) → IsAt (view_of link) k.wanted (Moment.Serves lu (Serving.Reported number parts)) → IsRead (scene_of (view_of link))
-      → parts ≡ buffer_data link.host.shape screen → message ≡ ToHost.Data parts → UnderWay link.lost rest [] → ShownAt app link.host link.term.display.before_restored link.term.display.last_restored link.term.display.screen (Moment.Serves lu (Serving.Reported number parts))
+  hears_buffer : (lu : List ℕ) (number : ℕ) (parts : InboundParts) (message : ToHost) → IsAt (view_of link) k.wanted (Moment.Serves lu (Serving.Reported number parts)) → IsReported (scene_of (view_of link)) parts
+      → message ≡ ToHost.Data parts → UnderWay link.lost rest [] → ShownAt app link.term.waits link.host link.term.display.before_restored link.term.display.last_restored link.term.display.screen (Moment.Serves lu (Serving.Reported number parts))
       → Answered app pool link rest (took (answer_to pool) link.host message)
-  hears_buffer lu number parts message at f is e left shown =
-      let read : InboundParts = buffer_data link.host.shape screen in
-      as_step app pool link rest k (ToHost.Data read) message (believed (once_read link.host.turn_reason) Pending.Nothing read.cursor link.host (hears read link.host)) (e ∙ ap (λ p. ToHost.Data p) is)
-      (buffer_took (answer_to pool) link.host link.host.shape screen number (agreed_at app pool link rest k lu (Serving.Reported number parts) at) at.pending)
+  hears_buffer lu number parts message at f e left shown =
+      let said : Screen = record screen { aid = parts.aid } in
+      let read : InboundParts = buffer_data link.host.shape said in
+      as_step app pool link rest k (ToHost.Data read) message (believed (once_read link.host.turn_reason) Pending.Nothing read.cursor link.host (hears read link.host)) (e ∙ ap (λ p. ToHost.Data p) f.says)
+      (buffer_took (answer_to pool) link.host link.host.shape said number (agreed_at app pool link rest k lu (Serving.Reported number parts) at) at.pending)
       (believes lu (Serving.Reported number parts) Serving.Deciding read (once_read link.host.turn_reason) Pending.Nothing read.cursor (λ s. Sees link.host.unheard link.host.shape screen s × NothingIsOpen s × All IsTextKnown (fields_of s)) (hears read link.host) at
       (given.belief.heard_exact size link.host.shadow read k.exact.known) (given.belief.heard_protected size link.host.shadow read k.exact.protected)
-      (by_result (heard size link.host.shadow read) (subst (λ n. IsOkAnd (heard n link.host.shadow read) (Believed false screen)) (k.whole ∙ ap (λ (s : Shape). cells_in s) same) (given.belief.reads link.host.shape link.host.shadow screen f.decides.sees.meets))
+      (by_result (heard size link.host.shadow read) f.will
       (given.belief.heard_exact size link.host.shadow read k.exact.known) (given.belief.heard_protected size link.host.shadow read k.exact.protected) (given.belief.read_leaves size link.host.shadow read refl) (read_is_settled size link.host.shadow read refl))
-      refl refl refl left (λ shadow sees. record { lock = f.decides.lock; turn_reason = read_occasion link.host.turn_reason screen.aid f.decides.turn_reason; cursor = read_cursor link.host.turn_reason screen.cursor; closed = λ relies. open_read link.host.turn_reason shadow link.host.shadow sees.1 (f.decides.closed relies); sees = sees.0 })
+      refl refl refl left (λ shadow sees. record { lock = f.lock; turn_reason = read_occasion link.host.turn_reason screen.aid f.turn_reason; cursor = read_cursor link.host.turn_reason screen.cursor; closed = λ relies. open_read link.host.turn_reason shadow link.host.shadow sees.1 (f.closed relies); sees = sees.0 })
       (λ shadow sees. (λ later. shown (λ is_first. later (ap once_read is_first)), settled_read link.host.turn_reason shadow sees.2)))
     where
       by_result : (r : Result Shadow HeardFault) → IsOkAnd r (Believed false screen) → IfOk r KnownIsExact → IfOk r ProtectedIsExact → IfOk r NothingIsOpen → IfOk r (λ s. All IsTextKnown (fields_of s))
@@ -398,16 +401,16 @@ answers given app pool sound link message rest e k = by_moment k.moment k.sizes 
     by_talk : (talking : Talking) → link.term.display.shape ≡ link.host.shape → IsAt (view_of link) k.wanted (Moment.Talks talking) → Fact k.wanted (scene_of (view_of link)) (Moment.Talks talking) → Answered app pool link rest (took (answer_to pool) link.host message)
     by_talk Talking.Accepting same at f =
         let first = front link.lost link.up message rest _ [] e at.goes_up in
-        talks app pool link rest k Talking.Accepting Talking.AskingType (Saying.Opt Will 40) (ToTerminal.TalksDown (Saying.Sub SendType) ∷ []) None None message same at first.0 refl
-        (Grants.none refl (claim_at link.host (start_at Offered) at.host_talk)) (record { term = refl; down = refl }) first.1 f
+        talks app pool link rest k Talking.Accepting Talking.AskingType (Saying.Opt Will 40) (ToTerminal.TalksDown (Saying.Sub SendType) ∷ []) None None message same at at.host_talk refl first.0 refl
+        (Grants.none refl (claim_at link.host (start_at Offered) at.host_talk)) (record { term = λ term is. is; down = refl }) first.1 f
     by_talk Talking.NamingType same at f =
         let first = front link.lost link.up message rest _ [] e at.goes_up in
         grants_type given app pool sound link rest k message same at f first.1 first.0
     by_talk (Talking.AskingFunctions lu) same at f =
         let first = front link.lost link.up message rest _ [] e at.goes_up in
-        talks app pool link rest k (Talking.AskingFunctions lu) (Talking.Agreeing lu) (Saying.Sub FunRequest) (ToTerminal.TalksDown (Saying.Sub FunIs) ∷ []) None None message same at first.0
+        talks app pool link rest k (Talking.AskingFunctions lu) (Talking.Agreeing lu) (Saying.Sub FunRequest) (ToTerminal.TalksDown (Saying.Sub FunIs) ∷ []) None None message same at at.host_talk (record { device = device_for link.term.display.model; state_is = refl; model_is = own_model link.term.display.model }) first.0
         (ap (λ w. let next = follow HostClosed (start_at (Named (device_for link.term.display.model) lu)) (host_transition (Named (device_for link.term.display.model) lu) (Comes.RequestsFunctions w)) in talked_on (answer_to pool) link.host None next.0 next.1) responses_alone)
-        (Grants.none refl (claim_at link.host (start_at (Named (device_for link.term.display.model) lu)) at.host_talk)) (record { term = refl; down = refl }) first.1 f
+        (Grants.none refl (claim_at link.host (start_at (Named (device_for link.term.display.model) lu)) at.host_talk)) (record { term = λ term is. ap (λ (t : Term). t.talk.state) is; down = refl }) first.1 f
     by_talk Talking.Offering same at f = no_more at.goes_up
     by_talk Talking.AskingType same at f = no_more at.goes_up
     by_talk (Talking.Granting lu) same at f = no_more at.goes_up
@@ -416,10 +419,10 @@ answers given app pool sound link message rest e k = by_moment k.moment k.sizes 
     by_talk (Talking.Rejected reason) same at f = no_more at.goes_up
 
     by_serving : (lu : List ℕ) (serving : Serving) → Sizes app (view_of link) (Moment.Serves lu serving) → IsAt (view_of link) k.wanted (Moment.Serves lu serving) → Fact k.wanted (scene_of (view_of link)) (Moment.Serves lu serving)
-        → ShownAt app link.host link.term.display.before_restored link.term.display.last_restored link.term.display.screen (Moment.Serves lu serving) → Answered app pool link rest (took (answer_to pool) link.host message)
+        → ShownAt app link.term.waits link.host link.term.display.before_restored link.term.display.last_restored link.term.display.screen (Moment.Serves lu serving) → Answered app pool link rest (took (answer_to pool) link.host message)
     by_serving lu (Serving.Reported number parts) s at f shown =
         let first = front link.lost link.up message rest _ [] e at.goes_up in
-        hears_buffer given app pool link rest k (s.same refl) lu number parts message at f.0 f.1 first.0 first.1 shown
+        hears_buffer given app pool link rest k (s.same refl) lu number parts message at f first.0 first.1 shown
     by_serving lu (Serving.AnsweredLate number command) s at f shown =
         let first = front link.lost link.up message rest _ [] e at.goes_up in
         hears_response given app pool link rest k (s.same refl) lu (Serving.AnsweredLate number command) Serving.Deciding Kind.ANote number command message at first.0 refl f.sees.exact refl refl refl first.1
@@ -460,7 +463,7 @@ answers given app pool sound link message rest e k = by_moment k.moment k.sizes 
     by_serving lu (Serving.Noting number command) s at f shown = no_more at.goes_up
 
     by_moment : (moment : Moment) → Sizes app (view_of link) moment → IsAt (view_of link) k.wanted moment → Fact k.wanted (scene_of (view_of link)) moment
-        → ShownAt app link.host link.term.display.before_restored link.term.display.last_restored link.term.display.screen moment → Answered app pool link rest (took (answer_to pool) link.host message)
+        → ShownAt app link.term.waits link.host link.term.display.before_restored link.term.display.last_restored link.term.display.screen moment → Answered app pool link rest (took (answer_to pool) link.host message)
     by_moment (Moment.Talks talking) s at f shown = by_talk talking (s.same refl) at f
     by_moment (Moment.Begins lu number command wants over) s at f shown = no_more at.goes_up
     by_moment (Moment.Serves lu serving) s at f shown = by_serving lu serving s at f shown

@@ -21,13 +21,11 @@ use Rattle.host_core.specs.Acts.{Act, Decision, decided, decision_on, done as do
 use Rattle.host_core.specs.Application.{Application, IsShape, IsApplication, message_place}
 use Rattle.host_core.specs.Messages.{ToTerminal, ToHost, Verdict}
 use Rattle.host_core.specs.Notes.{IsNoteText, may_note, noted_as, noted}
-use Rattle.host_core.specs.Session.{Conn, is_agreed, unheard_of}
+use Rattle.host_core.specs.Session.{Conn, is_agreed}
 use Rattle.host_core.specs.Takes.{freed_if, HostStep, took as host_took}
 use Rattle.host_core.specs.Questions.{act_by, answered_on, has_its_panel, is_asking}
 use Rattle.host_core.specs.declared.question.Answer.{Answer as Said}
 use Rattle.host_core.specs.declared.terminals.Terminals.{Terminals}
-use Rattle.host_core.specs.declared.terminals.Terminals.TheVariants.{Waiting, Any}
-use Rattle.host_core.specs.declared.unheard.Unheard.TheVariants as unheards
 use Rattle.world3270.specs.Always.{is_negative}
 use Rattle.world3270.specs.Given.{Given}
 use Rattle.world3270.specs.Happens.{closed_if, verdict_in, said, came_up, host_acted, host_noted, left_alone, place_after, came_down, went_down, key_went, host_parted, parted, term_saw, joined, term_anew, host_left_from, host_anew, done, happens, run, RunsCompose, host_answered}
@@ -38,8 +36,10 @@ use Rattle.world3270.specs.Stages.{Kept}
 use Rattle.world3270.specs.Terminal.{Display, TermStep, new_display, after_key, key_came, took as term_took}
 use Rattle.world3270.specs.View.{view_of}
 use Rattle.world3270.specs.World.{Place, World, Event, IsEvent, AreEvents, new_world, with_at, with_link, display_at}
-use Rattle.world3270.proofs.Acting.{acts, notes, loses, answers_are_shown}
-use Rattle.world3270.proofs.Down.{term_view, obeys}
+use Rattle.world3270.proofs.Acting.{acts, loses, answers_are_shown}
+use Rattle.world3270.proofs.Noting.{notes}
+use Rattle.world3270.proofs.Down.{term_view}
+use Rattle.world3270.proofs.Obeys.{obeys}
 use Rattle.world3270.proofs.Keys.{keys}
 use Rattle.world3270.proofs.OneOfMany.{all_with, differs}
 use Rattle.world3270.proofs.Unreturned.{all_as_left, all_kept}
@@ -225,13 +225,8 @@ term_saw_good app world terminal (Place.Alone display) g = g
 
 -- ---- connections
 
-some_cells : (shape : Shape) → IsShape shape → 0 < cells_in shape
+pub some_cells : (shape : Shape) → IsShape shape → 0 < cells_in shape
 some_cells shape is = let columns = is.columns in let row = is.row in omega (arith, columns, row)
-
--- nothing was cleared unheard at the begin
-never_cleared : (serves : Terminals) → unheard_of serves ≡ unheards.Clear → ⊥
-never_cleared Waiting e = absurd (cc)
-never_cleared Any e = absurd (cc)
 
 unused_kept : Given → (app : Application) → IsApplication app → (serves : Terminals) → Kept app (view_of (unused app serves))
 unused_kept given app is serves = record {
@@ -248,7 +243,6 @@ unused_kept given app is serves = record {
     term_talk = refl;
     turn = refl;
     pending = refl;
-    not_cleared = never_cleared serves;
     goes_down = record { vanished = ToTerminal.TalksDown (Saying.Opt Do 40) ∷ []; whole = refl; none = λ e. absurd (cc) };
     goes_up = record { vanished = []; whole = refl; none = λ _. refl };
   };
@@ -271,7 +265,6 @@ begun_kept given app is serves model terminal wanted lu = record {
     term_talk = refl;
     turn = refl;
     pending = refl;
-    not_cleared = never_cleared serves;
     goes_down = record { vanished = []; whole = refl; none = λ _. refl };
     goes_up = record { vanished = []; whole = refl; none = λ _. refl };
   };

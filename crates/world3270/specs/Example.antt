@@ -6,6 +6,7 @@ use Rattle.world3270.specs.ExampleLosses.{LosingRun}
 use Rattle.world3270.specs.ExampleNotes.{NotesRun}
 use Rattle.world3270.specs.ExampleReads.{ReadingRun, DoubtingRun}
 use Rattle.world3270.specs.ExampleRestarts.{RestartingRun}
+use Rattle.world3270.specs.ExampleRules.{BrokenRules, KeptRules, ToldRun, WaitingRun}
 use Rattle.world3270.specs.ExampleRuns.{StoredRun, ReconnectingRun}
 use Rattle.world3270.specs.ExampleTargets.{LeadingRun}
 use Rattle.world3270.specs.ExampleQuestions.{AskingRun}
@@ -22,3 +23,7 @@ pub record TheRunsEndSo : Type 0 where
   pub leading : LeadingRun
   pub asking : AskingRun
   pub losing : LosingRun
+  pub waiting : WaitingRun
+  pub told : ToldRun
+  pub broken : BrokenRules
+  pub kept : KeptRules

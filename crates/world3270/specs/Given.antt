@@ -1,12 +1,12 @@
 -- The laws of the crates below, as one record for proofs.
 
-use Rattle.datastream.specs.HeldLaws.{HeldAtFirst}
+use Rattle.datastream.specs.HeldLaws.{HeldAtFirst, HeldComposes, HeldIsRound}
 use Rattle.datastream.specs.NoteLaws.{NoteKeepsBounds, NoteKeepsForm, NoteKeepsHeld, HeldStaysProtected, NoteKeepsSendable, NotesCompose}
 use Rattle.keyboard.specs.Laws.{KeysKeep, KeysStayOnTheScreen}
 use Rattle.keyboard.specs.Sendable.{KeysKeepSendable}
-use Rattle.shadow.specs.Doubt.{DoubtAllowsTheScreen, DoubtStaysExact, DoubtStaysProtected}
+use Rattle.shadow.specs.Doubt.{DoubtAllowsInput, DoubtAllowsTheScreen, DoubtStaysExact, DoubtStaysProtected}
 use Rattle.shadow.specs.Exactness.{NothingIsExact, HeardStaysExact, HeardStaysProtected, TakenStaysExact, PaintedIsExact, ProtectedIsSeen, ReturnedIsTold}
-use Rattle.shadow.specs.Laws.{HearsModified, HearsBuffer, PaintIsSpelt, PaintIsTaken, PaintedIsKnown, WrittenIsTaken}
+use Rattle.shadow.specs.Laws.{HearsModified, HearsBuffer, PaintIsSpelt, PaintIsTaken, PaintedIsKnown, WantedIsPainted, WrittenIsTaken}
 use Rattle.shadow.specs.Notes.{PlacedStaysKnown, NoteStaysListed, NoteStaysTold, NoteStaysExact, NoteOpensNothing}
 use Rattle.shadow.specs.Openness.{ClearIsHeard, LongOpensNothing, ReadLeavesNothingOpen, PaintOpensNothing}
 use Rattle.tn3270e_msg.specs.Laws.{NameIsReadAsItself}
@@ -19,6 +19,7 @@ pub record GivenBelief : Type 0 where
   pub hears : HearsModified
   pub reads : HearsBuffer
   pub spelt : PaintIsSpelt
+  pub painted : WantedIsPainted
   pub taken : PaintIsTaken
   pub known : PaintedIsKnown
   pub written : WrittenIsTaken
@@ -34,6 +35,7 @@ pub record GivenBelief : Type 0 where
   pub read_leaves : ReadLeavesNothingOpen
   pub paint_opens : PaintOpensNothing
   pub doubt_allows : DoubtAllowsTheScreen
+  pub doubt_input : DoubtAllowsInput
   pub doubt_exact : DoubtStaysExact
   pub doubt_protected : DoubtStaysProtected
   pub fit : ActsFit
@@ -46,6 +48,8 @@ pub record GivenKeys : Type 0 where
   pub on_screen : KeysStayOnTheScreen
   pub sendable : KeysKeepSendable
   pub at_first : HeldAtFirst
+  pub round : HeldIsRound
+  pub composes : HeldComposes
 
 -- notes
 pub record GivenNotes : Type 0 where

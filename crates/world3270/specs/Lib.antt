@@ -20,6 +20,7 @@ pub mod Stages
 pub mod ExampleApplication
 pub mod ExampleScreens
 pub mod ExampleEnds
+pub mod ExampleRules
 pub mod ExampleRuns
 pub mod ExampleReads
 pub mod ExampleRestarts
@@ -32,6 +33,7 @@ pub mod TrackedTerminals
 pub mod Stands
 pub mod StandsEnds
 pub mod StandsLinks
+pub mod Readings
 pub mod Places
 pub mod Skipped
 pub mod Losses
@@ -55,4 +57,7 @@ pub mod OneOutcome
 pub mod Known
 pub mod Unbroken
 pub mod ShownSince
+pub mod ScreensFound
 pub mod ProtocolErrors
+pub mod EveryTerminal
+pub mod EveryTerminalBytes

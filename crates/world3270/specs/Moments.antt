@@ -1,7 +1,7 @@
 -- The moments of a connection, for proofs: what is under way, and how far both ends are, one line a moment (RFC 1647, sections 7 and
 -- 8.1; turns are our profile). At most one command is under way; what vanished on a lost connection counts as under way for good.
 use Rattle.std.specs.Prelude.{◌≡◌, ℕ, Bool, false, List, [], ◌∷◌, ◌++◌, Option}
-use Rattle.tn3270e_msg.specs.Device.{device_for}
+use Rattle.tn3270e_msg.specs.Device.{device_for, model_of}
 use Rattle.codes3270.specs.declared.size.Model.{Model}
 use Rattle.datastream.specs.Grammar.{CommandParts}
 use Rattle.datastream.specs.InboundText.{InboundParts}
@@ -9,6 +9,8 @@ use Rattle.datastream.specs.Wanted.{WantedScreen}
 use Rattle.shadow.specs.Belief.{Shadow}
 use Rattle.telnet_wire.specs.declared.wire.Verb.TheVariants.{Will, Do}
 use Rattle.tn3270e_msg.specs.Talk.{Talk, start_at, Saying}
+use Rattle.tn3270e_msg.specs.TermTable.{Term}
+use Rattle.tn3270e_msg.specs.declared.device.Device.{Device}
 use Rattle.tn3270e_msg.specs.declared.host_talk.HostState.{HostState}
 use Rattle.tn3270e_msg.specs.declared.host_talk.HostState.TheVariants.{Offered, Asked, Named, Agreed as HostAgreed}
 use Rattle.tn3270e_msg.specs.declared.reply.Reason.{Reason}
@@ -75,9 +77,6 @@ abbrev pub rejected_once : Talk HostState
 rejected_once = record { state = Asked; refusals_left = 7 }
 
 -- `model`: the terminal's
-abbrev pub agreed : Model → List ℕ → Talk HostState
-agreed model lu = start_at (HostAgreed (device_for model) lu)
-
 abbrev pub host_in_talk : Model → Talking → Talk HostState
 host_in_talk model Talking.Offering = start_at Offered
 host_in_talk model Talking.Accepting = start_at Offered
@@ -85,7 +84,7 @@ host_in_talk model Talking.AskingType = start_at Asked
 host_in_talk model Talking.NamingType = start_at Asked
 host_in_talk model (Talking.Granting lu) = start_at (Named (device_for model) lu)
 host_in_talk model (Talking.AskingFunctions lu) = start_at (Named (device_for model) lu)
-host_in_talk model (Talking.Agreeing lu) = agreed model lu
+host_in_talk model (Talking.Agreeing lu) = start_at (HostAgreed (device_for model) lu)
 host_in_talk model (Talking.Rejecting reason) = rejected_once
 host_in_talk model (Talking.Rejected reason) = rejected_once
 
@@ -100,15 +99,40 @@ term_in_talk (Talking.Agreeing lu) = FunctionsAsked lu
 term_in_talk (Talking.Rejecting reason) = TypeAsked
 term_in_talk (Talking.Rejected reason) = Refused reason
 
-abbrev pub host_talk_at : Model → Moment → Talk HostState
-host_talk_at model (Moment.Talks talking) = host_in_talk model talking
-host_talk_at model (Moment.Begins lu number command wanted over) = agreed model lu
-host_talk_at model (Moment.Serves lu serving) = agreed model lu
+-- both agreed on this LU, whatever was said before, with a type of a device of this model
+pub record IsAgreed (model : Model) (lu : List ℕ) (talk : Talk HostState) : Type 0 where
+  pub device : Device
+  pub state_is : talk.state ≡ HostAgreed device lu
+  pub model_is : model_of device ≡ model
+
+abbrev pub IsHostIn : Model → Talking → Talk HostState → Type 0
+IsHostIn model (Talking.Agreeing lu) talk = IsAgreed model lu talk
+IsHostIn model talking talk = talk ≡ host_in_talk model talking
+
+-- the host's talk at a moment
+abbrev pub IsHostTalk : Model → Moment → Talk HostState → Type 0
+IsHostTalk model (Moment.Talks talking) talk = IsHostIn model talking talk
+IsHostTalk model (Moment.Begins lu number command wanted over) talk = IsAgreed model lu talk
+IsHostTalk model (Moment.Serves lu serving) talk = IsAgreed model lu talk
 
 abbrev pub term_state_at : Moment → TermState
 term_state_at (Moment.Talks talking) = term_in_talk talking
 term_state_at (Moment.Begins lu number command wanted over) = FunctionsAsked lu
 term_state_at (Moment.Serves lu serving) = Agreed lu
+
+-- the terminal's talk as it has been from the first, in this state
+abbrev pub talk_in : Model → Option (List ℕ) → TermState → Term
+talk_in model wanted state = record { model = model; wanted = wanted; talk = start_at state }
+
+abbrev pub IsTermIn : Model → Option (List ℕ) → Talking → Term → Type 0
+IsTermIn model wanted (Talking.Agreeing lu) term = term.talk.state ≡ FunctionsAsked lu
+IsTermIn model wanted talking term = term ≡ talk_in model wanted (term_in_talk talking)
+
+-- the terminal's talk at a moment: once the host agreed, its state alone
+abbrev pub IsTermTalk : Model → Option (List ℕ) → Moment → Term → Type 0
+IsTermTalk model wanted (Moment.Talks talking) term = IsTermIn model wanted talking term
+IsTermTalk model wanted (Moment.Begins lu number command paints over) term = term.talk.state ≡ FunctionsAsked lu
+IsTermTalk model wanted (Moment.Serves lu serving) term = term.talk.state ≡ Agreed lu
 
 abbrev pub turn_in : Serving → Turn
 turn_in Serving.Deciding = whose.Host
@@ -205,10 +229,9 @@ pub record UnderWay {X : Type 0} (lost : Bool) (queue messages : List X) : Type 
 
 -- a connection is at a moment
 pub record IsAt (v : View) (wanted : Option (List ℕ)) (moment : Moment) : Type 0 where
-  pub host_talk : v.host.talk ≡ host_talk_at v.model moment
-  pub term_talk : v.talk ≡ record { model = v.model; wanted = wanted; talk = start_at (term_state_at moment) }
+  pub host_talk : IsHostTalk v.model moment v.host.talk
+  pub term_talk : IsTermTalk v.model wanted moment v.talk
   pub turn : v.host.turn ≡ turn_at moment
   pub pending : v.host.pending ≡ pending_at moment
-  pub not_cleared : v.host.unheard ≡ unheards.Clear → ⊥
   pub goes_down : UnderWay v.lost v.down (down_at v.model moment)
   pub goes_up : UnderWay v.lost v.up (up_at v.model wanted moment)

@@ -44,8 +44,7 @@ pub data Operates (end : TermEnd) (step : TermStep) : Type 0 where
       → step ≡ shows keyboard (edited cells cursor erases end.display) [] end → Operates end step
   sends : (keyboard : Keyboard) (aid : Aid) → aid ≢ NoAid → step ≡ shows keyboard (after_sending aid end.display) (data_by aid end) end → Operates end step
 
--- It is bound to the LU that the host granted, or about to be by the FUNCTIONS IS that comes down.
-abbrev pub BindsBy : TermState → List ToTerminal → List ℕ → Type 0
-BindsBy (Agreed lu) [] granted = lu ≡ granted
-BindsBy (FunctionsAsked lu) (ToTerminal.TalksDown (Saying.Sub FunIs) ∷ []) granted = lu ≡ granted
-BindsBy _ _ granted = ⊥
+-- It is bound to the LU that the host granted, with nothing on its way, or about to be by the FUNCTIONS IS that comes down.
+pub data Binds (granted : List ℕ) (state : TermState) (down : List ToTerminal) : Type 0 where
+  bound : state ≡ Agreed granted → down ≡ [] → Binds granted state down
+  about_to : state ≡ FunctionsAsked granted → down ≡ ToTerminal.TalksDown (Saying.Sub FunIs) ∷ [] → Binds granted state down

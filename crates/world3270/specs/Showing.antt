@@ -57,12 +57,12 @@ pub record IsWantedFor (app : Application) (talk : Talk HostState) (panel : ℕ)
   pub wanted_is : wanted ≡ wanted_by app (when_shown conn) panel message keep values
 
 -- Such a screen, painted on the one before, which the belief allows and which it fits: so each field that is kept was there, with the same
--- attribute and length. What the host was told, by which it decided, was so of the screen before.
-pub record IsPaintedFor (app : Application) (talk : Talk HostState) (panel : ℕ) (values : Values) (message : Message) (before screen : Screen) : Type 0 where
+-- attribute and length. At a terminal that waits, what the host was told, by which it decided, was so of the screen before.
+pub record IsPaintedFor (app : Application) (waits : Bool) (talk : Talk HostState) (panel : ℕ) (values : Values) (message : Message) (before screen : Screen) : Type 0 where
   pub wanted : WantedScreen
   pub over : Shadow
   pub wanted_for : IsWantedFor app talk panel values message over wanted
-  pub told : Meets wanted_for.conn.shadow before
+  pub told : waits ≡ true → Meets wanted_for.conn.shadow before
   pub meets : Meets over before
   pub fits : is_paintable over wanted ≡ true
   pub is : screen ≡ plainly_painted wanted before
@@ -72,10 +72,10 @@ abbrev pub WantsItsPanel : Application → Conn → Shadow → WantedScreen → 
 WantsItsPanel app host over wanted = IsWantedFor app host.talk host.panel host.values host.message over wanted
 
 -- the connection's panel is shown, painted on the screen before
-abbrev pub ShowsItsPanel : Application → Conn → (before screen : Screen) → Type 0
-ShowsItsPanel app host before screen = IsPaintedFor app host.talk host.panel host.values host.message before screen
+abbrev pub ShowsItsPanel : Application → Bool → Conn → (before screen : Screen) → Type 0
+ShowsItsPanel app waits host before screen = IsPaintedFor app waits host.talk host.panel host.values host.message before screen
 
 -- the same, to be painted on this screen, of which what the host was told is so
-pub record WantsItsPanelOn (app : Application) (host : Conn) (over : Shadow) (wanted : WantedScreen) (screen : Screen) : Type 0 where
+pub record WantsItsPanelOn (app : Application) (waits : Bool) (host : Conn) (over : Shadow) (wanted : WantedScreen) (screen : Screen) : Type 0 where
   pub wants : WantsItsPanel app host over wanted
-  pub told : Meets wants.conn.shadow screen
+  pub told : waits ≡ true → Meets wants.conn.shadow screen

@@ -29,9 +29,9 @@ pub record HasShown (host : Conn) : Type 0 where
 
 -- The screen shows the connection's panel, with the connection's values and message, and so each field of the panel: with its value, or as
 -- it was on the screen before. The cursor is where the panel and the message want it.
-pub record IsPanelShown (app : Application) (host : Conn) (before screen : Screen) : Type 0 where
-  pub shown : ShowsItsPanel app host before screen
-  pub fields : AreShown (app.fields host.panel) host.values host.message before screen
+pub record IsPanelShown (app : Application) (waits : Bool) (host : Conn) (before screen : Screen) : Type 0 where
+  pub shown : ShowsItsPanel app waits host before screen
+  pub fields : AreShown waits (app.fields host.panel) host.values host.message before screen
   pub cursor : screen.cursor ≡ (app.screen host.panel host.values host.message false).cursor
 
 -- ---- of a world over messages
@@ -40,12 +40,12 @@ pub record IsPanelShown (app : Application) (host : Conn) (before screen : Scree
 -- last restoring write left shows the connection's panel, with the connection's values and message, over the screen that this write found.
 abbrev pub PanelIsShown : Application → World → Type 0
 PanelIsShown app world = (number : ℕ) (terminal : TerminalSeen) → let link = world.link number in
-    link.host_here ≡ true → (seen_link link).terminal ≡ Some terminal → HasShown link.host → ShowsItsPanel app link.host terminal.before_restored terminal.last_restored
+    link.host_here ≡ true → (seen_link link).terminal ≡ Some terminal → HasShown link.host → ShowsItsPanel app true link.host terminal.before_restored terminal.last_restored
 
 -- It shows each field of the panel, if each screen that the application asks for has its panel's fields.
 abbrev pub FieldsAreShown : Application → World → Type 0
 FieldsAreShown app world = WantsItsFields app → (number : ℕ) (terminal : TerminalSeen) → let link = world.link number in
-    link.host_here ≡ true → (seen_link link).terminal ≡ Some terminal → HasShown link.host → IsPanelShown app link.host terminal.before_restored terminal.last_restored
+    link.host_here ≡ true → (seen_link link).terminal ≡ Some terminal → HasShown link.host → IsPanelShown app true link.host terminal.before_restored terminal.last_restored
 
 -- ---- of a world over bytes
 
@@ -53,7 +53,7 @@ FieldsAreShown app world = WantsItsFields app → (number : ℕ) (terminal : Ter
 abbrev pub WhatIsAnsweredIsShown : ByteWorld → Type 0
 WhatIsAnsweredIsShown world = (number : ℕ) (rest : Rest) (host : Conn) (terminal : TerminalSeen) → service_at number world.host ≡ Service.Open rest host
     → (seen_connection number world).terminal ≡ Some terminal → HasShown host
-    → IsPanelShown (application_of world.host.panels) host terminal.before_restored terminal.last_restored
+    → IsPanelShown (application_of world.host.panels) true host terminal.before_restored terminal.last_restored
 
 -- It is so of each world whose bytes represent a world over messages.
 abbrev pub PanelIsShownOverBytes : Type 0

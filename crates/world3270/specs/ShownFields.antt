@@ -33,13 +33,14 @@ IsWritten values message field screen =
     ShowsField screen field (field_attr values message false field) (fitted field.extent.length (field_content values message field))
 
 -- A field that was kept: attribute, with MDT, and text are those that the screen had before, cell by cell. The attribute is the
--- panel's but for MDT, and the text has the field's length. Nulls removed, it is the value that the host has for the field.
-pub record IsKept (values : Values) (message : Message) (field : PanelField) (before screen : Screen) : Type 0 where
+-- panel's but for MDT, and the text has the field's length. Nulls removed, it is the value that the host has for the field, if the terminal
+-- waits; else the operator may have changed it since the host was told.
+pub record IsKept (waits : Bool) (values : Values) (message : Message) (field : PanelField) (before screen : Screen) : Type 0 where
   pub attribute : Attr
   pub text : List ℕ
   pub same_attribute : without_mdt attribute ≡ without_mdt (field_attr values message true field)
   pub same_length : length text ≡ field.extent.length
-  pub value : value_of values field.number ≡ Some (without_nulls text)
+  pub value : waits ≡ true → value_of values field.number ≡ Some (without_nulls text)
   pub was : ShowsField before field attribute text
   pub is : ShowsField screen field attribute text
 
@@ -52,16 +53,16 @@ is_again (Required field) = true
 is_again (Told text field) = true
 
 -- Each of the panel's fields was written; or each was kept, as can be if the panel is shown again.
-pub data AreShown (panel : List PanelField) (values : Values) (message : Message) (before screen : Screen) : Type 0 where
-  all_written : ((index : ℕ) (field : PanelField) → slice_get panel index ≡ Some field → IsWritten values message field screen) → AreShown panel values message before screen
-  all_kept : is_again message ≡ true → ((index : ℕ) (field : PanelField) → slice_get panel index ≡ Some field → IsKept values message field before screen)
-      → AreShown panel values message before screen
+pub data AreShown (waits : Bool) (panel : List PanelField) (values : Values) (message : Message) (before screen : Screen) : Type 0 where
+  all_written : ((index : ℕ) (field : PanelField) → slice_get panel index ≡ Some field → IsWritten values message field screen) → AreShown waits panel values message before screen
+  all_kept : is_again message ≡ true → ((index : ℕ) (field : PanelField) → slice_get panel index ≡ Some field → IsKept waits values message field before screen)
+      → AreShown waits panel values message before screen
 
 -- A screen with another text in one of the fields, neither the value or fill nor what was there before, doesn't show them.
 abbrev pub OtherTextsAreNot : Type 0
-OtherTextsAreNot = (panel : List PanelField) (values : Values) (message : Message) (before screen : Screen) (index : ℕ) (field : PanelField) (attribute : Attr) (text : List ℕ)
+OtherTextsAreNot = (waits : Bool) (panel : List PanelField) (values : Values) (message : Message) (before screen : Screen) (index : ℕ) (field : PanelField) (attribute : Attr) (text : List ℕ)
     → slice_get panel index ≡ Some field → ShowsField screen field attribute text → text ≢ fitted field.extent.length (field_content values message field)
-    → ((other : Attr) → ShowsField before field other text → ⊥) → AreShown panel values message before screen → ⊥
+    → ((other : Attr) → ShowsField before field other text → ⊥) → AreShown waits panel values message before screen → ⊥
 
 -- ---- the applications that this is said of
 

@@ -69,7 +69,7 @@ AnswersAreShown world = (number : ℕ) (ticket : Ticket) (said : Said) (events :
     → HostRests number events taken world
     → service_at number asked.host ≡ Service.Open rest conn → service_at number world.host ≡ Service.Open behind host
     → (seen_connection number world).terminal ≡ Some terminal → HasShown host
-    → IsAnswered (application_of world.host.panels) conn said host × IsPanelShown (application_of world.host.panels) host terminal.before_restored terminal.last_restored
+    → IsAnswered (application_of world.host.panels) conn said host × IsPanelShown (application_of world.host.panels) true host terminal.before_restored terminal.last_restored
 
 -- ---- what a paint finds
 

@@ -16,6 +16,7 @@ use Rattle.keyboard.specs.declared.key.Lock.TheVariants.{Wait}
 use Rattle.shadow.specs.Belief.{Shadow}
 use Rattle.shadow.specs.Exactness.{KnownIsExact, ProtectedIsExact}
 use Rattle.shadow.specs.Heard.{heard}
+use Rattle.shadow.specs.Laws.{Believed}
 use Rattle.shadow.specs.Meets.{Meets, Knows, ListsFields, IsTold}
 use Rattle.shadow.specs.Openness.{NothingIsOpen}
 use Rattle.shadow.specs.Paint.{paint}
@@ -26,6 +27,7 @@ use Rattle.host_core.specs.Application.{Application, IsSizeOf, message_place}
 use Rattle.host_core.specs.Session.{Conn}
 use Rattle.host_core.specs.Laws.{IsPaintable}
 use Rattle.host_core.specs.NoteLaws.{HasMessageRow, TakesNotes, IsNoteOf}
+use Rattle.host_core.specs.Takes.{may_have_changed}
 use Rattle.host_core.specs.declared.turn_reason.TurnReason.{TurnReason}
 use Rattle.host_core.specs.declared.turn_reason.TurnReason.TheVariants as turn_reasons
 use Rattle.host_core.specs.declared.unheard.Unheard.{Unheard}
@@ -99,6 +101,10 @@ pub record IsNew (s : Scene) : Type 0 where
 
 -- ---- a session
 
+-- each screen that differs from this one in input alone is allowed
+abbrev pub AllowsInput : Shadow → Screen → Type 0
+AllowsInput shadow screen = (erased : Bool) (now : Screen) → Held erased screen.cells now.cells → Meets shadow now
+
 -- a paint of what is wanted goes down, over what the host believes
 pub record IsPainted (s : Scene) (command : CommandParts) (wanted : WantedScreen) (over : Shadow) : Type 0 where
   pub lock : s.lock ≡ Wait
@@ -106,6 +112,7 @@ pub record IsPainted (s : Scene) (command : CommandParts) (wanted : WantedScreen
   pub command_is : command ≡ paint (cells_in wanted.size) over wanted
   pub meets : Meets over s.screen
   pub closed : IfRelies s.unheard (NothingIsOpen over)
+  pub doubts : may_have_changed s.unheard ≡ true → AllowsInput over s.screen
   pub paintable : IsPaintable s.shape over wanted
 
 -- The operator types, on the screen that the host's last write left, with the notes since then written over it: `shown`. That screen
@@ -159,6 +166,15 @@ pub record IsRead (s : Scene) : Type 0 where
   pub decides : Decides s s.shadow
   pub not_cleared : s.screen.aid ≡ Clear → ⊥
 
+-- The whole screen comes up, with whatever AID was pressed last: what is heard of it is then believed of the screen.
+pub record IsReported (s : Scene) (parts : InboundParts) : Type 0 where
+  pub lock : s.lock ≡ Wait
+  pub turn_reason : IsOccasion s.turn_reason s.screen.aid
+  pub closed : IfRelies s.unheard (IsOpenFor s.turn_reason s.shadow)
+  pub not_cleared : s.screen.aid ≡ Clear → ⊥
+  pub says : parts ≡ buffer_data s.shape (record s.screen { aid = parts.aid })
+  pub will : WillBeHeard s.shape s.shadow (buffer_data s.shape s.screen) (Believed false s.screen)
+
 -- a note that may be written on the screen
 pub record MayBeNoted (s : Scene) (command : CommandParts) : Type 0 where
   pub note : IsNoteOf s.shape command
@@ -177,7 +193,7 @@ TalkFact wanted _ = ⊤
 abbrev pub ServingFact : Scene → Serving → Type 0
 ServingFact s Serving.Deciding = Decides s s.shadow
 ServingFact s (Serving.Reading number) = IsRead s
-ServingFact s (Serving.Reported number parts) = IsRead s × (parts ≡ buffer_data s.shape s.screen)
+ServingFact s (Serving.Reported number parts) = IsReported s parts
 ServingFact s (Serving.NotedLate number command) = Decides s s.shadow × MayBeNoted s command
 ServingFact s (Serving.AnsweredLate number command) = Decides s (once_taken s.shape command s.shadow)
 ServingFact s (Serving.Painting number command wanted over) = IsPainted s command wanted over
@@ -200,8 +216,8 @@ Fact wanted s (Moment.Serves lu serving) = ServingFact s serving
 -- ---- what is shown at each moment
 
 -- in the host's turn the connection's panel is shown, unless nothing was shown yet
-abbrev pub HasShownItsPanel : Application → Conn → (before screen : Screen) → Type 0
-HasShownItsPanel app host before screen = (host.turn_reason ≡ turn_reasons.Agreement → ⊥) → ShowsItsPanel app host before screen
+abbrev pub HasShownItsPanel : Application → Bool → Conn → (before screen : Screen) → Type 0
+HasShownItsPanel app waits host before screen = (host.turn_reason ≡ turn_reasons.Agreement → ⊥) → ShowsItsPanel app waits host before screen
 
 -- the screen wasn't read since the key was pressed
 abbrev pub IsUnread : TurnReason → Type 0
@@ -211,19 +227,19 @@ IsUnread (turn_reasons.Key aid false) = ⊤
 IsUnread turn_reasons.Refusal = ⊤
 
 -- `left`: the screen that the host's last restoring write left; `before`: the one that it found; `now`: the present one
-abbrev pub ShownIn : Application → Conn → (before left now : Screen) → Serving → Type 0
-ShownIn app host before left now Serving.Deciding = HasShownItsPanel app host before left × IsKnownIfRead host.turn_reason host.shadow
-ShownIn app host before left now (Serving.Reading number) = HasShownItsPanel app host before left
-ShownIn app host before left now (Serving.Reported number parts) = HasShownItsPanel app host before left
-ShownIn app host before left now (Serving.NotedLate number command) = ShowsItsPanel app host before left × IsUnread host.turn_reason
-ShownIn app host before left now (Serving.AnsweredLate number command) = ShowsItsPanel app host before left × IsUnread host.turn_reason
-ShownIn app host before left now (Serving.Painting number command wanted over) = WantsItsPanelOn app host over wanted now
-ShownIn app host before left now _ = ShowsItsPanel app host before left
+abbrev pub ShownIn : Application → Bool → Conn → (before left now : Screen) → Serving → Type 0
+ShownIn app waits host before left now Serving.Deciding = HasShownItsPanel app waits host before left × IsKnownIfRead host.turn_reason host.shadow
+ShownIn app waits host before left now (Serving.Reading number) = HasShownItsPanel app waits host before left
+ShownIn app waits host before left now (Serving.Reported number parts) = HasShownItsPanel app waits host before left
+ShownIn app waits host before left now (Serving.NotedLate number command) = ShowsItsPanel app waits host before left × IsUnread host.turn_reason
+ShownIn app waits host before left now (Serving.AnsweredLate number command) = ShowsItsPanel app waits host before left × IsUnread host.turn_reason
+ShownIn app waits host before left now (Serving.Painting number command wanted over) = WantsItsPanelOn app waits host over wanted now
+ShownIn app waits host before left now _ = ShowsItsPanel app waits host before left
 
-abbrev pub ShownAt : Application → Conn → (before left now : Screen) → Moment → Type 0
-ShownAt app host before left now (Moment.Talks talking) = ⊤
-ShownAt app host before left now (Moment.Begins lu number command wanted over) = WantsItsPanelOn app host over wanted now
-ShownAt app host before left now (Moment.Serves lu serving) = ShownIn app host before left now serving
+abbrev pub ShownAt : Application → Bool → Conn → (before left now : Screen) → Moment → Type 0
+ShownAt app waits host before left now (Moment.Talks talking) = ⊤
+ShownAt app waits host before left now (Moment.Begins lu number command wanted over) = WantsItsPanelOn app waits host over wanted now
+ShownAt app waits host before left now (Moment.Serves lu serving) = ShownIn app waits host before left now serving
 
 -- ---- sizes
 
@@ -256,4 +272,4 @@ pub record Kept (app : Application) (v : View) : Type 0 where
   pub sizes : Sizes app v moment
   pub at : IsAt v wanted moment
   pub fact : Fact wanted (scene_of v) moment
-  pub shown : ShownAt app v.host v.before_restored v.last_restored v.screen moment
+  pub shown : ShownAt app v.waits v.host v.before_restored v.last_restored v.screen moment

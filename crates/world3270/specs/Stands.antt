@@ -168,13 +168,18 @@ pub record TermStands (bytes : ByteLink) (link : Link) : Type 0 where
   pub down : BytesDown rest bytes.down link.down
 
 -- After `read`, the bytes under way up to the host spell the messages under way there, also if the
--- host has left. While it is there, `read` is what its decoder holds. Nothing else is said of an
--- end that has left, nor of what is under way to a terminal that has: no step reads these.
-pub record LinkStands (bytes : ByteLink) (link : Link) : Type 0 where
+-- host has left: each item represents one as `Up` says. While the host is there, `read` is what its
+-- decoder holds. Nothing else is said of an end that has left, nor of what is under way to a
+-- terminal that has: no step reads these.
+pub record LinkStandsBy (Up : WireItem → ToHost → Type 0) (bytes : ByteLink) (link : Link) : Type 0 where
   pub lost : bytes.lost ≡ link.lost
   pub host_here : bytes.host_here ≡ link.host_here
   pub term_here : bytes.term_here ≡ link.term_here
   pub read : Rest
-  pub up : BytesUp read bytes.up link.up
+  pub up : BytesStand all_items Up read bytes.up link.up
   pub host : link.host_here ≡ true → HostStands bytes link read
   pub term : (terminal : ℕ) → link.term_here ≡ Some terminal → TermStands bytes link
+
+-- our terminal's items
+abbrev pub LinkStands : ByteLink → Link → Type 0
+LinkStands bytes link = LinkStandsBy StandsUp bytes link

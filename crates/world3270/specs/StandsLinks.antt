@@ -20,7 +20,7 @@ use Rattle.host_core.specs.Session.{Conn, new_conn}
 use Rattle.world3270.specs.Always.{is_refusal}
 use Rattle.world3270.specs.Link.{Link, begun, sent, host_left, term_left, term_stepped}
 use Rattle.world3270.specs.TrackedTerminals.{TrackedTerminal, TrackedTakesByte, TrackedTakes, newly_tracked, tracked_after_key}
-use Rattle.world3270.specs.Stands.{StandsDown, StandsUp, BytesStand, ByteLink, LinkStands}
+use Rattle.world3270.specs.Stands.{StandsDown, StandsUp, BytesStand, ByteLink, LinkStands, LinkStandsBy}
 use Rattle.world3270.specs.StandsEnds.{IsOpen, MayCome, is_painted}
 use Rattle.world3270.specs.Terminal.{TermEnd, took, key_came}
 use Rattle.world3270.specs.World.{World}
@@ -36,6 +36,11 @@ abbrev pub StandsCompose : {X : Type 0} → (List WireItem → List WireItem) �
 StandsCompose {X} spoken Stands = (rest : Rest) (bytes : List ℕ) (messages more : List X) (items : List WireItem)
     → BytesStand spoken Stands rest bytes messages → AllByRecursion (CanCome record_limit) items → Pairwise Stands (spoken items) more
     → BytesStand spoken Stands rest (bytes ++ sent_bytes items) (messages ++ more)
+
+-- So does one with whole items behind it, however they are spelt.
+abbrev pub StandsJoin : {X : Type 0} → (List WireItem → List WireItem) → (WireItem → X → Type 0) → Type 0
+StandsJoin {X} spoken Stands = (rest : Rest) (bytes more : List ℕ) (messages others : List X)
+    → BytesStand spoken Stands rest bytes messages → BytesStand spoken Stands nothing more others → BytesStand spoken Stands rest (bytes ++ more) (messages ++ others)
 
 -- some of the messages are taken, and the others stay
 pub record TakesSome {X : Type 0} (spoken : List WireItem → List WireItem) (Stands : WireItem → X → Type 0) (mid : Rest) (behind : List ℕ) (items : List WireItem) (messages : List X) : Type 0 where
@@ -175,29 +180,38 @@ abbrev pub sent_down : Conn → List ToTerminal → Link → Link
 sent_down conn messages link = record link { host = conn; down = sent link.lost link.down messages }
 
 -- A connection represents one over messages after the host says items that represent what it sends.
+abbrev pub HostSendsBy : (WireItem → ToHost → Type 0) → Type 0
+HostSendsBy Up = (bytes : ByteLink) (link : Link) (conn : Conn) (items : List WireItem) (messages : List ToTerminal)
+    → LinkStandsBy Up bytes link → AllByRecursion (CanCome record_limit) items → Pairwise StandsDown items messages
+    → LinkStandsBy Up (said_down conn items bytes) (sent_down conn messages link)
+
 abbrev pub HostSends : Type 0
-HostSends = (bytes : ByteLink) (link : Link) (conn : Conn) (items : List WireItem) (messages : List ToTerminal)
-    → LinkStands bytes link → AllByRecursion (CanCome record_limit) items → Pairwise StandsDown items messages
-    → LinkStands (said_down conn items bytes) (sent_down conn messages link)
+HostSends = HostSendsBy StandsUp
 
 -- It still represents the same one after the host says NOP.
+abbrev pub NopStandsBy : (WireItem → ToHost → Type 0) → Type 0
+NopStandsBy Up = (bytes : ByteLink) (link : Link) → LinkStandsBy Up bytes link → LinkStandsBy Up (said_down bytes.host (no_operation ∷ []) bytes) link
+
 abbrev pub NopStands : Type 0
-NopStands = (bytes : ByteLink) (link : Link) → LinkStands bytes link → LinkStands (said_down bytes.host (no_operation ∷ []) bytes) link
+NopStands = NopStandsBy StandsUp
 
 -- the first of the messages were delivered up, and the others are still under way
-pub record CameUp (bytes : ByteLink) (link : Link) (items : List WireItem) : Type 0 where
+pub record CameUp (Up : WireItem → ToHost → Type 0) (bytes : ByteLink) (link : Link) (items : List WireItem) : Type 0 where
   pub taken : List ToHost
   pub others : List ToHost
   pub whole : link.up ≡ taken ++ others
-  pub each : Pairwise StandsUp items taken
-  pub stands : LinkStands bytes (record link { up = others })
+  pub each : Pairwise Up items taken
+  pub stands : LinkStandsBy Up bytes (record link { up = others })
 
 -- The items that arrive at the host represent the first messages, and the connection represents one
 -- with the others.
+abbrev pub UpStandsBy : (WireItem → ToHost → Type 0) → Type 0
+UpStandsBy Up = (bytes : ByteLink) (link : Link) (front behind : List ℕ) (items : List WireItem) (to : Rest)
+    → LinkStandsBy Up bytes link → link.host_here ≡ true → bytes.up ≡ front ++ behind → Delivers record_limit bytes.host_rest front items to
+    → CameUp Up (record bytes { host_rest = to; up = behind }) link items
+
 abbrev pub UpStands : Type 0
-UpStands = (bytes : ByteLink) (link : Link) (front behind : List ℕ) (items : List WireItem) (to : Rest)
-    → LinkStands bytes link → link.host_here ≡ true → bytes.up ≡ front ++ behind → Delivers record_limit bytes.host_rest front items to
-    → CameUp (record bytes { host_rest = to; up = behind }) link items
+UpStands = UpStandsBy StandsUp
 
 -- It represents one after it is lost, and after an end leaves it.
 abbrev pub LossStands : Type 0

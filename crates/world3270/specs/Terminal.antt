@@ -47,14 +47,15 @@ new_display model shape = record {
   erased = false;
 }
 
--- the end of a connection that a terminal holds
+-- The end of a connection that a terminal holds. It waits: its keyboard is locked from an AID key to the host's next write.
 pub record TermEnd : Type 0 where
+  pub waits : Bool
   pub talk : Term
   pub display : Display
 
 -- of a terminal of this model, on a screen of this size; it wants this LU, if one
 abbrev pub new_end : Model → Shape → Option (List ℕ) → TermEnd
-new_end model shape wanted = record { talk = term_start model wanted; display = new_display model shape }
+new_end model shape wanted = record { waits = true; talk = term_start model wanted; display = new_display model shape }
 
 -- the LU that it is bound to
 abbrev pub bound_to : TermState → Option (List ℕ)

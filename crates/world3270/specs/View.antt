@@ -15,6 +15,7 @@ pub record View : Type 0 where
   pub down : List ToTerminal
   pub up : List ToHost
   pub host : Conn
+  pub waits : Bool
   pub talk : Term
   pub model : Model
   pub shape : Shape
@@ -30,6 +31,7 @@ view_of link = record {
   down = link.down;
   up = link.up;
   host = link.host;
+  waits = link.term.waits;
   talk = link.term.talk;
   model = link.term.display.model;
   shape = link.term.display.shape;

@@ -2,6 +2,8 @@
 //! other crates use them; no program calls them, and the root doesn't export them.
 ghost use Rattle.world3270.specs.Always.{Always, AlwaysOf, HeadlineHolds, NobodyRefuses};
 ghost use Rattle.world3270.specs.Asked.{AskedIsSeen, AskedIsSeenOverBytes, FieldsAreSeen, ScreensAreAsLeft};
+ghost use Rattle.world3270.specs.EveryTerminal.{EveryTerminal};
+ghost use Rattle.world3270.specs.EveryTerminalBytes.{EveryTerminalOverBytes};
 ghost use Rattle.world3270.specs.Example.{TheRunsEndSo};
 ghost use Rattle.world3270.specs.Forms.{FormsAreAwaited};
 ghost use Rattle.world3270.specs.Given.{Given};
@@ -12,13 +14,14 @@ ghost use Rattle.world3270.specs.Losses.{LostTakesNothing};
 ghost use Rattle.world3270.specs.Numbers.{NumbersFit};
 ghost use Rattle.world3270.specs.TurnReasons.{ActsOnTheKey, KnowsTheCleared, LeavesNothingOpen};
 ghost use Rattle.world3270.specs.OneOutcome.{EventsAreOne, RunsAreOne, StepsAreOne};
-ghost use Rattle.world3270.specs.RuleLaws.{ImpatientKeysOperate, KeysOperate};
+ghost use Rattle.world3270.specs.RuleLaws.{TerminalsKeepTheRules};
 ghost use Rattle.world3270.specs.Places.{EndsAgree, UpIsHeld, HoldersAreHere, LinksStay, HoldersStay, PoolIsSound};
 ghost use Rattle.world3270.specs.Refines.{BeginIsReached, HeadlineIsSeen, RunsGoOn, SkipsAreThose, StepsGoOn};
 ghost use Rattle.world3270.specs.TrackedTerminals.{HistoryFollows};
 ghost use Rattle.world3270.specs.Sendable.{AlwaysTyped, DataCanBeSpelt, PaintsAreScreens, PaintsAreSpelt, ScreensAreSendable, ScreensHaveASize, ValuesAreTexts};
 ghost use Rattle.world3270.specs.Shown.{FieldsAreShown, PanelIsShown, PanelIsShownOverBytes};
 ghost use Rattle.world3270.specs.ShownFields.{OtherTextsAreNot};
+ghost use Rattle.world3270.specs.ScreensFound.{DecisionsAreShownOverBytes, OtherTextsAreNotShown, PaintsFindTheScreen, TurnsKeepTheScreen, TurnsKeepTheScreenOverBytes};
 ghost use Rattle.world3270.specs.ShownSince.{AnswersAreShownOverBytes, StepsKeepPanels, WaitingKeepsTheScreen};
 ghost use Rattle.world3270.specs.Sizes.{AllSizesAgree};
 ghost use Rattle.world3270.specs.Skipped.{SkippedChangesNothing};
@@ -229,7 +232,10 @@ pub fn a_lost_connection_takes_nothing()
 /// host that restarts; notes, two of which cross a key; a PF key and Clear that lead on; an
 /// application that is asked, and answers twice; what a loss leaves under way. The second panel has
 /// more rows than the first, so the size of the screen changes on the way there and back. When the
-/// host decides it knows what was typed.
+/// host decides it knows what was typed. And runs of one connection: of a terminal whose Reset ends
+/// the wait, with a host that serves any terminal, and with one that relies on the wait, whose panel
+/// keeps what was typed in it; one whose second Enter the host drops, which doesn't tell it anything;
+/// of four terminals that break one rule each; and of one that keeps all.
 pub fn the_runs_end_so()
     ensures { TheRunsEndSo }
 {}
@@ -328,14 +334,23 @@ pub fn bytes_follow_messages()
 /// Law: what is shown on a connection changes by the host's decisions there alone. An event by which
 /// it decides nothing there leaves the connection's panel, values and message. And so what an
 /// application answered is shown until the host decides again: once the paint is answered, panel,
-/// values, message and the field for the cursor are those of the answer. And a key that is pressed
-/// while the keyboard waits for the host changes no screen: what a paint finds is what the key before
-/// it sent, but for notes.
+/// values, message and the field for the cursor are those of the answer. A key that is pressed while
+/// the keyboard waits for the host changes no screen. While the host has the turn, with no note under
+/// way, a screen stays until the host decides; and a paint finds the screen that the terminal had when
+/// the host decided to show the panel. So a field that is kept has the text that the operator then had
+/// in it; a screen with another text in a field doesn't show the decision.
 pub fn what_is_shown_stays()
     ensures steps { StepsKeepPanels }
     ensures answers { AnswersAreShownOverBytes }
     ensures waiting { WaitingKeepsTheScreen }
+    ensures turns { AlwaysOf TurnsKeepTheScreen }
+    ensures turns_over_bytes { TurnsKeepTheScreenOverBytes }
+    ensures found { AlwaysOf PaintsFindTheScreen }
+    ensures decisions { DecisionsAreShownOverBytes }
+    ensures others { OtherTextsAreNotShown }
 {
+    what_is_given();
+    panels_are_shown();
     bytes_follow_messages();
     what_is_answered_is_shown();
 }
@@ -363,14 +378,50 @@ pub fn one_machine()
     term_core::laws::one_machine();
 }
 
-/// Law: the terminal keeps the rules that are asked of any terminal. Each key edits input, or sends
-/// what it displays; and so does each key at a terminal that is the same but for its Reset, which
-/// ends the wait for the host.
-pub fn our_keys_keep_the_rules()
-    ensures ours { KeysOperate }
-    ensures impatient { ImpatientKeysOperate }
+/// Law: these terminals keep the rules that are asked of any terminal: ours, whose keys edit input or
+/// send what it displays; one that is the same but for its Reset, which ends the wait for the host;
+/// one that stores any character in a numeric field; and one at which a text is pasted into a field.
+pub fn terminals_keep_the_rules()
+    ensures { TerminalsKeepTheRules }
 {
     keys_keep_what_was_left();
     kept_since_the_write();
     sent_keys_wait();
+}
+
+/// Law: every terminal. On one connection of a host that serves any terminal, from the host's
+/// agreement on an LU on, whatever comes in whatever order: deliveries, acts, answers of the
+/// application, notes, keys, and the loss of the connection. If the terminal is bound to the LU that
+/// the host granted, with a blank screen; applies each write whole and in order, answers it
+/// positively, and answers Read Buffer with the whole screen; lets its operator change nothing but
+/// unprotected cells, their MDT and the cursor, with MDT on after any change but Erase Input; and
+/// sends a key's AID with exactly the modified fields: then it is bound to that LU alone. Whenever the
+/// host decides, the headline's three parts hold of what it was told: the screen as it was when the
+/// first key since the last paint was pressed. The screen as it is by then has the attributes and the
+/// protected characters that the host believes. Each open question has the key, the cursor and the
+/// fields of what the host was told. Once a paint is answered, the screen that it left shows the panel,
+/// whatever was typed before it came. Neither end closes the connection by a cause. The terminal
+/// needn't wait for the host: meanwhile its operator may type, and press any key but Clear. That one
+/// is left out, since the host closes the connection if a command is on its way then.
+pub fn every_terminal()
+    ensures { EveryTerminal }
+{
+    what_is_given();
+    painted_fields_are_there();
+}
+
+/// Law: the same over bytes, in the words of the calls of `Host`, whatever other clients do. The host is
+/// fed the bytes that come up, however they are cut; it hands bytes over, acts, is answered by the
+/// application, sends notes and NOPs, where memory may be refused; the terminal takes each byte as
+/// RFC 1647 and GA23-0059 say, and spells what it sends as it likes. The bytes represent a
+/// connection over messages after moves that keep the rules, of which the law above speaks. Left out
+/// is a terminal of a model that is shown panels of two sizes.
+pub fn every_terminal_over_bytes()
+    ensures { EveryTerminalOverBytes }
+{
+    what_is_known();
+    bytes_stand_for_messages();
+    sent_is_read();
+    painted_fields_are_there();
+    telnet_wire::laws::one_reading();
 }

@@ -9,6 +9,7 @@ ghost use Rattle.world3270.specs.ByteWorld.{IsTerminalCount, down_of, new_byte_w
 ghost use Rattle.world3270.specs.Headline.{Headline};
 ghost use Rattle.world3270.specs.ProtocolErrors.{HasNoProtocolError, MakeNoProtocolErrors, MakesNoProtocolError};
 ghost use Rattle.world3270.specs.Refines.{IsReached, RunOverMessages, StepOverMessages};
+ghost use Rattle.world3270.specs.ScreensFound.{DecisionsAreShown};
 ghost use Rattle.world3270.specs.SeenBytes.{seen_bytes};
 ghost use Rattle.world3270.specs.Shown.{WhatIsAnsweredIsShown};
 ghost use Rattle.world3270.specs.ShownSince.{AnswersAreShown, PanelsStay};
@@ -180,7 +181,7 @@ impl World {
     /// attribute and with the value or the fill that the host has for it, cut to its length or with
     /// nulls behind; or, if the panel is shown again and fields are kept, with the attribute and the
     /// text that were on the screen when the paint came, and that text without nulls is the host's
-    /// value (`ShownFields`).
+    /// value (`ShownFields`). What the paint found is the subject of [`World::decisions_are_shown`].
     pub fn what_is_answered_is_shown(&self)
         ensures { WhatIsAnsweredIsShown self.now }
     {
@@ -195,6 +196,17 @@ impl World {
     /// answered, the screen that the host left on the terminal shows them.
     pub fn answers_are_shown(&self)
         ensures { AnswersAreShown self.now }
+    {
+        what_is_shown_stays();
+    }
+
+    /// Law: what the host decides to show is shown over the screen that it decided on, whatever
+    /// happened to this world. If the host decided to show a panel on a connection, by itself or by an
+    /// answer, and has decided nothing there since: once the paint is answered, the terminal is the one
+    /// that was there at the decision, and a field that is kept has the attribute and the text that
+    /// this terminal's screen had in it then, cell by cell.
+    pub fn decisions_are_shown(&self)
+        ensures { DecisionsAreShown self.now }
     {
         what_is_shown_stays();
     }
@@ -241,6 +253,7 @@ impl World {
         ensures shown { WhatIsAnsweredIsShown self.new }
         ensures panels { PanelsStay event self.old self.new }
         ensures answers { AnswersAreShown self.new }
+        ensures decisions { DecisionsAreShown self.new }
         ensures no_error { HasNoProtocolError self.new }
         ensures no_error_made { MakesNoProtocolError event self.old self.new }
     {
@@ -251,6 +264,7 @@ impl World {
         self.what_is_asked_is_seen();
         self.what_is_answered_is_shown();
         self.answers_are_shown();
+        self.decisions_are_shown();
         self.has_no_protocol_error();
         stepped
     }
@@ -263,6 +277,7 @@ impl World {
         ensures asked { WhatIsAskedIsSeen self.new }
         ensures shown { WhatIsAnsweredIsShown self.new }
         ensures answers { AnswersAreShown self.new }
+        ensures decisions { DecisionsAreShown self.new }
         ensures no_error { HasNoProtocolError self.new }
         ensures no_errors_made { MakeNoProtocolErrors events.now self.old }
     {
@@ -277,6 +292,7 @@ impl World {
                     self.what_is_asked_is_seen();
                     self.what_is_answered_is_shown();
                     self.answers_are_shown();
+                    self.decisions_are_shown();
                     self.has_no_protocol_error();
                     return Ran { whole, part };
                 }
@@ -286,6 +302,7 @@ impl World {
         self.what_is_asked_is_seen();
         self.what_is_answered_is_shown();
         self.answers_are_shown();
+        self.decisions_are_shown();
         self.has_no_protocol_error();
         Ran {
             whole: events.len(),

@@ -2,7 +2,7 @@
 //!
 //! ```text
 //! | TEXT                a line of the panel text
-//! serve                 a fresh host begins to show the panels of that text
+//! serve [any]           a fresh host begins to show the panels of that text; with any, to terminals that need not wait
 //! open C                a connection begins
 //! client C BYTES        its client sends these; the host takes all of them and goes on
 //! closes C CAUSE BYTES  its client sends these; at the last the host closes the connection, for this cause
@@ -36,6 +36,7 @@ use crate::bytes::{first_of, number_of};
 use crate::dialogue::subject::Subject;
 use crate::fault::Fault;
 use exchange::{Delivery, Exchange};
+use host_core::Terminals;
 use std::alloc::{AllocError, Global};
 pub(crate) use view::View;
 
@@ -48,6 +49,15 @@ pub(crate) struct Switchboard {
     exchange: Option<Exchange>,
 }
 
+/// The terminals that a host serves: those that wait, unless the word says otherwise.
+fn terminals_named(word: &str) -> Result<Terminals, Fault> {
+    match word {
+        "" => Ok(Terminals::Waiting),
+        "any" => Ok(Terminals::Any),
+        _ => Err(Fault::Needs("any, or nothing")),
+    }
+}
+
 impl Switchboard {
     /// Adds a line to the panel text.
     fn add_text(&mut self, text: &str) -> Result<(), Fault> {
@@ -56,9 +66,11 @@ impl Switchboard {
         Ok(())
     }
 
-    /// Puts a host to work on the panels of that text.
-    fn serve(&mut self) -> Result<(), Fault> {
-        let exchange = Exchange::new(self.alloc, self.panel_text.as_str(), self.delivery)?;
+    /// Puts a host to work on the panels of that text, for the terminals that a word names.
+    fn serve(&mut self, word: &str) -> Result<(), Fault> {
+        let terminals = terminals_named(word)?;
+        let text = self.panel_text.as_str();
+        let exchange = Exchange::new(self.alloc, terminals, text, self.delivery)?;
         self.exchange = Some(exchange);
         Ok(())
     }
@@ -93,7 +105,7 @@ impl Subject for Switchboard {
         let (word, words) = first_of(line);
         match word {
             "|" => self.add_text(words),
-            "serve" => self.serve(),
+            "serve" => self.serve(words),
             "restart" => {
                 self.exchange()?.restart();
                 Ok(())

@@ -8,10 +8,10 @@ use crate::dialogue::host::belief::{fact_word, text_of};
 use crate::dialogue::host::sights::{Sight, acted_word, rejection_text, seen, sight_named};
 use crate::dialogue::host::view::View;
 use crate::fault::{Fault, expect_bytes, expect_text};
-use crate::readers::read_host;
+use crate::readers::read_host_for;
 use crate::stops::expect_fed;
 use codes3270::MOST_CELLS;
-use host_core::{Host, MOST_CONNECTIONS};
+use host_core::{Host, MOST_CONNECTIONS, Terminals};
 use shadow::Shadow;
 use std::alloc::Global;
 
@@ -59,15 +59,16 @@ fn expect_field(
 }
 
 impl Exchange {
-    /// A host that shows the panels of a text, and no clients.
+    /// A host that shows the panels of a text to these terminals, and no clients.
     pub(crate) fn new(
         alloc: Global,
+        terminals: Terminals,
         panel_text: &str,
         delivery: Delivery,
     ) -> Result<Exchange, Fault> {
         Ok(Exchange {
             alloc,
-            host: read_host(alloc, panel_text)?,
+            host: read_host_for(alloc, terminals, panel_text)?,
             delivery,
             kept: None,
         })

@@ -1,0 +1,121 @@
+-- Whatever happens over bytes on a connection with a terminal that keeps the rules is over messages what moves do that keep the rules.
+use Rattle.std.proofs.Common.{◌≡◌, ◌<◌, ℕ, Bool, true, false, Option, None, List, [], ◌∷◌, ◌++◌, drop, take, append_assoc, refl, ap, sym, subst, ◌∙◌, if◌then◌else◌}
+use Rattle.std.proofs.lemmas.List.{take-append-drop}
+use Rattle.lu_pool.specs.HolderLaws.{IsSound as IsSoundPool}
+use Rattle.host_core.specs.Acts.{Sent, acted}
+use Rattle.host_core.specs.Application.{Application, AreTexts}
+use Rattle.host_core.specs.Does.{acted_by, noted_by}
+use Rattle.host_core.specs.Feeds.{IsOpen}
+use Rattle.host_core.specs.Notes.{noted}
+use Rattle.host_core.specs.Questions.{answered_by, answered_in, answered_on, is_ticket, ticket_of}
+use Rattle.host_core.specs.Session.{Conn}
+use Rattle.host_core.specs.State.{Connection, Service, connection_at, most_connections, service_at, session_at}
+use Rattle.host_core.specs.declared.acted.Acted.{Acted}
+use Rattle.host_core.specs.declared.question.Answer.{Answer as Said}
+use Rattle.host_core.specs.declared.question.Ticket.{Ticket}
+use Rattle.world3270.specs.EveryTerminal.{Move, Told, after_moves}
+use Rattle.world3270.specs.EveryTerminalBytes.{IsHost, LeadTo, Moves, OverBytes, Represents, on_connection}
+use Rattle.world3270.specs.Standing.{conn_of}
+use Rattle.world3270.proofs.Answered.{IsDone, by_act, by_answer}
+use Rattle.world3270.proofs.AnyHost.{HearsLaws, IsServed, conn_there, does_goes, elsewhere_goes, hands_over_goes, hears_bytes, keeps_alive_goes, unchanged}
+use Rattle.world3270.proofs.AnyTerminal.{Goes, IsKept, TakesLaws, goes_after, operates_goes, stays, takes_goes}
+
+-- what the host does at a connection that is open
+acted_here : (app : Application) (service : Service) (conn : Conn) → IsOpen service → conn_of service ≡ conn → acted_by app service ≡ acted app conn
+acted_here app Service.Free conn is same = absurd is
+acted_here app (Service.Open rest held) conn is same = ap (acted app) same
+acted_here app (Service.Closed cause) conn is same = absurd is
+
+noted_here : (text : List ℕ) (service : Service) (conn : Conn) → IsOpen service → conn_of service ≡ conn → noted_by text service ≡ noted text conn
+noted_here text Service.Free conn is same = absurd is
+noted_here text (Service.Open rest held) conn is same = ap (noted text) same
+noted_here text (Service.Closed cause) conn is same = absurd is
+
+answered_here : (app : Application) (session : ℕ) (ticket : Ticket) (said : Said) (service : Service) (conn : Conn) → IsOpen service → conn_of service ≡ conn
+    → answered_by app session ticket said service ≡ answered_in app session ticket said conn
+answered_here app session ticket said Service.Free conn is same = absurd is
+answered_here app session ticket said (Service.Open rest held) conn is same = ap (answered_in app session ticket said) same
+answered_here app session ticket said (Service.Closed cause) conn is same = absurd is
+
+-- a move, with the pool that it leaves
+record GoesWith (app : Application) (Good : Told → Type 0) (number : ℕ) (bytes : OverBytes) (t : Told) : Type 0 where
+  goes : Goes app Good number bytes t
+  pool : IsSoundPool bytes.host.pool
+
+module _ (takes : TakesLaws) (hears : HearsLaws) (app : Application) (Good : Told → Type 0) (kept : IsKept app Good) (number : ℕ) where
+  -- an answer to another question isn't taken
+  answer_goes : (old : OverBytes) (t : Told) (good : Good t) (is : Represents number old t) (served : IsServed number old.host) (said : Said) (did : Acted) (connection : Connection) (taken : Bool) → AreTexts said.values
+      → IsDone (if taken then answered_on app t.link.host said else None) (connection_at number old.host) did connection → Goes app Good number (on_connection number connection old) t
+  answer_goes old t good is served said did connection true texts done =
+      does_goes hears app Good kept number old t good is served (Move.Answer said) (answered_on app t.link.host said) did connection refl tt texts ((kept.ready t good).answers said texts) done
+  answer_goes old t good is served said did connection false texts done = unchanged hears app Good kept number old t good is served connection done.1
+
+  one_move : (old new : OverBytes) (t : Told) → Good t → Represents number old t → IsServed number old.host → Moves app number old new → GoesWith app Good number new t
+  one_move old new t good is served (Moves.feeds bytes behind fed counter queue feeds same) =
+      let front : List ℕ = take fed.taken bytes in
+      let others : List ℕ = drop fed.taken bytes ++ behind in
+      let in_two : old.up ≡ front ++ others = queue ∙ ap (λ (b : List ℕ). b ++ behind) (sym (take-append-drop fed.taken bytes)) ∙ append_assoc front (drop fed.taken bytes) behind in
+      let did = hears_bytes hears app Good kept number front others old t counter good is served in_two feeds.takes in
+      record { goes = subst (λ (b : OverBytes). Goes app Good number b t) (sym same) did.goes; pool = subst (λ (b : OverBytes). IsSoundPool b.host.pool) (sym same) did.pool }
+  one_move old new t good is served (Moves.hands_over count same) = record {
+    goes = subst (λ (b : OverBytes). Goes app Good number b t) (sym same) (hands_over_goes hears app Good kept number old t good is served count);
+    pool = subst (λ (b : OverBytes). IsSoundPool b.host.pool) (sym same) served.pool;
+  }
+  one_move old new t good is served (Moves.acts did connection does same) =
+      let what = acted_here app (service_at number old.host) t.link.host is.is_open (conn_there hears app Good kept number old t good is served) in
+      let done = subst (λ (w : Option Sent). IsDone w (connection_at number old.host) did connection) what
+      (by_act (acted_by app (service_at number old.host)) (connection_at number old.host) did connection does) in
+      record {
+        goes = subst (λ (b : OverBytes). Goes app Good number b t) (sym same)
+            (does_goes hears app Good kept number old t good is served Move.Act (acted app t.link.host) did connection refl tt tt (kept.ready t good).acts done);
+        pool = subst (λ (b : OverBytes). IsSoundPool b.host.pool) (sym same) served.pool;
+      }
+  one_move old new t good is served (Moves.answers ticket said did connection texts does same) =
+      let session : ℕ = session_at number old.host in
+      let what = answered_here app session ticket said (service_at number old.host) t.link.host is.is_open (conn_there hears app Good kept number old t good is served) in
+      let done = subst (λ (w : Option Sent). IsDone w (connection_at number old.host) did connection) what
+      (by_answer app said (answered_by app session ticket said (service_at number old.host)) (connection_at number old.host) did connection does) in
+      record {
+        goes = subst (λ (b : OverBytes). Goes app Good number b t) (sym same)
+            (answer_goes old t good is served said did connection (is_ticket ticket (ticket_of session t.link.host)) texts done);
+        pool = subst (λ (b : OverBytes). IsSoundPool b.host.pool) (sym same) served.pool;
+      }
+  one_move old new t good is served (Moves.notes text did connection is_text does same) =
+      let what = noted_here text (service_at number old.host) t.link.host is.is_open (conn_there hears app Good kept number old t good is served) in
+      let done = subst (λ (w : Option Sent). IsDone w (connection_at number old.host) did connection) what
+      (by_act (noted_by text (service_at number old.host)) (connection_at number old.host) did connection does) in
+      record {
+        goes = subst (λ (b : OverBytes). Goes app Good number b t) (sym same)
+            (does_goes hears app Good kept number old t good is served (Move.Note text) (noted text t.link.host) did connection refl is_text tt ((kept.ready t good).notes text is_text) done);
+        pool = subst (λ (b : OverBytes). IsSoundPool b.host.pool) (sym same) served.pool;
+      }
+  one_move old new t good is served (Moves.keeps_alive same) = record {
+    goes = subst (λ (b : OverBytes). Goes app Good number b t) (sym same) (keeps_alive_goes hears app Good kept number old t good is served);
+    pool = subst (λ (b : OverBytes). IsSoundPool b.host.pool) (sym same) served.pool;
+  }
+  one_move old new t good is served (Moves.elsewhere host other same) = record {
+    goes = subst (λ (b : OverBytes). Goes app Good number b t) (sym same) (elsewhere_goes hears app Good kept number old t good is served host other.stays);
+    pool = subst (λ (b : OverBytes). IsSoundPool b.host.pool) (sym same) other.pool;
+  }
+  one_move old new t good is served (Moves.takes comes) = record {
+    goes = takes_goes takes app Good kept number old new t good is comes;
+    pool = subst (λ (b : OverBytes). IsSoundPool b.host.pool) (sym comes.leaves) served.pool;
+  }
+  one_move old new t good is served (Moves.operates step does) = record {
+    goes = operates_goes takes app Good kept number step old new t good is does;
+    pool = subst (λ (b : OverBytes). IsSoundPool b.host.pool) (sym does.leaves) served.pool;
+  }
+
+  -- The bytes represent the connection over messages after moves that keep the rules, whatever led to them.
+  pub all_moves : (states : List OverBytes) (old new : OverBytes) (t : Told) → number < most_connections → Good t → Represents number old t → IsServed number old.host → LeadTo app number states old new
+      → Goes app Good number new t
+  all_moves [] old new t below good is served same = stays app Good number new t good (subst (λ (b : OverBytes). Represents number b t) (sym same) is)
+  all_moves (next ∷ states) old new t below good is served lead =
+      let one = one_move old next t good is served lead.0 in
+      let still : IsServed number next.host = record { below = subst (λ (n : ℕ). number < n) (sym lead.1.sound.connections) below; pool = one.pool } in
+      goes_after app Good number next new t one.goes (all_moves states next new (after_moves app one.goes.moves t) below one.goes.good one.goes.represents still lead.2)
+
+-- the last host is one, too
+pub last_host : (app : Application) (number : ℕ) (states : List OverBytes) (old new : OverBytes) → IsHost old.host → LeadTo app number states old new → IsHost new.host
+last_host app number [] old new is same = subst (λ (b : OverBytes). IsHost b.host) (sym same) is
+last_host app number (next ∷ states) old new is lead = last_host app number states next new lead.1 lead.2

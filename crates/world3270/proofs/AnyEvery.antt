@@ -1,0 +1,181 @@
+-- Every terminal over bytes: whatever led to the bytes, they represent the connection over messages after moves that keep the rules, of which
+-- the theorem over messages speaks. What is still asked for is that what comes up may come (`QueueIsKept`).
+use Rattle.std.proofs.Common.{false, ◌≡◌, ◌<◌, ℕ, Some, List, [], ◌∷◌, length, refl, ap, sym, subst, ◌∙◌, arith}
+use Rattle.std.specs.Prelude.{All}
+use Rattle.std.proofs.lemmas.List.Elements.{All-cons, All-nil}
+use Rattle.datastream.specs.InboundFields.{IsSendable, SentIsRead}
+use Rattle.host_core.specs.Application.{Application, AreTexts, AsksForScreens, IsApplication}
+use Rattle.host_core.specs.Messages.{ToHost, ToTerminal}
+use Rattle.host_core.specs.Session.{Conn, agreed_lu}
+use Rattle.host_core.specs.State.{Service, lu_of, service_at}
+use Rattle.host_core.specs.Feeds.{IsOpen}
+use Rattle.panels.specs.Characters.{AreCharacters}
+use Rattle.shadow.specs.PaintedFields.{KeptStaysThere, WrittenIsThere}
+use Rattle.telnet_wire.specs.Laws.{ItemsAreRead}
+use Rattle.tn3270e_msg.specs.Device.{model_of}
+use Rattle.tn3270e_msg.specs.HostTable.{granted}
+use Rattle.tn3270e_msg.specs.Talk.{Saying}
+use Rattle.tn3270e_msg.specs.declared.host_talk.HostState.{HostState}
+use Rattle.tn3270e_msg.specs.declared.host_talk.HostState.TheVariants.{Offered, Asked, Asking, Named, Countered, Agreed, Closed}
+use Rattle.tn3270e_msg.specs.declared.reply.OwnedMessage.TheVariants.{FunIs}
+use Rattle.world3270.specs.EveryTerminal.{Begins, IsByTheRules, Move, Told, moved}
+use Rattle.world3270.specs.EveryTerminalBytes.{BeginsOverBytes, LeadTo, OverBytes, RightOverBytes}
+use Rattle.world3270.specs.Given.{Given}
+use Rattle.world3270.specs.Known.{Known}
+use Rattle.world3270.specs.Readings.{IsReadAs, MayComeUp}
+use Rattle.world3270.specs.Rules.{Binds}
+use Rattle.world3270.specs.Standing.{conn_of}
+use Rattle.world3270.specs.Stands.{StandsDown, all_items, without_nops}
+use Rattle.world3270.specs.StandsEnds.{NopHasNoEffect, TakesKeepSendable, TermTakes, WritesAreMarked}
+use Rattle.world3270.specs.StandsLinks.{HasTheSizes, StandsCompose, StandsGoOn}
+use Rattle.world3270.specs.Terminal.{Display}
+use Rattle.world3270.proofs.AnyBytes.{all_moves, last_host}
+use Rattle.world3270.proofs.AnyHost.{HearsLaws}
+use Rattle.world3270.proofs.AnyReady.{all_may_now, hears_now, same_now}
+use Rattle.world3270.proofs.AnySpelt.{IsTexts, acts_spelt, answers_spelt, move_texts, notes_spelt}
+use Rattle.world3270.proofs.AnyTerminal.{IsKept, IsTypedMove, Ready, TakesLaws}
+use Rattle.world3270.proofs.EveryTerminal.{begins_simulated, move_still, right_of}
+use Rattle.world3270.proofs.Numbers.{Numbered}
+use Rattle.world3270.proofs.Sendable.{IsWritten, blank_sendable}
+use Rattle.world3270.proofs.Simulation.{Simulated}
+use Rattle.world3270.proofs.Stands.{all_piecewise, stands_go_on, stands_join}
+use Rattle.world3270.proofs.StandsLinks.{host_sends, nop_stands, up_stands}
+
+-- ---- what is asked of the queue
+
+-- Some property of what comes up holds at agreement, on a terminal whose sizes are one; all typed moves that keep the rules keep it; and by it what
+-- comes up next may come.
+pub record QueueIsKept (app : Application) (lu : List ℕ) (Queued : Told → Type 0) : Type 0 where
+  pub begins : (t : Told) → Begins app lu t → t.link.lost ≡ false → app.alternate t.link.term.display.model ≡ app.begins → Queued t
+  pub goes_on : (move : Move) (t : Told) → Simulated app lu t → IsTexts t → Queued t → IsByTheRules move t → IsTypedMove move → Queued (moved app move t)
+  pub comes_up : (t : Told) → Simulated app lu t → IsTexts t → Queued t → (message : ToHost) (others : List ToHost) → t.link.up ≡ message ∷ others → MayComeUp t.link.host message
+
+pub record AnyLaws : Type 0 where
+  pub given : Given
+  pub takes : TakesLaws
+  pub hears : HearsLaws
+  pub known : Known
+  pub read : SentIsRead
+  pub written : WrittenIsThere
+  pub kept : KeptStaysThere
+
+-- by what is known of bytes and of what is read of them
+pub any_laws : Known → TermTakes → TakesKeepSendable → NopHasNoEffect → WritesAreMarked → StandsGoOn without_nops StandsDown → StandsCompose without_nops StandsDown → ItemsAreRead → SentIsRead
+    → WrittenIsThere → KeptStaysThere → AnyLaws
+any_laws known takes keeps nop marks taken compose items read written kept = record {
+  given = known.worlds.given;
+  takes = record {
+    takes = takes;
+    keeps = keeps;
+    nop = nop;
+    down = taken;
+    final = known.links.wrong_is_final;
+    marks = marks;
+    written = items;
+    join = stands_join all_items IsReadAs all_piecewise known.links.deliveries;
+  };
+  hears = record {
+    sends = host_sends compose;
+    nop = nop_stands compose;
+    up = up_stands (stands_go_on all_items IsReadAs all_piecewise known.links.delivery_goes_on);
+    final = known.links.wrong_is_final;
+    one_header = known.links.one_header;
+    fault_or_header = known.links.fault_or_header;
+    one_inbound = known.links.one_inbound;
+    granted = known.worlds.given.pool.sound_granted;
+  };
+  known = known;
+  read = read;
+  written = written;
+  kept = kept;
+}
+
+-- ---- at agreement
+
+nothing_written : (lu : List ℕ) (t : Told) → Binds lu t.link.term.talk.talk.state t.link.down → All IsWritten t.link.down
+nothing_written lu t (Binds.bound state down) = subst (All IsWritten) (sym down) (All-nil IsWritten)
+nothing_written lu t (Binds.about_to state down) =
+    subst (All IsWritten) (sym down) (All-cons IsWritten (ToTerminal.TalksDown (Saying.Sub FunIs)) [] tt (All-nil IsWritten))
+
+begins_texts : (app : Application) → IsApplication app → (lu : List ℕ) (t : Told) → Begins app lu t → IsTexts t
+begins_texts app is lu t b =
+    let blank : IsSendable t.link.term.display.screen = subst (λ (d : Display). IsSendable d.screen) (sym b.blank) (blank_sendable (model_of b.device) app.begins is.begins) in
+    record {
+      values = subst (λ (conn : Conn). AreTexts conn.values) (sym b.host) (All-nil AreCharacters);
+      numbered = subst Numbered (sym b.host) (record { next = omega arith; pending = tt });
+      writes = nothing_written lu t b.binds;
+      told = subst (λ (d : Display). IsSendable d.screen) (sym b.told) blank;
+      now = blank;
+    }
+
+-- ---- the host's connection
+
+lu_there : (service : Service) (conn : Conn) (lu : List ℕ) → IsOpen service → conn_of service ≡ conn → agreed_lu conn.talk.state ≡ Some lu → lu_of service ≡ Some lu
+lu_there Service.Free conn lu is same agreed = absurd is
+lu_there (Service.Open rest held) conn lu is same agreed = by_state held.talk.state (ap (λ (c : Conn). agreed_lu c.talk.state) same ∙ agreed)
+  where
+    by_state : (state : HostState) → agreed_lu state ≡ Some lu → granted state ≡ Some lu
+    by_state (Agreed device mine) e = e
+    by_state Offered e = absurd (cc)
+    by_state Asked e = absurd (cc)
+    by_state (Asking device) e = absurd (cc)
+    by_state (Named device mine) e = absurd (cc)
+    by_state (Countered device mine) e = absurd (cc)
+    by_state (Closed cause) e = absurd (cc)
+lu_there (Service.Closed cause) conn lu is same agreed = absurd is
+
+-- ---- the theorem
+
+module _ (laws : AnyLaws) (app : Application) (is : IsApplication app) (asks : AsksForScreens app) (sizes : HasTheSizes app) (lu : List ℕ) (Queued : Told → Type 0) (queue : QueueIsKept app lu Queued) where
+  record Good (t : Told) : Type 0 where
+    simulated : Simulated app lu t
+    texts : IsTexts t
+    queued : Queued t
+
+  ready : (t : Told) → Good t → Ready app t
+  ready t good =
+      let given = laws.given in
+      let may = all_may_now given app is sizes lu t.link.down t good.simulated refl in
+      let paint = laws.known.links.paint in
+      let bounded = laws.known.links.bounded in
+      record {
+        may = may.0;
+        none = may.1;
+        same = same_now given app is sizes lu t good.simulated;
+        comes_up = queue.comes_up t good.simulated good.texts good.queued;
+        hears = hears_now given app is sizes lu t good.simulated;
+        acts = acts_spelt paint bounded given app is asks sizes lu t good.simulated good.texts;
+        answers = answers_spelt paint bounded given app is asks sizes lu t good.simulated good.texts;
+        notes = notes_spelt paint bounded given app is asks sizes lu t good.simulated good.texts;
+      }
+
+  good_is_kept : IsKept app Good
+  good_is_kept = record {
+    ready = ready;
+    goes_on = λ move t good rules typed. record {
+      simulated = move_still laws.given app is lu move t rules good.simulated;
+      texts = move_texts laws.read laws.given app is asks sizes lu move t good.simulated good.texts rules typed;
+      queued = queue.goes_on move t good.simulated good.texts good.queued rules typed;
+    };
+  }
+
+  pub over_bytes : (number : ℕ) (states : List OverBytes) (old new : OverBytes) (b : BeginsOverBytes app number lu old) → LeadTo app number states old new → RightOverBytes app number lu b.begin new
+  over_bytes number states old new b lead =
+      let good : Good b.begin = record {
+        simulated = begins_simulated laws.given app is lu b.begin b.begins;
+        texts = begins_texts app is lu b.begin b.begins;
+        queued = queue.begins b.begin b.begins (sym b.represents.stands.lost) b.one_size;
+      } in
+      let below : number < length old.host.connections = subst (λ (n : ℕ). number < n) (sym b.is_host.sound.connections) b.below in
+      let goes = all_moves laws.takes laws.hears app Good good_is_kept number states old new b.begin b.below good b.represents (record { below = below; pool = b.pool }) lead in
+      let right = right_of laws.given laws.written laws.kept app is lu _ goes.good.simulated in
+      let here = goes.represents in
+      let same = (here.stands.host right.host_here).host in
+      record {
+        moves = goes.moves;
+        by_the_rules = goes.by_the_rules;
+        represents = here;
+        right = right;
+        alone = λ other shares. (last_host app number states old new b.is_host lead).unshared other number lu shares
+            (lu_there (service_at number new.host) _ lu here.is_open same right.granted);
+      }

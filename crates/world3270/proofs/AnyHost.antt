@@ -1,0 +1,332 @@
+-- The host of a terminal that keeps the rules is fed bytes, acts, and sends: the bytes on the connection then represent that over messages
+-- after moves that keep the rules.
+use Rattle.std.proofs.Common.{◌≡◌, ◌<◌, ℕ, Bool, true, false, Option, None, Some, List, [], ◌∷◌, ◌++◌, drop, take, length, map, append_assoc, refl, ap, sym, subst, ◌∙◌, if◌then◌else◌}
+use Rattle.std.proofs.lemmas.List.{length-set, set-get_or, set-set, take-append-drop}
+use Rattle.std.specs.Prelude.{IfSome}
+use Rattle.lu_pool.specs.Asking.{answer_to}
+use Rattle.lu_pool.specs.HolderLaws.{IsSound as IsSoundPool, StaysSoundGranted}
+use Rattle.lu_pool.specs.Holders.{granted_if}
+use Rattle.lu_pool.specs.declared.entry.Entry.{Entry}
+use Rattle.telnet_wire.specs.Items.{WireItem, sent_bytes}
+use Rattle.telnet_wire.specs.Laws.{WrongIsFinal}
+use Rattle.telnet_wire.specs.Reading.{Rest, Delivers, GoesWrong}
+use Rattle.tn3270e_msg.specs.Header.{record_limit}
+use Rattle.tn3270e_msg.specs.Laws.{FaultIsNoHeader, OneHeader}
+use Rattle.datastream.specs.Laws.{OneInbound}
+use Rattle.tn3270e_msg.specs.declared.cause.Cause.{Cause}
+use Rattle.host_core.specs.Acts.{Sent}
+use Rattle.host_core.specs.Application.{Application}
+use Rattle.host_core.specs.Bytes.{Counter, TakesByte, TakesBytes, service_after, stepped}
+use Rattle.host_core.specs.Does.{sent_on, with_conn}
+use Rattle.host_core.specs.Feeds.{IsOpen, counter_at, with_counter}
+use Rattle.host_core.specs.Items.{TakesItem}
+use Rattle.host_core.specs.KeepAlive.{kept_alive, may_keep_alive, no_operation, with_nop}
+use Rattle.host_core.specs.Messages.{ToHost}
+use Rattle.host_core.specs.Says.{item_sent}
+use Rattle.host_core.specs.Session.{Conn}
+use Rattle.host_core.specs.State.{Connection, Host, Service, connection_at, service_at, unused, with_connection}
+use Rattle.host_core.specs.Takes.{HostStep, freed_if, took as host_took}
+use Rattle.host_core.specs.declared.acted.Acted.{Acted}
+use Rattle.host_core.specs.declared.acted.Acted.TheVariants as acted_as
+use Rattle.world3270.specs.ByteWorld.{is_there}
+use Rattle.world3270.specs.EveryTerminal.{IsByTheRules, Move, Told, after_moves, came_up, moved}
+use Rattle.world3270.specs.EveryTerminalBytes.{OverBytes, Represents, link_over, on_connection}
+use Rattle.world3270.specs.Link.{Link, host_left_if, host_sent, sent}
+use Rattle.world3270.specs.Readings.{IsReadAs, MayComeUp}
+use Rattle.world3270.specs.Sendable.{CanBeSent}
+use Rattle.world3270.specs.Standing.{conn_of, rest_of}
+use Rattle.world3270.specs.Stands.{ByteLink, LinkStandsBy}
+use Rattle.world3270.specs.StandsLinks.{HostSendsBy, MayComeAll, NopStandsBy, UpStandsBy, said_down}
+use Rattle.world3270.specs.TrackedTerminals.{TrackedTerminal}
+use Rattle.world3270.proofs.Answered.{IsDone}
+use Rattle.world3270.proofs.AnyTerminal.{Goes, IsKept, IsTypedMove, goes_after, moves_once, stays}
+use Rattle.world3270.proofs.Frames.{connection_same}
+use Rattle.world3270.proofs.HostItems.{host_reads}
+use Rattle.world3270.proofs.HostSteps.{just_talks}
+use Rattle.world3270.proofs.ItemsSpelt.{Spells}
+use Rattle.world3270.proofs.LinkUp.{link_behind, never_wrong, none_first, one_first, sends_stand}
+
+-- ---- the connection with this line of the host
+
+abbrev link_by : Connection → List ℕ → List ℕ → TrackedTerminal → ByteLink
+link_by connection down up tracked = record {
+  lost = false;
+  down = down ++ connection.out;
+  up = up;
+  host_here = is_there connection.service;
+  host = conn_of connection.service;
+  host_rest = rest_of connection.service;
+  term_here = Some 0;
+  tracked = tracked;
+}
+
+abbrev with_parts : Host → List ℕ → List ℕ → OverBytes → OverBytes
+with_parts host down up old = record old { host = host; down = down; up = up }
+
+-- it represents this, whatever the host has on other connections
+represents_with : (number : ℕ) (host : Host) (connection : Connection) (down up : List ℕ) (old : OverBytes) (t : Told) → connection_at number host ≡ connection → IsOpen connection.service
+    → LinkStandsBy IsReadAs (link_by connection down up old.tracked) t.link → old.waits ≡ t.waits → t.link.term.waits ≡ false → CanBeSent t.link.term.display.shape t.link.term.display.screen
+    → Represents number (with_parts host down up old) t
+represents_with number host connection down up old t at is_open stands waits unnamed stored = record {
+  is_open = subst (λ (c : Connection). IsOpen c.service) (sym at) is_open;
+  stands = subst (λ (c : Connection). LinkStandsBy IsReadAs (link_by c down up old.tracked) t.link) (sym at) stands;
+  waits = waits;
+  unnamed = unnamed;
+  stored = stored;
+}
+
+-- the host's side of a connection in a host with these numbers and a sound pool
+pub record IsServed (number : ℕ) (host : Host) : Type 0 where
+  pub below : number < length host.connections
+  pub pool : IsSoundPool host.pool
+
+still_sound : StaysSoundGranted → (number : ℕ) (grants : Option (List ℕ)) (pool : List Entry) → IsSoundPool pool → IsSoundPool (granted_if number grants pool)
+still_sound granted number None pool sound = sound
+still_sound granted number (Some lu) pool sound = granted pool number lu sound
+
+pub record HearsLaws : Type 0 where
+  pub sends : HostSendsBy IsReadAs
+  pub nop : NopStandsBy IsReadAs
+  pub up : UpStandsBy IsReadAs
+  pub final : WrongIsFinal
+  pub one_header : OneHeader
+  pub fault_or_header : FaultIsNoHeader
+  pub one_inbound : OneInbound
+  pub granted : StaysSoundGranted
+
+-- ---- the host takes a byte
+
+abbrev pub fed_by : ℕ → Counter → List ℕ → OverBytes → OverBytes
+fed_by number counter up old = record old { host = with_counter number counter old.host; up = up }
+
+pub record Fed (app : Application) (Good : Told → Type 0) (number : ℕ) (counter : Counter) (up : List ℕ) (old : OverBytes) (t : Told) : Type 0 where
+  pub goes : Goes app Good number (fed_by number counter up old) t
+  pub pool : IsSoundPool counter.pool
+
+module _ (laws : HearsLaws) (app : Application) (Good : Told → Type 0) (kept : IsKept app Good) (number : ℕ) where
+  module _ (old : OverBytes) (t : Told) (good : Good t) (is : Represents number old t) (served : IsServed number old.host) where
+    abbrev line : Connection
+    line = connection_at number old.host
+
+    abbrev link : Link
+    link = t.link
+
+    here_if : (service : Service) → IsOpen service → is_there service ≡ true
+    here_if Service.Free is = absurd is
+    here_if (Service.Open rest conn) is = refl
+    here_if (Service.Closed cause) is = absurd is
+
+    host_here : link.host_here ≡ true
+    host_here = sym is.stands.host_here ∙ here_if line.service is.is_open
+
+    conn_is : conn_of line.service ≡ link.host
+    conn_is = (is.stands.host host_here).host
+
+    at_line : (connection : Connection) (pool : List Entry) → connection_at number (with_connection number connection (record old.host { pool = pool })) ≡ connection
+    at_line connection pool = connection_same number connection (record old.host { pool = pool }) served.below
+
+    -- it goes on with this rest of the stream
+    opened : (rest to : Rest) (conn : Conn) (behind : List ℕ) (t' : Link) → line.service ≡ Service.Open rest conn
+        → LinkStandsBy IsReadAs (record (link_over number old) { host_rest = to; up = behind }) t'
+        → LinkStandsBy IsReadAs (link_by (record line { service = Service.Open to conn }) old.down behind old.tracked) t'
+    opened rest to conn behind t' held stands =
+        subst (λ (s : Service). LinkStandsBy IsReadAs (record (link_by line old.down behind old.tracked) { host_here = is_there s; host = conn_of s; host_rest = to }) t') held stands
+
+    hears_nothing : (byte : ℕ) (behind : List ℕ) (counter : Counter) (rest to : Rest) (conn : Conn) → old.up ≡ byte ∷ behind → line.service ≡ Service.Open rest conn
+        → Delivers record_limit rest (byte ∷ []) [] to → counter ≡ record { pool = old.host.pool; connection = record line { service = Service.Open to conn } }
+        → Fed app Good number counter behind old t
+    hears_nothing byte behind counter rest to conn queue held delivers is_counter =
+        let read = subst (λ (r : Rest). Delivers record_limit r (byte ∷ []) [] to) (sym (ap rest_of held)) delivers in
+        let stands = opened rest to conn behind link held (none_first laws.up (link_over number old) link byte behind to is.stands host_here queue read) in
+        let after : Counter = record { pool = old.host.pool; connection = record line { service = Service.Open to conn } } in
+        let represents = represents_with number (with_counter number after old.host) after.connection old.down behind old t (at_line after.connection after.pool) tt stands is.waits is.unnamed is.stored in
+        record {
+          goes = subst (λ (c : Counter). Goes app Good number (fed_by number c behind old) t) (sym is_counter) (stays app Good number (fed_by number after behind old) t good represents);
+          pool = subst (λ (c : Counter). IsSoundPool c.pool) (sym is_counter) served.pool;
+        }
+
+    module _ (message : ToHost) (others : List ToHost) (e : link.up ≡ message ∷ others) where
+      abbrev step : HostStep
+      step = host_took (answer_to old.host.pool) link.host message
+
+      abbrev now : Told
+      now = moved app (Move.Up old.host.pool) t
+
+      closes : step.closes ≡ None
+      closes = (kept.ready t good).hears old.host.pool served.pool message others e
+
+      link_now : now.link ≡ link_behind step others link
+      link_now =
+          ap (λ (up : List ToHost). (came_up old.host.pool up t).link) e
+          ∙ ap (λ (c : Option Cause). host_left_if c (link_behind step others link)) closes
+
+      waits_now : now.waits ≡ t.waits
+      waits_now = ap (λ (up : List ToHost). (came_up old.host.pool up t).waits) e
+
+      good_now : Good now
+      good_now = kept.goes_on (Move.Up old.host.pool) t good served.pool tt
+
+      may_now : MayComeAll link.term (sent link.lost link.down step.sends)
+      may_now = subst (λ (l : Link). MayComeAll l.term l.down) link_now (kept.ready now good_now).may
+
+      step_is : (item : WireItem) (done : HostStep) (rest : Rest) (conn : Conn) → line.service ≡ Service.Open rest conn → IsReadAs item message → TakesItem (answer_to old.host.pool) conn item done → done ≡ step
+      step_is item done rest conn held read taken =
+          let same : conn ≡ link.host = sym (ap conn_of held) ∙ conn_is in
+          host_reads laws.one_header laws.fault_or_header laws.one_inbound (answer_to old.host.pool) conn item message done read
+          (subst (λ (c : Conn). MayComeUp c message) (sym same) ((kept.ready t good).comes_up message others e)) taken
+          ∙ ap (λ (c : Conn). host_took (answer_to old.host.pool) c message) same
+
+      hears_one : (item : WireItem) (done : HostStep) (byte : ℕ) (behind : List ℕ) (counter : Counter) (rest to : Rest) (conn : Conn) → line.service ≡ Service.Open rest conn
+          → IsReadAs item message → TakesItem (answer_to old.host.pool) conn item done
+          → LinkStandsBy IsReadAs (record (link_over number old) { host_rest = to; up = behind }) (record link { up = others })
+          → counter ≡ stepped number to done (counter_at number old.host) → Fed app Good number counter behind old t
+      hears_one item done byte behind counter rest to conn held read taken stood is_counter =
+          let just = just_talks (answer_to old.host.pool) link.host message in
+          let more : List ℕ = sent_bytes (map item_sent step.sends) in
+          let after : Counter = stepped number to step (counter_at number old.host) in
+          let counter_is : counter ≡ after = is_counter ∙ ap (λ (s : HostStep). stepped number to s (counter_at number old.host)) (step_is item done rest conn held read taken) in
+          let going : service_after to step.conn step.closes ≡ Service.Open to step.conn = ap (service_after to step.conn) closes in
+          let said = sends_stand laws.sends (record (link_over number old) { host_rest = to; up = behind }) (record link { up = others }) step.conn step.sends just.talk just.says stood may_now in
+          let line_now : Connection = record after.connection { service = Service.Open to step.conn } in
+          let line_is : after.connection ≡ line_now = ap (λ (s : Service). record after.connection { service = s }) going in
+          let stands : LinkStandsBy IsReadAs (link_by line_now old.down behind old.tracked) (link_behind step others link) =
+          subst (λ (d : List ℕ). LinkStandsBy IsReadAs (record (link_by line_now old.down behind old.tracked) { down = d }) (link_behind step others link)) (append_assoc old.down line.out more)
+          (subst (λ (h : Bool). LinkStandsBy IsReadAs (record (link_by line_now old.down behind old.tracked) { down = (old.down ++ line.out) ++ more; host_here = h }) (link_behind step others link))
+          (here_if line.service is.is_open) said) in
+          let back = sym link_now in
+          let represents = represents_with number (with_counter number after old.host) line_now old.down behind old now (at_line after.connection after.pool ∙ line_is) tt
+          (subst (λ (l : Link). LinkStandsBy IsReadAs (link_by line_now old.down behind old.tracked) l) back stands)
+          (is.waits ∙ sym waits_now) (ap (λ (l : Link). l.term.waits) link_now ∙ is.unnamed)
+          (subst (λ (l : Link). CanBeSent l.term.display.shape l.term.display.screen) back is.stored) in
+          let sound : IsSoundPool after.pool =
+          subst (λ (c : Option Cause). IsSoundPool (freed_if number c (granted_if number step.grants old.host.pool))) (sym closes) (still_sound laws.granted number step.grants old.host.pool served.pool) in
+          record {
+            goes = subst (λ (c : Counter). Goes app Good number (fed_by number c behind old) t) (sym counter_is)
+                (moves_once app Good kept number (fed_by number after behind old) t (Move.Up old.host.pool) good served.pool tt represents);
+            pool = subst (λ (c : Counter). IsSoundPool c.pool) (sym counter_is) sound;
+          }
+
+    hears_byte : (byte : ℕ) (behind : List ℕ) (counter : Counter) → old.up ≡ byte ∷ behind → TakesByte number (counter_at number old.host) byte counter → Fed app Good number counter behind old t
+    hears_byte byte behind counter queue (TakesByte.goes_on rest to conn held delivers is_counter) = hears_nothing byte behind counter rest to conn queue held delivers is_counter
+    hears_byte byte behind counter queue (TakesByte.completes rest to conn item done held delivers taken is_counter) =
+        let read = subst (λ (r : Rest). Delivers record_limit r (byte ∷ []) (item ∷ []) to) (sym (ap rest_of held)) delivers in
+        let first = one_first laws.up (link_over number old) link byte behind to is.stands host_here queue item read in
+        hears_one first.message first.others first.whole item done byte behind counter rest to conn held first.is taken first.stands is_counter
+    hears_byte byte behind counter queue (TakesByte.breaks rest conn fault held wrong is_counter) =
+        absurd (never_wrong laws.final (link_over number old) link byte behind fault is.stands host_here queue
+        (subst (λ (r : Rest). GoesWrong record_limit r (byte ∷ []) fault) (sym (ap rest_of held)) wrong))
+
+  -- ---- bytes, one after another
+
+  pub hears_bytes : (front behind : List ℕ) (old : OverBytes) (t : Told) (counter : Counter) → Good t → Represents number old t → IsServed number old.host → old.up ≡ front ++ behind
+      → TakesBytes number (counter_at number old.host) front counter → Fed app Good number counter behind old t
+  hears_bytes [] behind old t counter good is served queue same =
+      let as_it_was : with_counter number (counter_at number old.host) old.host ≡ old.host = ap (λ connections. record old.host { connections = connections }) (set-get_or old.host.connections number unused) in
+      let stays_so : fed_by number (counter_at number old.host) behind old ≡ old =
+      ap (λ (h : Host). record old { host = h; up = behind }) as_it_was ∙ ap (λ (up : List ℕ). record old { up = up }) (sym queue) in
+      record {
+        goes = stays app Good number (fed_by number counter behind old) t good
+            (subst (λ (c : Counter). Represents number (fed_by number c behind old) t) (sym same) (subst (λ (b : OverBytes). Represents number b t) (sym stays_so) is));
+        pool = subst (λ (c : Counter). IsSoundPool c.pool) (sym same) served.pool;
+      }
+  hears_bytes (byte ∷ front) behind old t counter good is served queue taken =
+      let mid : Counter = taken.0 in
+      let one = hears_byte old t good is served byte (front ++ behind) mid queue taken.1 in
+      let host : Host = with_counter number mid old.host in
+      let at_mid : counter_at number host ≡ mid = ap (λ (c : Connection). record { pool = mid.pool; connection = c }) (connection_same number mid.connection (record old.host { pool = mid.pool }) served.below) in
+      let below : number < length host.connections = subst (λ (n : ℕ). number < n) (sym (length-set old.host.connections number mid.connection)) served.below in
+      let next : OverBytes = fed_by number mid (front ++ behind) old in
+      let t_mid : Told = after_moves app one.goes.moves t in
+      let more = hears_bytes front behind next t_mid counter one.goes.good one.goes.represents (record { below = below; pool = one.pool }) refl
+      (subst (λ (c : Counter). TakesBytes number c front counter) (sym at_mid) taken.2) in
+      let once : with_counter number counter host ≡ with_counter number counter old.host =
+      ap (λ connections. record old.host { pool = counter.pool; connections = connections }) (set-set old.host.connections number mid.connection counter.connection) in
+      let goes : Goes app Good number (fed_by number counter behind old) t_mid = subst (λ (h : Host). Goes app Good number (record old { host = h; up = behind }) t_mid) once more.goes in
+      record { goes = goes_after app Good number next (fed_by number counter behind old) t one.goes goes; pool = more.pool }
+
+  -- ---- the host sends
+
+  module _ (old : OverBytes) (t : Told) (good : Good t) (is : Represents number old t) (served : IsServed number old.host) where
+    pub conn_there : conn_of (service_at number old.host) ≡ t.link.host
+    conn_there = conn_is old t good is served
+
+    -- a line with the same under way
+    same_line : (connection : Connection) (down : List ℕ) → link_by connection down old.up old.tracked ≡ link_over number old → IsOpen connection.service
+        → Goes app Good number (record old { host = with_connection number connection old.host; down = down }) t
+    same_line connection down same is_open =
+        stays app Good number (record old { host = with_connection number connection old.host; down = down }) t good
+        (represents_with number (with_connection number connection old.host) connection down old.up old t (at_line old t good is served connection old.host.pool) is_open
+        (subst (λ (b : ByteLink). LinkStandsBy IsReadAs b t.link) (sym same) is.stands) is.waits is.unnamed is.stored)
+
+    -- nothing is done
+    pub unchanged : (connection : Connection) → connection ≡ connection_at number old.host → Goes app Good number (on_connection number connection old) t
+    unchanged connection same =
+        same_line connection old.down (ap (λ (c : Connection). link_by c old.down old.up old.tracked) same) (subst (λ (c : Connection). IsOpen c.service) (sym same) is.is_open)
+
+    open_still : (conn : Conn) (service : Service) → IsOpen service → IsOpen (with_conn conn service)
+    open_still conn Service.Free is = is
+    open_still conn (Service.Open rest old) is = tt
+    open_still conn (Service.Closed cause) is = is
+
+    sent_link : (sending : Sent) (service : Service) (out : List ℕ) → IsOpen service
+        → said_down sending.conn (item_sent sending.message ∷ []) (link_by (record (connection_at number old.host) { service = service; out = out }) old.down old.up old.tracked)
+        ≡ link_by (record (connection_at number old.host) { service = with_conn sending.conn service; out = out ++ sent_bytes (item_sent sending.message ∷ []) }) old.down old.up old.tracked
+    sent_link sending Service.Free out is = absurd is
+    sent_link sending (Service.Open rest conn) out is =
+        ap (λ (d : List ℕ). record (link_by (record (connection_at number old.host) { service = Service.Open rest sending.conn; out = out }) old.down old.up old.tracked) { down = d })
+        (append_assoc old.down out (sent_bytes (item_sent sending.message ∷ [])))
+    sent_link sending (Service.Closed cause) out is = absurd is
+
+    -- a message is sent, which is spelt
+    pub sends_goes : (move : Move) (sending : Sent) → moved app move t ≡ record t { link = host_sent (Some sending) t.link } → IsByTheRules move t → IsTypedMove move → Spells sending.message
+        → Goes app Good number (on_connection number (sent_on sending (connection_at number old.host)) old) t
+    sends_goes move sending goes rules typed spelt =
+        let connection : Connection = sent_on sending (connection_at number old.host) in
+        let link : Link = host_sent (Some sending) t.link in
+        let said = laws.sends (link_over number old) t.link sending.conn (item_sent sending.message ∷ []) (sending.message ∷ []) is.stands (spelt.comes, tt) (spelt.stands, tt) in
+        let stands : LinkStandsBy IsReadAs (link_by connection old.down old.up old.tracked) link =
+        subst (λ (b : ByteLink). LinkStandsBy IsReadAs b link) (sent_link sending (service_at number old.host) (connection_at number old.host).out is.is_open) said in
+        let now : Told = record t { link = link } in
+        moves_once app Good kept number (on_connection number connection old) t move good rules typed
+        (subst (λ (u : Told). Represents number (on_connection number connection old) u) (sym goes)
+        (represents_with number (with_connection number connection old.host) connection old.down old.up old now (at_line old t good is served connection old.host.pool)
+        (open_still sending.conn (service_at number old.host) is.is_open) stands is.waits is.unnamed is.stored))
+
+    -- it is done, or memory is refused
+    pub does_goes : (move : Move) (what : Option Sent) (did : Acted) (connection : Connection) → moved app move t ≡ record t { link = host_sent what t.link }
+        → IsByTheRules move t → IsTypedMove move → IfSome what (λ sending. Spells sending.message) → IsDone what (connection_at number old.host) did connection
+        → Goes app Good number (on_connection number connection old) t
+    does_goes move None did connection goes rules typed spelt done = unchanged connection done.1
+    does_goes move (Some sending) acted_as.Sent connection goes rules typed spelt done =
+        subst (λ (c : Connection). Goes app Good number (on_connection number c old) t) (sym done) (sends_goes move sending goes rules typed spelt)
+    does_goes move (Some sending) acted_as.Memory connection goes rules typed spelt done = unchanged connection done
+    does_goes move (Some sending) acted_as.Nothing connection goes rules typed spelt done = absurd done
+
+    -- bytes are handed over
+    pub hands_over_goes : (count : ℕ) → let line = connection_at number old.host in
+        Goes app Good number (record old { host = with_connection number (record line { out = drop count line.out }) old.host; down = old.down ++ take count line.out }) t
+    hands_over_goes count =
+        let line : Connection = connection_at number old.host in
+        same_line (record line { out = drop count line.out }) (old.down ++ take count line.out)
+        (ap (λ (d : List ℕ). record (link_over number old) { down = d }) (append_assoc old.down (take count line.out) (drop count line.out) ∙ ap (λ (o : List ℕ). old.down ++ o) (take-append-drop count line.out)))
+        is.is_open
+
+    -- NOP is nothing over messages
+    pub keeps_alive_goes : Goes app Good number (on_connection number (kept_alive (connection_at number old.host)) old) t
+    keeps_alive_goes = by_test (may_keep_alive (connection_at number old.host))
+      where
+        by_test : (b : Bool) → Goes app Good number (on_connection number (if b then with_nop (connection_at number old.host) else connection_at number old.host) old) t
+        by_test false = unchanged (connection_at number old.host) refl
+        by_test true =
+            let line : Connection = connection_at number old.host in
+            let nop : List ℕ = sent_bytes (no_operation ∷ []) in
+            stays app Good number (on_connection number (with_nop line) old) t good
+            (represents_with number (with_connection number (with_nop line) old.host) (with_nop line) old.down old.up old t (at_line old t good is served (with_nop line) old.host.pool) is.is_open
+            (subst (λ (d : List ℕ). LinkStandsBy IsReadAs (record (link_over number old) { down = d }) t.link) (append_assoc old.down line.out nop) (laws.nop (link_over number old) t.link is.stands))
+            is.waits is.unnamed is.stored)
+
+    -- something happens elsewhere
+    pub elsewhere_goes : (host : Host) → connection_at number host ≡ connection_at number old.host → Goes app Good number (record old { host = host }) t
+    elsewhere_goes host same =
+        stays app Good number (record old { host = host }) t good
+        (represents_with number host (connection_at number old.host) old.down old.up old t same is.is_open is.stands is.waits is.unnamed is.stored)

@@ -1,0 +1,365 @@
+-- A terminal that keeps the rules takes bytes and is operated: the bytes on its connection then represent that over messages after moves that
+-- keep the rules.
+use Rattle.std.proofs.Common.{◌≡◌, ◌≢◌, ◌||◌, ℕ, Bool, true, false, Option, None, Some, List, [], ◌∷◌, ◌++◌, refl, ap, sym, subst, ◌∙◌, if◌then◌else◌}
+use Rattle.codes3270.specs.declared.attention.Aid.TheVariants.{Clear}
+use Rattle.datastream.specs.Screen.{Screen}
+use Rattle.lu_pool.specs.Asking.{answer_to}
+use Rattle.lu_pool.specs.HolderLaws.{IsSound as IsSoundPool}
+use Rattle.lu_pool.specs.declared.entry.Entry.{Entry}
+use Rattle.presentation.specs.Sizes.{SizedScreen}
+use Rattle.shadow.specs.Pairs.{Pairwise}
+use Rattle.std.specs.Prelude.{⊤, IfSome}
+use Rattle.telnet_wire.specs.Items.{sent_bytes}
+use Rattle.telnet_wire.specs.Laws.{ItemsAreRead, WrongIsFinal}
+use Rattle.telnet_wire.specs.Reading.{Rest}
+use Rattle.tn3270e_msg.specs.TermTable.{Term}
+use Rattle.tn3270e_msg.specs.declared.cause.Cause.{Cause}
+use Rattle.term_core.specs.State.{Attached}
+use Rattle.host_core.specs.Acts.{acted}
+use Rattle.host_core.specs.Application.{Application, AreTexts}
+use Rattle.host_core.specs.Messages.{ToHost, ToTerminal}
+use Rattle.host_core.specs.Notes.{IsNoteText, noted}
+use Rattle.host_core.specs.Questions.{answered_on}
+use Rattle.host_core.specs.State.{connection_at}
+use Rattle.host_core.specs.Takes.{took as host_took}
+use Rattle.host_core.specs.declared.question.Answer.{Answer as Said}
+use Rattle.keyboard.specs.State.{Keyboard}
+use Rattle.world3270.specs.EveryTerminal.{AreByTheRules, IsByTheRules, Move, Told, after_moves, came_down, executed, key_pressed, moved, operated, told_if}
+use Rattle.world3270.specs.EveryTerminalBytes.{IsOperated, OverBytes, Represents, Takes, display_of, displaying, end_of, link_over}
+use Rattle.world3270.specs.Link.{Link, sent, term_left_if, term_stepped}
+use Rattle.world3270.specs.Placed.{is_queued}
+use Rattle.world3270.specs.Readings.{AreReadAs, IsReadAs, MayComeUp}
+use Rattle.world3270.specs.Rules.{Operates}
+use Rattle.world3270.specs.Sendable.{CanBeSent}
+use Rattle.world3270.specs.Standing.{with_out}
+use Rattle.world3270.specs.Stands.{BytesDown, BytesStand, Holds, LinkStandsBy, StandsDown, StandsUp, all_items, without_nops}
+use Rattle.world3270.specs.StandsEnds.{NopHasNoEffect, TakesKeepSendable, TermTakes, WritesAreMarked, is_painted}
+use Rattle.world3270.specs.StandsLinks.{MayComeAll, NoneCloses, StandsGoOn, StandsJoin, any_painted, took_down}
+use Rattle.world3270.specs.Terminal.{Display, TermEnd, TermStep, is_bound, once_bound, took}
+use Rattle.world3270.specs.TrackedTerminals.{TrackedTerminal}
+use Rattle.world3270.proofs.HostItems.{stands_read}
+use Rattle.world3270.proofs.ItemsSpelt.{Spells}
+use Rattle.world3270.proofs.Stands.{written_stand}
+use Rattle.world3270.proofs.StandsLinks.{Ran, byte_came, ran_stands}
+
+-- ---- what is known of a connection over messages after moves that keep the rules
+
+-- What comes down may come and closes nothing, and a terminal that executes it makes of it what one in a world does; what comes up may come, and
+-- closes nothing; and what the host sends is spelt.
+pub record Ready (app : Application) (t : Told) : Type 0 where
+  pub may : MayComeAll t.link.term t.link.down
+  pub none : NoneCloses t.link.term t.link.down
+  pub same : (message : ToTerminal) (others : List ToTerminal) → t.link.down ≡ message ∷ others → executed t.link.term message ≡ took t.link.term message
+  pub comes_up : (message : ToHost) (others : List ToHost) → t.link.up ≡ message ∷ others → MayComeUp t.link.host message
+  pub hears : (pool : List Entry) → IsSoundPool pool → (message : ToHost) (others : List ToHost) → t.link.up ≡ message ∷ others
+      → (host_took (answer_to pool) t.link.host message).closes ≡ None
+  pub acts : IfSome (acted app t.link.host) (λ sending. Spells sending.message)
+  pub answers : (said : Said) → AreTexts said.values → IfSome (answered_on app t.link.host said) (λ sending. Spells sending.message)
+  pub notes : (text : List ℕ) → IsNoteText text → IfSome (noted text t.link.host) (λ sending. Spells sending.message)
+
+-- Over bytes there are characters alone: the operator leaves no others, and values are texts. On a lost connection nothing more comes.
+abbrev pub IsTypedMove : Move → Type 0
+IsTypedMove (Move.Operate step) = CanBeSent step.end.display.shape step.end.display.screen
+IsTypedMove (Move.Answer said) = AreTexts said.values
+IsTypedMove (Move.Up pool) = ⊤
+IsTypedMove Move.Down = ⊤
+IsTypedMove Move.Act = ⊤
+IsTypedMove (Move.Note text) = ⊤
+IsTypedMove Move.Lose = ⊥
+
+-- some property has this in it, and all such moves that keep the rules keep it
+pub record IsKept (app : Application) (Good : Told → Type 0) : Type 0 where
+  pub ready : (t : Told) → Good t → Ready app t
+  pub goes_on : (move : Move) (t : Told) → Good t → IsByTheRules move t → IsTypedMove move → Good (moved app move t)
+
+-- ---- what a move over bytes is over messages
+
+pub record Goes (app : Application) (Good : Told → Type 0) (number : ℕ) (bytes : OverBytes) (t : Told) : Type 0 where
+  pub moves : List Move
+  pub by_the_rules : AreByTheRules app moves t
+  pub represents : Represents number bytes (after_moves app moves t)
+  pub good : Good (after_moves app moves t)
+
+pub stays : (app : Application) (Good : Told → Type 0) (number : ℕ) (bytes : OverBytes) (t : Told) → Good t → Represents number bytes t → Goes app Good number bytes t
+stays app Good number bytes t good represents = record { moves = []; by_the_rules = tt; represents = represents; good = good }
+
+pub moves_once : (app : Application) (Good : Told → Type 0) → IsKept app Good → (number : ℕ) (bytes : OverBytes) (t : Told) (move : Move) → Good t → IsByTheRules move t → IsTypedMove move
+    → Represents number bytes (moved app move t) → Goes app Good number bytes t
+moves_once app Good kept number bytes t move good is typed represents = record { moves = move ∷ []; by_the_rules = (is, tt); represents = represents; good = kept.goes_on move t good is typed }
+
+more_moves : (app : Application) (one others : List Move) (t : Told) → after_moves app (one ++ others) t ≡ after_moves app others (after_moves app one t)
+more_moves app [] others t = refl
+more_moves app (move ∷ one) others t = more_moves app one others (moved app move t)
+
+more_rules : (app : Application) (one others : List Move) (t : Told) → AreByTheRules app one t → AreByTheRules app others (after_moves app one t) → AreByTheRules app (one ++ others) t
+more_rules app [] others t are behind = behind
+more_rules app (move ∷ one) others t are behind = (are.0, more_rules app one others (moved app move t) are.1 behind)
+
+-- one after the other
+pub goes_after : (app : Application) (Good : Told → Type 0) (number : ℕ) (mid bytes : OverBytes) (t : Told) → (first : Goes app Good number mid t) → Goes app Good number bytes (after_moves app first.moves t)
+    → Goes app Good number bytes t
+goes_after app Good number mid bytes t first second =
+    let whole = sym (more_moves app first.moves second.moves t) in
+    record {
+      moves = first.moves ++ second.moves;
+      by_the_rules = more_rules app first.moves second.moves t first.by_the_rules second.by_the_rules;
+      represents = subst (λ (u : Told). Represents number bytes u) whole second.represents;
+      good = subst (λ (u : Told). Good u) whole second.good;
+    }
+
+-- ---- what is said
+
+pairs_become : {X Y : Type 0} (R S : X → Y → Type 0) → ((x : X) (y : Y) → R x y → S x y) → (xs : List X) (ys : List Y) → Pairwise R xs ys → Pairwise S xs ys
+pairs_become R S becomes [] [] h = tt
+pairs_become R S becomes [] (y ∷ ys) h = absurd h
+pairs_become R S becomes (x ∷ xs) [] h = absurd h
+pairs_become R S becomes (x ∷ xs) (y ∷ ys) h = (becomes x y h.0, pairs_become R S becomes xs ys h.1)
+
+-- the host reads what our terminal says as what it stands for
+ours_read : ItemsAreRead → (link now : Link) (old new : TrackedTerminal) (behind : List ℕ) → old.terminal.out ≡ [] → (ran : Ran link now old new behind) → AreReadAs new.terminal.out ran.sends
+ours_read written link now old new behind silent ran =
+    subst (λ (b : List ℕ). AreReadAs b ran.sends) (sym (ran.out ∙ ap (λ (b : List ℕ). b ++ sent_bytes ran.says) silent))
+    (written_stand all_items IsReadAs written ran.says ran.sends ran.fit (pairs_become StandsUp IsReadAs stands_read ran.says ran.sends ran.said))
+
+-- ---- messages come down
+
+-- a terminal that takes a message keeps its name, whatever else it does
+left_term : (cause : Option Cause) (link : Link) → (term_left_if cause link).term ≡ link.term
+left_term None link = refl
+left_term (Some cause) link = refl
+
+told_link_is : (bound : Bool) (message : ToTerminal) (t : Told) (link : Link) → (told_if bound message t link).link ≡ link
+told_link_is true message t link = refl
+told_link_is false message t link = refl
+
+-- whether a 3278 would wait then
+waits_then : (message : ToTerminal) (t : Told) (link : Link) → (told_if (is_bound t.link.term) message t link).waits ≡ (if is_painted t.link.term message then false else t.waits)
+waits_then message t link = by_message (is_bound t.link.term) message refl
+  where
+    by_message : (bound : Bool) (message : ToTerminal) → is_bound t.link.term ≡ bound → (told_if bound message t link).waits ≡ (if is_painted t.link.term message then false else t.waits)
+    by_message true (ToTerminal.Paint number wanted over) e = ap (λ (b : Bool). if b then false else t.waits) (sym e)
+    by_message false (ToTerminal.Paint number wanted over) e = ap (λ (b : Bool). if b then false else t.waits) (sym e)
+    by_message true (ToTerminal.TalksDown saying) e = refl
+    by_message false (ToTerminal.TalksDown saying) e = refl
+    by_message true (ToTerminal.ReadBuffer number) e = refl
+    by_message false (ToTerminal.ReadBuffer number) e = refl
+    by_message true (ToTerminal.Note number command) e = refl
+    by_message false (ToTerminal.Note number command) e = refl
+
+-- it doesn't wait once any of these was painted
+either_paints : (one others waits : Bool) → (if others then false else (if one then false else waits)) ≡ (if one || others then false else waits)
+either_paints true true waits = refl
+either_paints true false waits = refl
+either_paints false true waits = refl
+either_paints false false waits = refl
+
+-- one message came down, which a terminal that executes it takes as one in a world does, and closes nothing
+pub record CameOne (app : Application) (message : ToTerminal) (others : List ToTerminal) (t : Told) : Type 0 where
+  pub link : (moved app Move.Down t).link ≡ term_stepped (took t.link.term message) others t.link
+  pub term : (moved app Move.Down t).link.term ≡ (took t.link.term message).end
+  pub down : (moved app Move.Down t).link.down ≡ others
+  pub waits : (moved app Move.Down t).waits ≡ (if is_painted t.link.term message then false else t.waits)
+
+pub came_one : (app : Application) (message : ToTerminal) (others : List ToTerminal) (t : Told) → t.link.down ≡ message ∷ others → executed t.link.term message ≡ took t.link.term message
+    → (took t.link.term message).closes ≡ None → CameOne app message others t
+came_one app message others t down same closes =
+    let step : TermStep = took t.link.term message in
+    let stays : Link = record t.link { down = others; term = step.end; up = sent t.link.lost t.link.up step.sends } in
+    let next : Link = term_stepped step others t.link in
+    let went : moved app Move.Down t ≡ told_if (is_bound t.link.term) message t next =
+    ap (λ (d : List ToTerminal). came_down d t) down ∙ ap (λ (s : TermStep). told_if (is_bound t.link.term) message t (term_stepped s others t.link)) same in
+    let link : (moved app Move.Down t).link ≡ next = ap (λ (u : Told). u.link) went ∙ told_link_is (is_bound t.link.term) message t next in
+    record {
+      link = link;
+      term = ap (λ (l : Link). l.term) link ∙ left_term step.closes stays;
+      down = ap (λ (l : Link). l.down) link ∙ ap (λ (c : Option Cause). (term_left_if c stays).down) closes;
+      waits = ap (λ (u : Told). u.waits) went ∙ waits_then message t next;
+    }
+
+record CameDown (app : Application) (Good : Told → Type 0) (taken others : List ToTerminal) (t : Told) : Type 0 where
+  moves : List Move
+  by_the_rules : AreByTheRules app moves t
+  link_is : (after_moves app moves t).link ≡ took_down taken others t.link
+  waits_is : (after_moves app moves t).waits ≡ (if any_painted t.link.term taken then false else t.waits)
+  good : Good (after_moves app moves t)
+
+module _ (app : Application) (Good : Told → Type 0) (kept : IsKept app Good) where
+  -- messages come down, one by one
+  all_came : (taken others : List ToTerminal) (t : Told) → Good t → t.link.down ≡ taken ++ others → CameDown app Good taken others t
+  all_came [] others t good down = record { moves = []; by_the_rules = tt; link_is = refl; waits_is = refl; good = good }
+  all_came (message ∷ taken) others t good down =
+      let ready = kept.ready t good in
+      let step : TermStep = took t.link.term message in
+      let mid : Told = moved app Move.Down t in
+      let one = came_one app message (taken ++ others) t down (ready.same message (taken ++ others) down) (subst (λ (d : List ToTerminal). NoneCloses t.link.term d) down ready.none).0 in
+      let more = all_came taken others mid (kept.goes_on Move.Down t good tt tt) one.down in
+      record {
+        moves = Move.Down ∷ more.moves;
+        by_the_rules = (tt, more.by_the_rules);
+        link_is = more.link_is ∙ ap (took_down taken others) one.link;
+        waits_is = more.waits_is
+            ∙ ap (λ (e : TermEnd). if any_painted e taken then false else mid.waits) one.term
+            ∙ ap (λ (w : Bool). if any_painted step.end taken then false else w) one.waits
+            ∙ either_paints (is_painted t.link.term message) (any_painted step.end taken) t.waits;
+        good = more.good;
+      }
+
+-- ---- the terminal takes a byte
+
+-- a terminal keeps its name
+bound_waits : (bound : Bool) (step : TermStep) (end : TermEnd) → step.end.waits ≡ end.waits → (once_bound bound step end).end.waits ≡ end.waits
+bound_waits true step end is = is
+bound_waits false step end is = refl
+
+took_waits : (end : TermEnd) (message : ToTerminal) → (took end message).end.waits ≡ end.waits
+took_waits end (ToTerminal.TalksDown saying) = refl
+took_waits end (ToTerminal.Paint number wanted over) = bound_waits (is_bound end) _ end refl
+took_waits end (ToTerminal.ReadBuffer number) = bound_waits (is_bound end) _ end refl
+took_waits end (ToTerminal.Note number command) = bound_waits (is_bound end) _ end refl
+
+all_waits : (taken others : List ToTerminal) (link : Link) → (took_down taken others link).term.waits ≡ link.term.waits
+all_waits [] others link = refl
+all_waits (message ∷ taken) others link =
+    let step : TermStep = took link.term message in
+    all_waits taken others (term_stepped step (taken ++ others) link)
+    ∙ ap (λ (e : TermEnd). e.waits) (left_term step.closes (record link { down = taken ++ others; term = step.end; up = sent link.lost link.up step.sends }))
+    ∙ took_waits link.term message
+
+pub record TakesLaws : Type 0 where
+  pub takes : TermTakes
+  pub keeps : TakesKeepSendable
+  pub nop : NopHasNoEffect
+  pub down : StandsGoOn without_nops StandsDown
+  pub final : WrongIsFinal
+  pub marks : WritesAreMarked
+  pub written : ItemsAreRead
+  pub join : StandsJoin all_items IsReadAs
+
+module _ (laws : TakesLaws) (app : Application) (Good : Told → Type 0) (kept : IsKept app Good) where
+  pub takes_goes : (number : ℕ) (old new : OverBytes) (t : Told) → Good t → Represents number old t → Takes old new → Goes app Good number new t
+  takes_goes number old new t good is comes =
+      let out : List ℕ = (connection_at number old.host).out in
+      let link : Link = t.link in
+      let here : link.term_here ≡ Some 0 = sym is.stands.term_here in
+      let term = is.stands.term 0 here in
+      let queue : (link_over number old).down ≡ comes.byte ∷ (comes.behind ++ out) = ap (λ (d : List ℕ). d ++ out) comes.next in
+      let ready = kept.ready t good in
+      let one = byte_came laws.takes laws.keeps laws.nop laws.down laws.final laws.marks comes.byte (comes.behind ++ out) old.tracked comes.ours term.rest link term.holds
+      (subst (λ (d : List ℕ). BytesDown term.rest d link.down) queue term.down) ready.may ready.none is.stored comes.takes in
+      let taken : List ToTerminal = one.came.taken in
+      let others : List ToTerminal = one.came.others in
+      let ran = one.came.ran in
+      let said : AreReadAs comes.bytes ran.sends = comes.alike ran.sends (ours_read laws.written link (took_down taken others link) old.tracked comes.ours (comes.behind ++ out) term.silent ran) in
+      let lost : false ≡ link.lost = is.stands.lost in
+      let stands = ran_stands (link_over number old) link (took_down taken others link) (comes.behind ++ out) comes.bytes comes.ours is.stands ran
+      (subst (λ (l : Bool). BytesStand all_items IsReadAs is.stands.read (sent l old.up comes.bytes) (sent l link.up ran.sends)) lost
+      (laws.join is.stands.read old.up comes.bytes link.up ran.sends is.stands.up said)) in
+      let down = all_came app Good kept taken others t good one.came.whole in
+      let bytes : OverBytes = record {
+        host = old.host;
+        down = comes.behind;
+        up = old.up ++ comes.bytes;
+        tracked = with_out [] comes.ours;
+        waits = if comes.ours.terminal.station.took_write then false else old.waits;
+      } in
+      let back = sym down.link_is in
+      let represents : Represents number bytes (after_moves app down.moves t) = record {
+        is_open = is.is_open;
+        stands = subst (λ (l : Link). LinkStandsBy IsReadAs (link_over number bytes) l) back stands;
+        waits = ap (λ (b : Bool). if b then false else old.waits) one.marked ∙ ap (λ (w : Bool). if any_painted link.term taken then false else w) is.waits ∙ sym down.waits_is;
+        unnamed = ap (λ (l : Link). l.term.waits) down.link_is ∙ all_waits taken others link ∙ is.unnamed;
+        stored = subst (λ (l : Link). CanBeSent l.term.display.shape l.term.display.screen) back ran.can;
+      } in
+      record {
+        moves = down.moves;
+        by_the_rules = down.by_the_rules;
+        represents = subst (λ (b : OverBytes). Represents number b (after_moves app down.moves t)) (sym comes.leaves) represents;
+        good = down.good;
+      }
+
+  -- ---- it is operated
+
+  end_is : (rest : Rest) (talk : Term) (tracked : TrackedTerminal) (end : TermEnd) (holds_rest : Rest) → Holds holds_rest tracked end → end.waits ≡ false → tracked.terminal.link ≡ Attached rest talk
+      → end_of talk tracked ≡ end
+  end_is rest talk tracked end holds_rest holds unnamed attached =
+      let is = holds.is_end in
+      let same : Attached rest talk ≡ Attached holds_rest holds.talk = sym attached ∙ holds.attached in
+      let talks : talk ≡ end.talk = talk_of rest holds_rest talk holds.talk same ∙ is.talk_is in
+      let display : display_of tracked ≡ end.display =
+      ap (λ (s : SizedScreen). record (display_of tracked) { model = s.model; shape = s.size; screen = s.screen }) is.screen_is
+      ∙ ap (λ (k : Keyboard). record (display_of tracked) { model = end.display.model; shape = end.display.shape; screen = end.display.screen; keyboard = k }) is.keyboard_is
+      ∙ ap (λ (s : Screen). record end.display { last_restored = s; before_restored = tracked.history.before_restored; erased = tracked.history.erased }) is.last_restored_is
+      ∙ ap (λ (s : Screen). record end.display { before_restored = s; erased = tracked.history.erased }) is.before_restored_is
+      ∙ ap (λ (b : Bool). record end.display { erased = b }) is.erased_is in
+      ap (λ (t : Term). record { waits = false; talk = t; display = display_of tracked }) talks
+      ∙ ap (λ (d : Display). record { waits = false; talk = end.talk; display = d }) display
+      ∙ ap (λ (b : Bool). record end { waits = b }) (sym unnamed)
+    where
+      talk_of : (one other : Rest) (talk after : Term) → Attached one talk ≡ Attached other after → talk ≡ after
+      talk_of one other talk after e = cc
+
+  -- what a step that keeps the rules leaves as it was
+  record Leaves (end : TermEnd) (step : TermStep) : Type 0 where
+    closes : step.closes ≡ None
+    talk : step.end.talk ≡ end.talk
+    waits : step.end.waits ≡ end.waits
+
+  leaves : (end : TermEnd) (step : TermStep) → Operates end step → Leaves end step
+  leaves end step (Operates.edits keyboard cells cursor erases held on is) =
+      record { closes = ap (λ (s : TermStep). s.closes) is; talk = ap (λ (s : TermStep). s.end.talk) is; waits = ap (λ (s : TermStep). s.end.waits) is }
+  leaves end step (Operates.sends keyboard aid some is) =
+      record { closes = ap (λ (s : TermStep). s.closes) is; talk = ap (λ (s : TermStep). s.end.talk) is; waits = ap (λ (s : TermStep). s.end.waits) is }
+
+  pub operates_goes : (number : ℕ) (step : TermStep) (old new : OverBytes) (t : Told) → Good t → Represents number old t → IsOperated step old new → Goes app Good number new t
+  operates_goes number step old new t good is does =
+      let link : Link = t.link in
+      let here : link.term_here ≡ Some 0 = sym is.stands.term_here in
+      let term = is.stands.term 0 here in
+      let end = end_is does.rest does.talk old.tracked link.term term.rest term.holds is.unnamed does.attached in
+      let rules : IsByTheRules (Move.Operate step) t =
+      subst (λ (e : TermEnd). (d : Operates e step) × (t.waits ≡ true → key_pressed d ≢ Clear)) end (does.does, λ waits. does.not_clear (is.waits ∙ waits)) in
+      let left = leaves link.term step rules.0 in
+      let now : Link = record link { term = step.end; up = sent link.lost link.up step.sends } in
+      let link_is : (operated step t).link ≡ now = ap (λ (c : Option Cause). term_left_if c now) left.closes in
+      let bytes : OverBytes = record old {
+        up = old.up ++ does.bytes;
+        tracked = displaying step.end.display old.tracked;
+        waits = old.waits || is_queued step.sends;
+      } in
+      let lost : false ≡ link.lost = is.stands.lost in
+      let stands : LinkStandsBy IsReadAs (link_over number bytes) now = record {
+        lost = is.stands.lost;
+        host_here = is.stands.host_here;
+        term_here = is.stands.term_here;
+        read = is.stands.read;
+        up = subst (λ (l : Bool). BytesStand all_items IsReadAs is.stands.read (sent false old.up does.bytes) (sent l link.up step.sends)) lost
+            (laws.join is.stands.read old.up does.bytes link.up step.sends is.stands.up does.spelt);
+        host = λ there. let host = is.stands.host there in record { host = host.host; rest_is = host.rest_is };
+        term = λ which its. record {
+          rest = term.rest;
+          holds = record {
+            talk = term.holds.talk;
+            attached = term.holds.attached;
+            is_end = record {
+              talk_is = term.holds.is_end.talk_is ∙ sym left.talk;
+              screen_is = refl;
+              keyboard_is = refl;
+              last_restored_is = refl;
+              before_restored_is = refl;
+              erased_is = refl;
+            };
+          };
+          silent = term.silent;
+          down = term.down;
+        };
+      } in
+      let back = sym link_is in
+      moves_once app Good kept number new t (Move.Operate step) good rules does.stored
+      (subst (λ (b : OverBytes). Represents number b (operated step t)) (sym does.leaves)
+      (record {
+        is_open = is.is_open;
+        stands = subst (λ (l : Link). LinkStandsBy IsReadAs (link_over number bytes) l) back stands;
+        waits = ap (λ (w : Bool). w || is_queued step.sends) is.waits;
+        unnamed = ap (λ (l : Link). l.term.waits) link_is ∙ left.waits ∙ is.unnamed;
+        stored = subst (λ (l : Link). CanBeSent l.term.display.shape l.term.display.screen) back does.stored;
+      }))

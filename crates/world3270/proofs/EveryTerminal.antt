@@ -1,0 +1,272 @@
+-- Every terminal: the connection is simulated from agreement on, by each move; and what holds is read off the waiting terminal's.
+use Rattle.std.proofs.Common.{◌≡◌, ◌<◌, Bool, false, ℕ, Option, None, Some, List, [], ◌∷◌, append-nil, inl, length, refl, ap, sym, subst, ◌∙◌}
+use Rattle.std.specs.Prelude.{replicate}
+use Rattle.std.proofs.lemmas.List.{length-replicate}
+use Rattle.codes3270.specs.Size.{cells_in}
+use Rattle.codes3270.specs.declared.attribute.Cell.TheVariants.{Char}
+use Rattle.datastream.specs.Fields.{Field, fields}
+use Rattle.datastream.specs.Held.{Held}
+use Rattle.datastream.specs.HeldLaws.{HeldIsRound}
+use Rattle.datastream.specs.Screen.{Screen}
+use Rattle.shadow.specs.Belief.{Shadow}
+use Rattle.shadow.specs.Doubt.{doubted}
+use Rattle.shadow.specs.Meets.{ListsFields, Meets}
+use Rattle.shadow.proofs.HeardOthers.{no_field}
+use Rattle.shadow.specs.PaintedFields.{KeptStaysThere, WrittenIsThere}
+use Rattle.lu_pool.specs.HolderLaws.{IsSound}
+use Rattle.lu_pool.specs.declared.entry.Entry.{Entry}
+use Rattle.tn3270e_msg.specs.Device.{model_of}
+use Rattle.tn3270e_msg.specs.Talk.{Saying}
+use Rattle.tn3270e_msg.specs.TermTable.{Term}
+use Rattle.tn3270e_msg.specs.declared.reply.OwnedMessage.TheVariants.{FunIs}
+use Rattle.host_core.specs.Answering.{number_of}
+use Rattle.host_core.specs.Application.{Application, IsApplication, message_place}
+use Rattle.host_core.specs.Messages.{ToHost, ToTerminal}
+use Rattle.host_core.specs.Questions.{question_in}
+use Rattle.host_core.specs.Session.{Conn, agreed_lu, new_conn}
+use Rattle.host_core.specs.declared.question.Question.{Question}
+use Rattle.host_core.specs.declared.terminals.Terminals.TheVariants.{Any}
+use Rattle.host_core.specs.declared.turn.Turn.TheVariants as whose
+use Rattle.world3270.specs.Asked.{AreFieldsAsked, IsSeen}
+use Rattle.world3270.specs.EveryTerminal.{AreByTheRules, Begins, EveryTerminal, IsByTheRules, Move, RightOf, Told, after_moves, came_down, came_up, moved, told_link}
+use Rattle.world3270.specs.Given.{Given}
+use Rattle.world3270.specs.Headline.{Agrees, IsHostsTurn, SeesTheScreen}
+use Rattle.world3270.specs.Link.{Link}
+use Rattle.world3270.specs.Moments.{IsAt, Moment, Serving, Talking, UnderWay}
+use Rattle.world3270.specs.Rules.{Binds}
+use Rattle.world3270.specs.Seen.{HostSeen, SeenLink, TerminalSeen, end_seen, host_seen, seen_link, terminal_seen}
+use Rattle.world3270.specs.Showing.{ShowsItsPanel}
+use Rattle.world3270.specs.Shown.{HasShown, IsPanelShown}
+use Rattle.world3270.specs.ShownFields.{WantsItsFields}
+use Rattle.world3270.specs.Stages.{Fact, FactsAreExact, IsNew, Kept, ShownAt, scene_of}
+use Rattle.world3270.specs.Terminal.{Display, TermEnd, bound_to, new_display}
+use Rattle.world3270.specs.View.{view_of}
+use Rattle.world3270.proofs.Asked.{asked_seen, each_asked}
+use Rattle.world3270.proofs.Obeys.{decides_new}
+use Rattle.world3270.proofs.Headline.{Knows, agrees, bound_agrees, host_attached, knows_at, nothing_waits}
+use Rattle.world3270.proofs.ReadsInput.{still_unformatted}
+use Rattle.world3270.proofs.ShownFields.{cursor_shown, fields_shown}
+use Rattle.world3270.proofs.ShownPanels.{shown_now}
+use Rattle.world3270.proofs.SimulatedDown.{noted_still, painted_still, read_still, talked_still}
+use Rattle.world3270.proofs.SimulatedHost.{acts_still, answers_still, hears_still, loses_still, notes_still}
+use Rattle.world3270.proofs.SimulatedKeys.{operates_still}
+use Rattle.world3270.proofs.SecondKeys.{Extras}
+use Rattle.world3270.proofs.Simulation.{Simulated, since_same}
+use Rattle.world3270.proofs.Unreturned.{all_as_left, all_kept}
+use Rattle.world3270.proofs.Worlds.{some_cells}
+
+-- ---- at agreement
+
+module _ (given : Given) (app : Application) (is : IsApplication app) (lu : List ℕ) (t : Told) (b : Begins app lu t) where
+  abbrev blank : Display
+  blank = new_display (model_of b.device) app.begins
+
+  abbrev host : Conn
+  host = record (new_conn Any app) { talk = t.link.host.talk }
+
+  -- the waiting terminal's link
+  abbrev begun : Link
+  begun = record t.link { host = host; up = []; term = record { waits = false; talk = t.link.term.talk; display = blank } }
+
+  nothing_known : FactsAreExact Shadow.NothingKnown
+  nothing_known = record { known = given.belief.nothing_exact.0; protected = given.belief.nothing_exact.1 }
+
+  is_new : IsNew (scene_of (view_of begun))
+  is_new = record { shadow = refl; turn_reason = refl; lock = refl; aid = refl; no_fields = no_field (replicate (cells_in app.begins) (Char 0)) 0 (cells_in app.begins) }
+
+  is_at : (moment : Moment) → IsAt (view_of begun) None moment → Fact None (scene_of (view_of begun)) moment → ShownAt app false host blank.before_restored blank.last_restored blank.screen moment → Kept app (view_of begun)
+  is_at moment at fact shown = record {
+    whole = length-replicate (cells_in app.begins) (Char 0);
+    cursor = some_cells app.begins is.begins;
+    unreturned = λ _. all_kept (replicate (cells_in app.begins) (Char 0));
+    as_left = λ _. all_as_left (message_place app.begins) (replicate (cells_in app.begins) (Char 0));
+    exact = nothing_known;
+    wanted = None;
+    moment = moment;
+    sizes = record { host = inl refl; screen = inl refl; same = λ steady. refl };
+    at = at;
+    fact = fact;
+    shown = shown;
+  }
+
+  all_of : {X : Type 0} (queue messages : List X) → queue ≡ messages → UnderWay t.link.lost queue messages
+  all_of queue messages is_so = record { vanished = []; whole = append-nil queue ∙ is_so; none = λ _. refl }
+
+  begun_kept : Kept app (view_of begun)
+  begun_kept = by_talk b.binds
+    where
+      by_talk : Binds lu t.link.term.talk.talk.state t.link.down → Kept app (view_of begun)
+      by_talk (Binds.bound state down) =
+          is_at (Moment.Serves lu Serving.Deciding)
+          (record {
+            host_talk = record { device = b.device; state_is = b.agreed; model_is = refl };
+            term_talk = state;
+            turn = refl;
+            pending = refl;
+            goes_down = all_of t.link.down [] down;
+            goes_up = all_of [] [] refl;
+          }) (decides_new (scene_of (view_of begun)) is_new nothing_known) (λ later. absurd (later refl), tt)
+      by_talk (Binds.about_to state down) =
+          is_at (Moment.Talks (Talking.Agreeing lu))
+          (record {
+            host_talk = record { device = b.device; state_is = b.agreed; model_is = refl };
+            term_talk = state;
+            turn = refl;
+            pending = refl;
+            goes_down = all_of t.link.down (ToTerminal.TalksDown (Saying.Sub FunIs) ∷ []) down;
+            goes_up = all_of [] [] refl;
+          }) (is_new, tt) tt
+
+  pub begins_simulated : Simulated app lu t
+  begins_simulated = record {
+    told = begun;
+    kept = begun_kept;
+    agreed = ap agreed_lu b.agreed;
+    any = refl;
+    unsure = refl;
+    display = sym (ap (λ (d : Display). record d { keyboard = blank.keyboard }) (b.told ∙ b.blank));
+    waits = b.waits;
+    host_here = b.host_here;
+    term_here = b.term_here;
+    simulates = record {
+      host = b.host;
+      lost = refl;
+      down = refl;
+      talk = refl;
+      up = subst (λ (up : List ToHost). Extras host.turn host.pending [] up) (sym b.nothing_up) refl;
+      since = since_same given blank t.link.term.display b.blank
+          (subst (λ (d : Display). d.screen.cursor < length d.screen.cells) (sym b.blank) (subst (λ (size : ℕ). 0 < size) (sym (length-replicate (cells_in app.begins) (Char 0))) (some_cells app.begins is.begins)));
+    };
+  }
+
+-- ---- each move
+
+module _ (given : Given) (app : Application) (is : IsApplication app) (lu : List ℕ) where
+  up_still : (t : Told) → Simulated app lu t → (pool : List Entry) → IsSound pool → (up : List ToHost) → t.link.up ≡ up → Simulated app lu (came_up pool up t)
+  up_still t s pool sound [] is_up = s
+  up_still t s pool sound (message ∷ rest) is_up = hears_still given app lu t s pool sound message rest is_up
+
+  down_still : (t : Told) → Simulated app lu t → (down : List ToTerminal) → t.link.down ≡ down → Simulated app lu (came_down down t)
+  down_still t s [] is_down = s
+  down_still t s (ToTerminal.TalksDown saying ∷ rest) is_down = talked_still given app is lu t s saying rest is_down
+  down_still t s (ToTerminal.Paint number wanted over ∷ rest) is_down = painted_still given app is lu t s number wanted over rest is_down
+  down_still t s (ToTerminal.ReadBuffer number ∷ rest) is_down = read_still given app is lu t s number rest is_down
+  down_still t s (ToTerminal.Note number command ∷ rest) is_down = noted_still given app is lu t s number command rest is_down
+
+  pub move_still : (move : Move) (t : Told) → IsByTheRules move t → Simulated app lu t → Simulated app lu (moved app move t)
+  move_still (Move.Up pool) t sound s = up_still t s pool sound t.link.up refl
+  move_still Move.Down t rules s = down_still t s t.link.down refl
+  move_still Move.Act t rules s = acts_still given app is lu t s
+  move_still (Move.Answer said) t rules s = answers_still given app is lu t s said
+  move_still (Move.Note text) t rules s = notes_still given app is lu t s text rules
+  move_still (Move.Operate step) t rules s = operates_still given app lu t s step rules.0 rules.1
+  move_still Move.Lose t rules s = loses_still given app is lu t s
+
+  moves_still : (moves : List Move) (t : Told) → AreByTheRules app moves t → Simulated app lu t → Simulated app lu (after_moves app moves t)
+  moves_still [] t rules s = s
+  moves_still (move ∷ moves) t rules s = moves_still moves (moved app move t) rules.1 (move_still move t rules.0 s)
+
+-- ---- what is read off
+
+-- an end is seen by its talk, and by what it displays but for the keyboard
+seen_alike : (number : ℕ) (one other : TermEnd) → one.talk ≡ other.talk → one.display ≡ record other.display { keyboard = one.display.keyboard } → end_seen number one ≡ end_seen number other
+seen_alike number one other talk display =
+    ap (λ (t : Term). end_seen number (record one { talk = t })) talk
+    ∙ ap (λ (d : Display). end_seen number (record one { talk = other.talk; display = d })) display
+
+terminal_alike : (here : Option ℕ) (one other : TermEnd) → one.talk ≡ other.talk → one.display ≡ record other.display { keyboard = one.display.keyboard } → terminal_seen here one ≡ terminal_seen here other
+terminal_alike None one other talk display = refl
+terminal_alike (Some number) one other talk display = ap (λ (t : TerminalSeen). Some t) (seen_alike number one other talk display)
+
+-- in doubt the belief has fields if a screen has that differs in input
+lists_despite : HeldIsRound → (erased : Bool) (shadow : Shadow) (told now : Screen) → ListsFields shadow told → Meets shadow told → Held erased told.cells now.cells → ListsFields (doubted shadow) now
+lists_despite round erased (Shadow.Formatted beliefs) told now lists meets held = λ some. tt
+lists_despite round erased (Shadow.Unformatted known) told now lists meets held = λ some. absurd (some (still_unformatted round erased told.cells now.cells held meets.0))
+lists_despite round erased Shadow.NothingKnown told now lists meets held = λ some. by_fields (fields told.cells) refl some
+  where
+    by_fields : (found : List Field) → fields told.cells ≡ found → (fields now.cells ≡ [] → ⊥) → ⊥
+    by_fields [] none some = some (still_unformatted round erased told.cells now.cells held none)
+    by_fields (field ∷ more) found some = lists (λ none. let clash = sym found ∙ none in absurd (cc))
+
+module _ (given : Given) (written : WrittenIsThere) (kept : KeptStaysThere) (app : Application) (is : IsApplication app) (lu : List ℕ) (t : Told) (s : Simulated app lu t) where
+  abbrev end : Link
+  end = s.told
+
+  -- the waiting terminal's link, with the ends that are here
+  abbrev told_here : Link
+  told_here = record end { host_here = t.link.host_here; term_here = t.link.term_here }
+
+  same_host : t.link.host ≡ end.host
+  same_host = s.simulates.host
+
+  same_seen : seen_link (told_link t) ≡ seen_link told_here
+  same_seen =
+      ap (λ (lost : Bool). record (seen_link (told_link t)) { lost = lost }) s.simulates.lost
+      ∙ ap (λ (host : Conn). record (seen_link (told_link t)) { lost = end.lost; host = host_seen t.link.host_here host }) same_host
+      ∙ ap (λ (terminal : Option TerminalSeen). record { lost = end.lost; host = host_seen t.link.host_here end.host; terminal = terminal })
+      (sym (terminal_alike t.link.term_here end.term (told_link t).term (sym s.simulates.talk) s.display))
+
+  agrees_on_told : (turn : IsHostsTurn (seen_link (told_link t))) → Agrees turn.host turn.terminal
+  agrees_on_told = subst (λ (seen : SeenLink). (turn : IsHostsTurn seen) → Agrees turn.host turn.terminal) (sym same_seen) (agrees given app told_here s.kept)
+
+  knows_told : IsHostsTurn (seen_link t.link) → Knows (view_of end)
+  knows_told turn =
+      let here = host_attached t.link.host_here t.link.host turn.host turn.host_is in
+      knows_at app (view_of end) s.kept
+      (ap (λ (c : Conn). c.turn) (sym same_host) ∙ sym (ap (λ (h : HostSeen). h.turn) here.1) ∙ turn.turn)
+      (nothing_waits end.host.pending (ap (λ (c : Conn). number_of c.pending) (sym same_host) ∙ sym (ap (λ (h : HostSeen). h.pending) here.1) ∙ turn.answered))
+
+  sees_now : IsHostsTurn (seen_link t.link) → SeesTheScreen (doubted t.link.host.shadow) t.link.term.display.screen
+  sees_now turn =
+      let known = knows_told turn in
+      let since = s.simulates.since in
+      let told : Screen = end.term.display.screen in
+      let now : Screen = t.link.term.display.screen in
+      let meets : Meets (doubted end.host.shadow) now = given.belief.doubt_input since.erased end.host.shadow told now known.meets since.held in
+      subst (λ (host : Conn). SeesTheScreen (doubted host.shadow) now) (sym same_host)
+      (record {
+        meets = meets;
+        protected = given.belief.seen (doubted end.host.shadow) now meets (lists_despite given.keys.round since.erased end.host.shadow told now known.lists known.meets since.held)
+            (given.belief.doubt_protected end.host.shadow s.kept.exact.protected);
+      })
+
+  is_asked : (session : ℕ) (question : Question) → question_in app session t.link.host ≡ Some question → question_in app session end.host ≡ Some question
+  is_asked session question asked = subst (λ (host : Conn). question_in app session host ≡ Some question) same_host asked
+
+  pub right_of : RightOf app lu t
+  right_of = record {
+    granted = ap (λ (host : Conn). agreed_lu host.talk.state) same_host ∙ s.agreed;
+    bound = λ mine bound.
+        let both : Some mine ≡ Some lu = sym (bound_agrees app (view_of end) mine s.kept (ap (λ (talk : Term). bound_to talk.talk.state) (sym s.simulates.talk) ∙ bound)) ∙ s.agreed in
+        cc;
+    agrees = agrees_on_told;
+    now = sees_now;
+    asked = λ number session question asked.
+        subst (IsSeen (app.fields question.panel) question) (seen_alike number end.term (told_link t).term (sym s.simulates.talk) s.display)
+        (asked_seen given app is end s.kept number session question (is_asked session question asked));
+    fields_asked = λ shows session question asked.
+        subst (λ (d : Display). AreFieldsAsked (app.fields question.panel) question d.screen) s.display
+        (each_asked given app is shows end s.kept session question (is_asked session question asked));
+    shown = λ wants has. panel_shown wants has;
+    host_here = s.host_here;
+    term_here = s.term_here;
+  }
+    where
+      panel_shown : WantsItsFields app → HasShown t.link.host → IsPanelShown app false t.link.host t.link.term.display.before_restored t.link.term.display.last_restored
+      panel_shown wants has =
+          let shown_told : ShowsItsPanel app false end.host end.term.display.before_restored end.term.display.last_restored =
+          subst (λ (waits : Bool). ShowsItsPanel app waits end.host end.term.display.before_restored end.term.display.last_restored) s.unsure (shown_now app end s.kept (subst HasShown same_host has)) in
+          let shown : ShowsItsPanel app false t.link.host t.link.term.display.before_restored t.link.term.display.last_restored =
+          subst (λ (host : Conn). ShowsItsPanel app false host t.link.term.display.before_restored t.link.term.display.last_restored) (sym same_host)
+          (subst (λ (d : Display). ShowsItsPanel app false end.host d.before_restored d.last_restored) (sym s.simulates.since.rest) shown_told) in
+          record {
+            shown = shown;
+            fields = fields_shown written kept app is wants false t.link.host t.link.term.display.before_restored t.link.term.display.last_restored shown;
+            cursor = cursor_shown app wants false t.link.host t.link.term.display.before_restored t.link.term.display.last_restored shown;
+          }
+
+-- ---- the theorem
+
+pub every_terminal : Given → WrittenIsThere → KeptStaysThere → EveryTerminal
+every_terminal given written kept app lu begin moves is begins rules =
+    right_of given written kept app is lu (after_moves app moves begin) (moves_still given app is lu moves begin rules (begins_simulated given app is lu begin begins))

@@ -1,0 +1,550 @@
+-- A paint finds the screen that the terminal had when the host decided: first over messages, then over bytes.
+use Rattle.std.proofs.Common.{◌≡◌, ◌==◌, ◌&&◌, ℕ, Bool, true, false, Option, None, Some, List, [], ◌∷◌, ◌++◌, Result, map, refl, ap, sym, subst, ◌∙◌, if◌then◌else◌}
+use Rattle.std.specs.Prelude.{is_some, ⊤}
+use Rattle.std.proofs.lemmas.Bool.{and_parts, eqb-true}
+use Rattle.std.proofs.lemmas.List.{append-nil}
+use Rattle.codes3270.specs.declared.size.Model.{Model}
+use Rattle.datastream.specs.Screen.{Screen}
+use Rattle.datastream.specs.Wanted.{WantedScreen}
+use Rattle.keyboard.specs.declared.key.Key.{Key}
+use Rattle.keyboard.specs.declared.key.Lock.{Lock}
+use Rattle.keyboard.specs.declared.key.Lock.TheVariants.{Wait}
+use Rattle.shadow.specs.Belief.{Shadow}
+use Rattle.tn3270e_msg.specs.Talk.{Saying, Talk, follow, says}
+use Rattle.tn3270e_msg.specs.declared.host_talk.HostState.{HostState}
+use Rattle.tn3270e_msg.specs.declared.host_talk.HostState.TheVariants.{Offered, Asked, Asking, Named, Countered, Agreed, Closed}
+use Rattle.tn3270e_msg.specs.HostTable.{host_transition}
+use Rattle.tn3270e_msg.specs.declared.reply.Reason.{Reason}
+use Rattle.tn3270e_msg.specs.declared.reply.Reply.{Reply}
+use Rattle.tn3270e_msg.specs.declared.reply.Reply.TheVariants as reply
+use Rattle.host_core.specs.Acts.{Act, Decision, Sent, acted, decided, decision_on, done as done_act, may_act}
+use Rattle.host_core.specs.Application.{Application, IsApplication, application_of}
+use Rattle.host_core.specs.Laws.{PanelsAreShown}
+use Rattle.host_core.specs.Messages.{ToTerminal, ToHost}
+use Rattle.host_core.specs.Notes.{may_note, noted, noted_as}
+use Rattle.host_core.specs.Questions.{act_by, answered_by, is_ask, answered_on, has_its_panel, is_asking, is_ticket, ticket_of}
+use Rattle.host_core.specs.Rejections.{lu_asked}
+use Rattle.host_core.specs.Session.{Conn, Pending, is_agreed}
+use Rattle.host_core.specs.State.{Service, service_at, session_at}
+use Rattle.host_core.specs.Takes.{Answers, asked, talked_on, took as host_took}
+use Rattle.host_core.specs.declared.question.Answer.{Answer as Said}
+use Rattle.host_core.specs.declared.question.Ticket.{Ticket}
+use Rattle.host_core.specs.declared.turn.Turn.{Turn}
+use Rattle.host_core.specs.declared.turn.Turn.TheVariants as whose
+use Rattle.world3270.specs.Always.{AlwaysOf}
+use Rattle.world3270.specs.ByteSteps.{HappensIf, Steps, has_place as has_byte_place, is_link as is_byte_link}
+use Rattle.world3270.specs.ByteWorld.{ByteWorld}
+use Rattle.world3270.specs.Given.{Given}
+use Rattle.world3270.specs.Happens.{done, happens, run}
+use Rattle.world3270.specs.Link.{Link, host_sent, sent, term_stepped}
+use Rattle.world3270.specs.Moments.{Moment, Serving, Talking, down_at, pending_at, talk_down, talk_up, turn_at, up_at}
+use Rattle.world3270.specs.Placed.{has_place, host_acts, host_is_answered, is_link}
+use Rattle.world3270.specs.Refines.{Begin, GoesOn, IsBegin, IsTicketAt, Reached, SkipsAreThose, StepsGoOn, after}
+use Rattle.world3270.specs.ScreensFound.{DecisionsAreShownOverBytes, OtherTextsAreNotShown, IsFound, PaintsFindTheScreen, decides_over}
+use Rattle.world3270.specs.Seen.{SeenLink, TerminalSeen, end_seen, seen_link, terminal_seen}
+use Rattle.world3270.specs.Shown.{IsPanelShown, PanelIsShownOverBytes, is_painting}
+use Rattle.world3270.specs.ShownFields.{OtherTextsAreNot}
+use Rattle.world3270.specs.ShownSince.{decides}
+use Rattle.world3270.specs.Stages.{Fact, Kept, scene_of}
+use Rattle.world3270.specs.Terminal.{Display, TermStep, is_bound, key_came, note_came, once_bound, outcome_of, paint_came, read_came, took as term_took}
+use Rattle.world3270.specs.View.{View, view_of}
+use Rattle.world3270.specs.World.{Event, World, new_world, with_at}
+use Rattle.world3270.specs.declared.event.Event.{Event as ByteEvent}
+use Rattle.world3270.specs.declared.event.Event.TheVariants as event
+use Rattle.world3270.specs.declared.event.Stepped.TheVariants as stepped
+use Rattle.world3270.proofs.Headline.{terminal_attached}
+use Rattle.world3270.proofs.HostSteps.{just_talks}
+use Rattle.world3270.proofs.Known.{after_more}
+use Rattle.world3270.proofs.SeenStands.{same_seen}
+use Rattle.world3270.proofs.ShownSince.{stands_at, still_waits}
+use Rattle.world3270.proofs.Undecided.{Keeps, rests_hold, rests_hold_over}
+use Rattle.world3270.proofs.Worlds.{new_good, run_good}
+
+-- ---- what is under way
+
+-- talk alone goes down
+abbrev pub AreTalk : List ToTerminal → Type 0
+AreTalk [] = ⊤
+AreTalk (ToTerminal.TalksDown saying ∷ rest) = AreTalk rest
+AreTalk (ToTerminal.Paint number wanted over ∷ rest) = ⊥
+AreTalk (ToTerminal.ReadBuffer number ∷ rest) = ⊥
+AreTalk (ToTerminal.Note number command ∷ rest) = ⊥
+
+-- talk, and a paint unless it was lost
+abbrev HaveAPaint : List ToTerminal → Type 0
+HaveAPaint [] = ⊤
+HaveAPaint (ToTerminal.TalksDown saying ∷ rest) = HaveAPaint rest
+HaveAPaint (ToTerminal.Paint number wanted over ∷ rest) = AreTalk rest
+HaveAPaint (ToTerminal.ReadBuffer number ∷ rest) = ⊥
+HaveAPaint (ToTerminal.Note number command ∷ rest) = ⊥
+
+-- anything but a paint
+abbrev HaveNoPaint : List ToTerminal → Type 0
+HaveNoPaint [] = ⊤
+HaveNoPaint (ToTerminal.TalksDown saying ∷ rest) = HaveNoPaint rest
+HaveNoPaint (ToTerminal.Paint number wanted over ∷ rest) = ⊥
+HaveNoPaint (ToTerminal.ReadBuffer number ∷ rest) = HaveNoPaint rest
+HaveNoPaint (ToTerminal.Note number command ∷ rest) = HaveNoPaint rest
+
+-- talk alone comes up
+abbrev pub AreTalkUp : List ToHost → Type 0
+AreTalkUp [] = ⊤
+AreTalkUp (ToHost.TalksUp saying ∷ rest) = AreTalkUp rest
+AreTalkUp (ToHost.Data parts ∷ rest) = ⊥
+AreTalkUp (ToHost.Response number verdict ∷ rest) = ⊥
+
+pub all_talk : (talk : List Saying) → AreTalk (map ToTerminal.TalksDown talk)
+all_talk [] = tt
+all_talk (saying ∷ talk) = all_talk talk
+
+talk_is_painted : (queue : List ToTerminal) → AreTalk queue → HaveAPaint queue
+talk_is_painted [] are = tt
+talk_is_painted (ToTerminal.TalksDown saying ∷ rest) are = talk_is_painted rest are
+talk_is_painted (ToTerminal.Paint number wanted over ∷ rest) are = absurd are
+talk_is_painted (ToTerminal.ReadBuffer number ∷ rest) are = absurd are
+talk_is_painted (ToTerminal.Note number command ∷ rest) are = absurd are
+
+talk_has_none : (queue : List ToTerminal) → AreTalk queue → HaveNoPaint queue
+talk_has_none [] are = tt
+talk_has_none (ToTerminal.TalksDown saying ∷ rest) are = talk_has_none rest are
+talk_has_none (ToTerminal.Paint number wanted over ∷ rest) are = absurd are
+talk_has_none (ToTerminal.ReadBuffer number ∷ rest) are = absurd are
+talk_has_none (ToTerminal.Note number command ∷ rest) are = absurd are
+
+talk_more : (queue more : List ToTerminal) → AreTalk queue → AreTalk more → AreTalk (queue ++ more)
+talk_more [] more are others = others
+talk_more (ToTerminal.TalksDown saying ∷ rest) more are others = talk_more rest more are others
+talk_more (ToTerminal.Paint number wanted over ∷ rest) more are others = absurd are
+talk_more (ToTerminal.ReadBuffer number ∷ rest) more are others = absurd are
+talk_more (ToTerminal.Note number command ∷ rest) more are others = absurd are
+
+paint_more : (queue more : List ToTerminal) → HaveAPaint queue → AreTalk more → HaveAPaint (queue ++ more)
+paint_more [] more have others = talk_is_painted more others
+paint_more (ToTerminal.TalksDown saying ∷ rest) more have others = paint_more rest more have others
+paint_more (ToTerminal.Paint number wanted over ∷ rest) more have others = talk_more rest more have others
+paint_more (ToTerminal.ReadBuffer number ∷ rest) more have others = absurd have
+paint_more (ToTerminal.Note number command ∷ rest) more have others = absurd have
+
+-- a paint behind talk
+paint_last : (queue : List ToTerminal) (number : ℕ) (wanted : WantedScreen) (over : Shadow) → AreTalk queue → HaveAPaint (queue ++ ToTerminal.Paint number wanted over ∷ [])
+paint_last [] number wanted over are = tt
+paint_last (ToTerminal.TalksDown saying ∷ rest) number wanted over are = paint_last rest number wanted over are
+paint_last (ToTerminal.Paint other wants before ∷ rest) number wanted over are = absurd are
+paint_last (ToTerminal.ReadBuffer other ∷ rest) number wanted over are = absurd are
+paint_last (ToTerminal.Note other command ∷ rest) number wanted over are = absurd are
+
+none_more : (queue more : List ToTerminal) → HaveNoPaint queue → HaveNoPaint more → HaveNoPaint (queue ++ more)
+none_more [] more have others = others
+none_more (ToTerminal.TalksDown saying ∷ rest) more have others = none_more rest more have others
+none_more (ToTerminal.Paint number wanted over ∷ rest) more have others = absurd have
+none_more (ToTerminal.ReadBuffer number ∷ rest) more have others = none_more rest more have others
+none_more (ToTerminal.Note number command ∷ rest) more have others = none_more rest more have others
+
+front_talk : (queue more : List ToTerminal) → AreTalk (queue ++ more) → AreTalk queue
+front_talk [] more are = tt
+front_talk (ToTerminal.TalksDown saying ∷ rest) more are = front_talk rest more are
+front_talk (ToTerminal.Paint number wanted over ∷ rest) more are = absurd are
+front_talk (ToTerminal.ReadBuffer number ∷ rest) more are = absurd are
+front_talk (ToTerminal.Note number command ∷ rest) more are = absurd are
+
+up_more : (queue : List ToHost) (talk : List Saying) → AreTalkUp queue → AreTalkUp (queue ++ map ToHost.TalksUp talk)
+up_more [] [] are = tt
+up_more [] (saying ∷ talk) are = up_more [] talk are
+up_more (ToHost.TalksUp saying ∷ rest) talk are = up_more rest talk are
+up_more (ToHost.Data parts ∷ rest) talk are = absurd are
+up_more (ToHost.Response number verdict ∷ rest) talk are = absurd are
+
+up_front : (queue more : List ToHost) → AreTalkUp (queue ++ more) → AreTalkUp queue
+up_front [] more are = tt
+up_front (ToHost.TalksUp saying ∷ rest) more are = up_front rest more are
+up_front (ToHost.Data parts ∷ rest) more are = absurd are
+up_front (ToHost.Response number verdict ∷ rest) more are = absurd are
+
+-- what is sent goes on its way, or vanishes
+pub if_sent : {X : Type 0} (P : List X → Type 0) (lost : Bool) (queue messages : List X) → P queue → P (queue ++ messages) → P (sent lost queue messages)
+if_sent P true queue messages was now = was
+if_sent P false queue messages was now = now
+
+nothing_sent : {X : Type 0} (P : List X → Type 0) (lost : Bool) (queue messages : List X) → messages ≡ [] → P queue → P (sent lost queue messages)
+nothing_sent P lost queue messages none was =
+    if_sent P lost queue messages was (subst (λ (more : List _). P (queue ++ more)) (sym none) (subst P (sym (append-nil queue)) was))
+
+-- ---- from the decision on
+
+-- the paint is under way, and the screen is this one; or the paint was taken, and found it
+data Finds (was : Screen) (display : Display) (pending : Pending) (down : List ToTerminal) (up : List ToHost) : Type 0 where
+  awaited : display.keyboard.lock ≡ Wait → display.screen ≡ was → is_painting pending ≡ true → HaveAPaint down → AreTalkUp up → Finds was display pending down up
+  taken : display.before_restored ≡ was → HaveNoPaint down → Finds was display pending down up
+
+-- the same, of a connection on which the host decided; and its terminal is still there, unless it left
+record FindsOn (was now : Link) : Type 0 where
+  same_terminal : (terminal : ℕ) → now.term_here ≡ Some terminal → was.term_here ≡ Some terminal
+  finds : Finds was.term.display.screen now.term.display now.host.pending now.down now.up
+
+-- what is said to the talk leaves the command that waits for its answer
+asks_pending : (conn : Conn) (lu : Option (List ℕ)) (talk : Talk HostState) (answer : Result (List ℕ) Reason) (state : HostState) → (asked conn lu talk answer state).conn.pending ≡ conn.pending
+asks_pending conn lu talk answer (Asking device) = refl
+asks_pending conn lu talk answer Offered = refl
+asks_pending conn lu talk answer Asked = refl
+asks_pending conn lu talk answer (Named device granted) = refl
+asks_pending conn lu talk answer (Countered device granted) = refl
+asks_pending conn lu talk answer (Agreed device granted) = refl
+asks_pending conn lu talk answer (Closed cause) = refl
+
+talks_pending : (pool : Answers) (conn : Conn) (lu : Option (List ℕ)) (talk : Talk HostState) (answer : Reply) → (talked_on pool conn lu talk answer).conn.pending ≡ conn.pending
+talks_pending pool conn lu talk (reply.AskPool name) = asks_pending conn lu talk (pool name) talk.state
+talks_pending pool conn lu talk reply.Nothing = refl
+talks_pending pool conn lu talk (reply.Opt verb code) = refl
+talks_pending pool conn lu talk (reply.Sub sending next) = refl
+talks_pending pool conn lu talk reply.Agreed = refl
+talks_pending pool conn lu talk (reply.Refused reason) = refl
+talks_pending pool conn lu talk (reply.Close cause) = refl
+
+said_pending : (pool : Answers) (conn : Conn) (saying : Saying) → (host_took pool conn (ToHost.TalksUp saying)).conn.pending ≡ conn.pending
+said_pending pool conn saying =
+    let next : Talk HostState × Reply = follow Closed conn.talk (host_transition conn.talk.state (says saying)) in
+    talks_pending pool conn (lu_asked (says saying)) next.0 next.1
+
+module _ (was : Screen) where
+  abbrev FindsAt : Link → Type 0
+  FindsAt link = Finds was link.term.display link.host.pending link.down link.up
+
+  finds_up : (pool : Answers) (link : Link) (message : ToHost) (rest : List ToHost) → link.up ≡ message ∷ rest → FindsAt link
+      → let step = host_took pool link.host message in Finds was link.term.display step.conn.pending (sent link.lost link.down step.sends) rest
+  finds_up pool link message rest is (Finds.taken before none) =
+      let talks = just_talks pool link.host message in
+      let more : List ToTerminal = map ToTerminal.TalksDown talks.talk in
+      Finds.taken before (if_sent HaveNoPaint link.lost link.down (host_took pool link.host message).sends none
+      (subst (λ (m : List ToTerminal). HaveNoPaint (link.down ++ m)) (sym talks.says) (none_more link.down more none (talk_has_none more (all_talk talks.talk)))))
+  finds_up pool link (ToHost.TalksUp saying) rest is (Finds.awaited lock screen pends paint up) =
+      let talks = just_talks pool link.host (ToHost.TalksUp saying) in
+      let more : List ToTerminal = map ToTerminal.TalksDown talks.talk in
+      Finds.awaited lock screen (ap is_painting (said_pending pool link.host saying) ∙ pends)
+      (if_sent HaveAPaint link.lost link.down (host_took pool link.host (ToHost.TalksUp saying)).sends paint
+      (subst (λ (m : List ToTerminal). HaveAPaint (link.down ++ m)) (sym talks.says) (paint_more link.down more paint (all_talk talks.talk))))
+      (subst AreTalkUp is up)
+  finds_up pool link (ToHost.Data parts) rest is (Finds.awaited lock screen pends paint up) = absurd (subst AreTalkUp is up)
+  finds_up pool link (ToHost.Response number verdict) rest is (Finds.awaited lock screen pends paint up) = absurd (subst AreTalkUp is up)
+
+  -- a record that the terminal takes, or drops before it is bound
+  abbrev FindsStepped : Link → List ToTerminal → TermStep → Type 0
+  FindsStepped link rest step = Finds was step.end.display link.host.pending rest (sent link.lost link.up step.sends)
+
+  if_bound : (b : Bool) (link : Link) (rest : List ToTerminal) (step : TermStep) → FindsStepped link rest step → Finds was link.term.display link.host.pending rest link.up → FindsStepped link rest (once_bound b step link.term)
+  if_bound true link rest step takes drops = takes
+  if_bound false link rest step takes drops = nothing_sent (λ (up : List ToHost). Finds was link.term.display link.host.pending rest up) link.lost link.up [] refl drops
+
+  finds_down : (link : Link) (message : ToTerminal) (rest : List ToTerminal) → link.down ≡ message ∷ rest → FindsAt link → FindsStepped link rest (term_took link.term message)
+  finds_down link (ToTerminal.TalksDown saying) rest is (Finds.awaited lock screen pends paint up) =
+      Finds.awaited lock screen pends (subst HaveAPaint is paint) (if_sent AreTalkUp link.lost link.up _ up (up_more link.up _ up))
+  finds_down link (ToTerminal.TalksDown saying) rest is (Finds.taken before none) = Finds.taken before (subst HaveNoPaint is none)
+  finds_down link (ToTerminal.Paint number wanted over) rest is (Finds.awaited lock screen pends paint up) =
+      let talk : AreTalk rest = subst HaveAPaint is paint in
+      if_bound (is_bound link.term) link rest (paint_came number wanted link.term) (Finds.taken screen (talk_has_none rest talk)) (Finds.awaited lock screen pends (talk_is_painted rest talk) up)
+  finds_down link (ToTerminal.Paint number wanted over) rest is (Finds.taken before none) = absurd (subst HaveNoPaint is none)
+  finds_down link (ToTerminal.ReadBuffer number) rest is (Finds.awaited lock screen pends paint up) = absurd (subst HaveAPaint is paint)
+  finds_down link (ToTerminal.ReadBuffer number) rest is (Finds.taken before none) =
+      if_bound (is_bound link.term) link rest (read_came link.term) (Finds.taken before (subst HaveNoPaint is none)) (Finds.taken before (subst HaveNoPaint is none))
+  finds_down link (ToTerminal.Note number command) rest is (Finds.awaited lock screen pends paint up) = absurd (subst HaveAPaint is paint)
+  finds_down link (ToTerminal.Note number command) rest is (Finds.taken before none) =
+      if_bound (is_bound link.term) link rest (note_came number command link.term) (Finds.taken before (subst HaveNoPaint is none)) (Finds.taken before (subst HaveNoPaint is none))
+
+  finds_key : (key : Key) (link : Link) → FindsAt link → FindsAt (term_stepped (key_came key link.term) link.down link)
+  finds_key key link (Finds.awaited lock screen pends paint up) =
+      let still = still_waits key link.term.display lock in
+      Finds.awaited still.lock (still.same ∙ screen) pends paint
+      (nothing_sent AreTalkUp link.lost link.up (key_came key link.term).sends (still.silent (is_bound link.term) link.term.display.shape (outcome_of key link.term.display).screen) up)
+  finds_key key link (Finds.taken before none) = Finds.taken before none
+
+  -- while a paint waits for its answer no note is sent
+  no_note : (turn : Turn) (pending : Pending) (agreed : Bool) → is_painting pending ≡ true → may_note turn pending agreed ≡ false
+  no_note whose.Host pending agreed is = refl
+  no_note whose.Terminal Pending.Nothing agreed is = absurd (cc)
+  no_note whose.Terminal (Pending.Writing number command) agreed is = refl
+  no_note whose.Terminal (Pending.Reading number) agreed is = absurd (cc)
+  no_note whose.Terminal (Pending.Noting number command) agreed is = absurd (cc)
+
+  finds_notes : (text : List ℕ) (link : Link) → FindsAt link → FindsAt (host_sent (noted text link.host) link)
+  finds_notes text link (Finds.awaited lock screen pends paint up) =
+      subst (λ (b : Bool). FindsAt (host_sent (if b then Some (noted_as text link.host) else None) link))
+      (sym (no_note link.host.turn link.host.pending (is_agreed link.host.talk.state) pends)) (Finds.awaited lock screen pends paint up)
+  finds_notes text link (Finds.taken before none) = by_test (may_note link.host.turn link.host.pending (is_agreed link.host.talk.state))
+    where
+      by_test : (b : Bool) → FindsAt (host_sent (if b then Some (noted_as text link.host) else None) link)
+      by_test true = Finds.taken before (if_sent HaveNoPaint link.lost link.down ((noted_as text link.host).message ∷ []) none (none_more link.down ((noted_as text link.host).message ∷ []) none tt))
+      by_test false = Finds.taken before none
+
+pub note_stays : (text : List ℕ) (link : Link) → (host_sent (noted text link.host) link).term_here ≡ link.term_here
+note_stays text link = by_test (may_note link.host.turn link.host.pending (is_agreed link.host.talk.state))
+  where
+    by_test : (b : Bool) → (host_sent (if b then Some (noted_as text link.host) else None) link).term_here ≡ link.term_here
+    by_test true = refl
+    by_test false = refl
+
+keeps_finding : (was : Link) → Keeps (FindsOn was)
+keeps_finding was = record {
+  up = λ pool link message rest is holds. record { same_terminal = holds.same_terminal; finds = finds_up was.term.display.screen pool link message rest is holds.finds };
+  down = λ link message rest is holds. record { same_terminal = holds.same_terminal; finds = finds_down was.term.display.screen link message rest is holds.finds };
+  key = λ key link holds. record { same_terminal = holds.same_terminal; finds = finds_key was.term.display.screen key link holds.finds };
+  notes = λ text link holds. record {
+    same_terminal = λ terminal here. holds.same_terminal terminal (sym (note_stays text link) ∙ here);
+    finds = finds_notes was.term.display.screen text link holds.finds;
+  };
+  loses = λ link holds. record { same_terminal = holds.same_terminal; finds = holds.finds };
+  host_leaves = λ link holds. record { same_terminal = holds.same_terminal; finds = holds.finds };
+  term_leaves = λ link holds. record { same_terminal = λ terminal here. absurd (let wrong : None ≡ Some terminal = here in cc); finds = holds.finds };
+}
+
+-- ---- as the host decides
+
+-- the keyboard waits, and only talk is under way
+pub record IsQuiet (lock : Lock) (down : List ToTerminal) (up : List ToHost) : Type 0 where
+  pub waits : lock ≡ Wait
+  pub goes_down : AreTalk down
+  pub goes_up : AreTalkUp up
+
+pub talk_is_quiet : (model : Model) (wanted : Option (List ℕ)) (talking : Talking) (lock : Lock) → lock ≡ Wait → IsQuiet lock (talk_down model talking) (talk_up model wanted talking)
+talk_is_quiet model wanted Talking.Offering lock is = record { waits = is; goes_down = tt; goes_up = tt }
+talk_is_quiet model wanted Talking.Accepting lock is = record { waits = is; goes_down = tt; goes_up = tt }
+talk_is_quiet model wanted Talking.AskingType lock is = record { waits = is; goes_down = tt; goes_up = tt }
+talk_is_quiet model wanted Talking.NamingType lock is = record { waits = is; goes_down = tt; goes_up = tt }
+talk_is_quiet model wanted (Talking.Granting lu) lock is = record { waits = is; goes_down = tt; goes_up = tt }
+talk_is_quiet model wanted (Talking.AskingFunctions lu) lock is = record { waits = is; goes_down = tt; goes_up = tt }
+talk_is_quiet model wanted (Talking.Agreeing lu) lock is = record { waits = is; goes_down = tt; goes_up = tt }
+talk_is_quiet model wanted (Talking.Rejecting reason) lock is = record { waits = is; goes_down = tt; goes_up = tt }
+talk_is_quiet model wanted (Talking.Rejected reason) lock is = record { waits = is; goes_down = tt; goes_up = tt }
+
+quiet_by : (wanted : Option (List ℕ)) (v : View) (moment : Moment) → Fact wanted (scene_of v) moment → turn_at moment ≡ whose.Host → pending_at moment ≡ Pending.Nothing
+    → IsQuiet v.lock (down_at v.model moment) (up_at v.model wanted moment)
+quiet_by wanted v (Moment.Talks talking) f t p = talk_is_quiet v.model wanted talking v.lock f.0.lock
+quiet_by wanted v (Moment.Begins lu number command wants over) f t p = absurd (cc)
+quiet_by wanted v (Moment.Serves lu Serving.Deciding) f t p = record { waits = f.lock; goes_down = tt; goes_up = tt }
+quiet_by wanted v (Moment.Serves lu (Serving.Reading number)) f t p = absurd (cc)
+quiet_by wanted v (Moment.Serves lu (Serving.Reported number parts)) f t p = absurd (cc)
+quiet_by wanted v (Moment.Serves lu (Serving.NotedLate number command)) f t p = absurd (cc)
+quiet_by wanted v (Moment.Serves lu (Serving.AnsweredLate number command)) f t p = absurd (cc)
+quiet_by wanted v (Moment.Serves lu (Serving.Painting number command wants over)) f t p = absurd (cc)
+quiet_by wanted v (Moment.Serves lu (Serving.Answering kind number command)) f t p = absurd (cc)
+quiet_by wanted v (Moment.Serves lu Serving.Operating) f t p = absurd (cc)
+quiet_by wanted v (Moment.Serves lu (Serving.Noting number command)) f t p = absurd (cc)
+quiet_by wanted v (Moment.Serves lu (Serving.KeyAlone parts)) f t p = absurd (cc)
+quiet_by wanted v (Moment.Serves lu (Serving.KeyBehind kind number command parts)) f t p = absurd (cc)
+quiet_by wanted v (Moment.Serves lu (Serving.KeyNoted number command parts)) f t p = absurd (cc)
+quiet_by wanted v (Moment.Serves lu (Serving.KeyBefore number command parts)) f t p = absurd (cc)
+
+is_quiet : (app : Application) (link : Link) → Kept app (view_of link) → link.host.turn ≡ whose.Host → link.host.pending ≡ Pending.Nothing → IsQuiet link.term.display.keyboard.lock link.down link.up
+is_quiet app link k turns pends =
+    let at = quiet_by k.wanted (view_of link) k.moment k.fact (sym k.at.turn ∙ turns) (sym k.at.pending ∙ pends) in
+    record {
+      waits = at.waits;
+      goes_down = front_talk link.down k.at.goes_down.vanished (subst AreTalk (sym k.at.goes_down.whole) at.goes_down);
+      goes_up = up_front link.up k.at.goes_up.vanished (subst AreTalkUp (sym k.at.goes_up.whole) at.goes_up);
+    }
+
+-- what the host sends by a decision
+record IsSent (app : Application) (conn : Conn) (sending : Sent) : Type 0 where
+  act : Act
+  is : sending ≡ done_act app conn act
+  turns : conn.turn ≡ whose.Host
+  pends : conn.pending ≡ Pending.Nothing
+
+may_act_when : (turn : Turn) (pending : Pending) (agreed : Bool) → may_act turn pending agreed ≡ true → (turn ≡ whose.Host) × (pending ≡ Pending.Nothing)
+may_act_when whose.Host Pending.Nothing agreed may = (refl, refl)
+may_act_when whose.Host (Pending.Writing number command) agreed may = absurd (cc)
+may_act_when whose.Host (Pending.Reading number) agreed may = absurd (cc)
+may_act_when whose.Host (Pending.Noting number command) agreed may = absurd (cc)
+may_act_when whose.Terminal pending agreed may = absurd (cc)
+
+acts_in_turn : (app : Application) (conn : Conn) → is_some (acted app conn) ≡ true → (sending : Sent) × (acted app conn ≡ Some sending) × IsSent app conn sending
+acts_in_turn app conn some = by_test (may_act conn.turn conn.pending (is_agreed conn.talk.state)) (decision_on app conn conn.turn_reason) refl some
+  where
+    by_test : (b : Bool) (decision : Decision) → may_act conn.turn conn.pending (is_agreed conn.talk.state) ≡ b → is_some (if b then decided app conn decision else None) ≡ true
+        → (sending : Sent) × ((if b then decided app conn decision else None) ≡ Some sending) × IsSent app conn sending
+    by_test true (Decision.Do act) may some =
+        let turns = may_act_when conn.turn conn.pending (is_agreed conn.talk.state) may in
+        (done_act app conn act, refl, record { act = act; is = refl; turns = turns.0; pends = turns.1 })
+    by_test true Decision.Asks may some = absurd (cc)
+    by_test false decision may some = absurd (cc)
+
+answered_in_turn : (app : Application) (conn : Conn) (said : Said) → is_some (answered_on app conn said) ≡ true → (sending : Sent) × (answered_on app conn said ≡ Some sending) × IsSent app conn sending
+answered_in_turn app conn said some = by_test (is_asking app conn && has_its_panel app said) refl some
+  where
+    by_test : (b : Bool) → (is_asking app conn && has_its_panel app said) ≡ b → is_some (if b then Some (done_act app conn (act_by app conn said said.panel)) else None) ≡ true
+        → (sending : Sent) × ((if b then Some (done_act app conn (act_by app conn said said.panel)) else None) ≡ Some sending) × IsSent app conn sending
+    by_test true asks some =
+        let may = (and_parts (may_act conn.turn conn.pending (is_agreed conn.talk.state)) (is_ask (decision_on app conn conn.turn_reason)) (and_parts (is_asking app conn) (has_its_panel app said) asks).0).0 in
+        let turns = may_act_when conn.turn conn.pending (is_agreed conn.talk.state) may in
+        (done_act app conn (act_by app conn said said.panel), refl, record { act = act_by app conn said said.panel; is = refl; turns = turns.0; pends = turns.1 })
+    by_test false asks some = absurd (cc)
+
+-- a command that is a paint is under way once it was sent
+act_paints : (app : Application) (conn : Conn) (act : Act) (queue : List ToTerminal) → is_painting (done_act app conn act).conn.pending ≡ true → AreTalk queue
+    → HaveAPaint (queue ++ (done_act app conn act).message ∷ [])
+act_paints app conn Act.Read queue paints are = absurd (let wrong : false ≡ true = paints in cc)
+act_paints app conn (Act.Show panel message keep values) queue paints are = paint_last queue _ _ _ are
+
+sent_finds : (app : Application) (link : Link) (sending : Sent) → Kept app (view_of link) → IsSent app link.host sending → is_painting sending.conn.pending ≡ true → FindsOn link (host_sent (Some sending) link)
+sent_finds app link sending k is paints =
+    let quiet = is_quiet app link k is.turns is.pends in
+    record {
+      same_terminal = λ terminal here. here;
+      finds = Finds.awaited quiet.waits refl paints
+          (if_sent HaveAPaint link.lost link.down (sending.message ∷ []) (talk_is_painted link.down quiet.goes_down)
+          (subst (λ (s : Sent). HaveAPaint (link.down ++ s.message ∷ [])) (sym is.is)
+          (act_paints app link.host is.act link.down (subst (λ (s : Sent). is_painting s.conn.pending ≡ true) is.is paints) quiet.goes_down)))
+          quiet.goes_up;
+    }
+
+-- ---- one event over messages
+
+-- the connection with this number, after the host decided there
+sends_there : (app : Application) (number at : ℕ) (world : World) (new : ℕ → Link) (it : Event) → (number == at) ≡ true → has_place app it world ≡ true
+    → (done app it world).link ≡ with_at at (new at) world.link → (happens app it world).link number ≡ new number
+sends_there app number at world new it same place made =
+    ap (λ (b : Bool). (if b then done app it world else world).link number) place
+    ∙ ap (λ (links : ℕ → Link). links number) made
+    ∙ ap (λ (b : Bool). if b then new at else world.link number) same
+    ∙ ap new (sym (eqb-true number at same))
+
+abbrev Starts : Application → ℕ → Event → World → Type 0
+Starts app number it world = is_painting ((happens app it world).link number).host.pending ≡ true → FindsOn (world.link number) ((happens app it world).link number)
+
+starts : (app : Application) (number : ℕ) (it : Event) (world : World) (what : Option Sent) (sending : Sent) → Kept app (view_of (world.link number)) → what ≡ Some sending → IsSent app (world.link number).host sending
+    → (happens app it world).link number ≡ host_sent what (world.link number) → Starts app number it world
+starts app number it world what sending k some is made paints =
+    let now : (happens app it world).link number ≡ host_sent (Some sending) (world.link number) = made ∙ ap (λ (w : Option Sent). host_sent w (world.link number)) some in
+    subst (FindsOn (world.link number)) (sym now) (sent_finds app (world.link number) sending k is (subst (λ (l : Link). is_painting l.host.pending ≡ true) now paints))
+
+decision_starts : (app : Application) (number : ℕ) (it : Event) (world : World) → Kept app (view_of (world.link number)) → decides_over number it ≡ true → has_place app it world ≡ true → Starts app number it world
+decision_starts app number (Event.Act at) world k same place =
+    let acts = subst (λ (n : ℕ). is_some (acted app (world.link n).host) ≡ true) (sym (eqb-true number at same)) (and_parts (world.link at).host_here (is_some (acted app (world.link at).host)) (and_parts (is_link at) (host_acts app (world.link at)) place).1).1 in
+    let went = acts_in_turn app (world.link number).host acts in
+    starts app number (Event.Act at) world (acted app (world.link number).host) went.0 k went.1 went.2
+    (sends_there app number at world (λ (n : ℕ). host_sent (acted app (world.link n).host) (world.link n)) (Event.Act at) same place refl)
+decision_starts app number (Event.Answer at said) world k same place =
+    let answers = subst (λ (n : ℕ). is_some (answered_on app (world.link n).host said) ≡ true) (sym (eqb-true number at same)) (and_parts (world.link at).host_here (is_some (answered_on app (world.link at).host said)) (and_parts (is_link at) (host_is_answered app said (world.link at)) place).1).1 in
+    let went = answered_in_turn app (world.link number).host said answers in
+    starts app number (Event.Answer at said) world (answered_on app (world.link number).host said) went.0 k went.1 went.2
+    (sends_there app number at world (λ (n : ℕ). host_sent (answered_on app (world.link n).host said) (world.link n)) (Event.Answer at said) same place refl)
+decision_starts app number (Event.Press terminal key) world k same place = absurd (cc)
+decision_starts app number (Event.Up at) world k same place = absurd (cc)
+decision_starts app number (Event.Down at) world k same place = absurd (cc)
+decision_starts app number (Event.Note at text) world k same place = absurd (cc)
+decision_starts app number (Event.Lose at) world k same place = absurd (cc)
+decision_starts app number (Event.HostSees at) world k same place = absurd (cc)
+decision_starts app number (Event.TermSees terminal) world k same place = absurd (cc)
+decision_starts app number (Event.Connect terminal wanted) world k same place = absurd (cc)
+decision_starts app number (Event.RestartTerm terminal) world k same place = absurd (cc)
+decision_starts app number Event.RestartHost world k same place = absurd (cc)
+
+-- what is seen of the terminal then, and once the paint is answered
+abbrev Found : (was now : Link) → TerminalSeen → Type 0
+Found was now terminal = (earlier : TerminalSeen) × ((seen_link was).terminal ≡ Some earlier) × IsFound earlier terminal
+
+found_there : (was now : Link) (terminal : TerminalSeen) → FindsOn was now → is_painting now.host.pending ≡ false → (seen_link now).terminal ≡ Some terminal → Found was now terminal
+found_there was now terminal holds answered seen =
+    let there = terminal_attached now.term_here now.term terminal seen in
+    let here : was.term_here ≡ Some there.0 = holds.same_terminal there.0 there.1 in (
+      end_seen there.0 was.term,
+      ap (λ (h : Option ℕ). terminal_seen h was.term) here,
+      record {
+        same_terminal = ap (λ (t : TerminalSeen). t.number) there.2;
+        same_screen = ap (λ (t : TerminalSeen). t.before_restored) there.2 ∙ by_stage holds.finds;
+      },
+    )
+  where
+    by_stage : Finds was.term.display.screen now.term.display now.host.pending now.down now.up → now.term.display.before_restored ≡ was.term.display.screen
+    by_stage (Finds.awaited lock screen pends paint up) = absurd (let wrong = sym pends ∙ answered in cc)
+    by_stage (Finds.taken before none) = before
+
+pub paints_find : Given → AlwaysOf PaintsFindTheScreen
+paints_find given app serves pool models events is lists few are number it more terminal decides place paints rests answered seen =
+    let world : World = run app events (new_world app serves pool models) in
+    let g = run_good given app is events (new_world app serves pool models) are (new_good given app is serves pool models lists) in
+    let started = decision_starts app number it world (g.links number) decides place paints in
+    let now = rests_hold_over app (FindsOn (world.link number)) (keeps_finding (world.link number)) number more (happens app it world) rests started in
+    found_there (world.link number) ((run app more (happens app it world)).link number) terminal now answered seen
+
+-- ---- over bytes
+
+-- the ticket of an answer that is taken is that of the open question
+its_ticket : (app : Application) (session : ℕ) (ticket : Ticket) (said : Said) (service : Service) → is_some (answered_by app session ticket said service) ≡ true → IsTicketAt ticket session service
+its_ticket app session ticket said Service.Free some = tt
+its_ticket app session ticket said (Service.Open rest conn) some = by_ticket (is_ticket ticket (ticket_of session conn)) refl some
+  where
+    by_ticket : (b : Bool) → is_ticket ticket (ticket_of session conn) ≡ b → is_some (if b then answered_on app conn said else None) ≡ true → is_ticket ticket (ticket_of session conn) ≡ true
+    by_ticket true is some = is
+    by_ticket false is some = absurd (cc)
+its_ticket app session ticket said (Service.Closed cause) some = tt
+
+done_has_place : (it : ByteEvent) (old new : ByteWorld) → Steps it old stepped.Done new → has_byte_place it old ≡ true
+done_has_place it old new steps = by_place (has_byte_place it old) refl steps
+  where
+    by_place : (b : Bool) → has_byte_place it old ≡ b → HappensIf b it old stepped.Done new → has_byte_place it old ≡ true
+    by_place true is steps = is
+    by_place false is skipped = absurd (let wrong = skipped.0 in cc)
+
+-- a decision over bytes is one over messages
+record IsOneDecision (app : Application) (number : ℕ) (world : World) (more : List Event) : Type 0 where
+  it : Event
+  decides_there : decides_over number it ≡ true
+  place : has_place app it world ≡ true
+  one : more ≡ it ∷ []
+
+module _ (skips : SkipsAreThose) (begin : Begin) (is : IsBegin begin) (events : List Event) (number : ℕ) (old new : ByteWorld) (reached : Reached begin events old) where
+  one_decision : (it : ByteEvent) → decides number it ≡ true → Steps it old stepped.Done new → (goes : GoesOn begin events it old stepped.Done new)
+      → IsOneDecision (application_of begin.panels) number (after begin events) goes.more
+  one_decision (event.Act at) there steps goes = record {
+    it = Event.Act at;
+    decides_there = there;
+    place = sym (skips begin events (event.Act at) old is reached tt) ∙ done_has_place (event.Act at) old new steps;
+    one = goes.comes_to;
+  }
+  one_decision (event.Answer at ticket said) there steps goes =
+      let place = done_has_place (event.Answer at ticket said) old new steps in
+      let its = its_ticket (application_of old.host.panels) (session_at at old.host) ticket said (service_at at old.host)
+      (and_parts (is_byte_link at) (is_some (answered_by (application_of old.host.panels) (session_at at old.host) ticket said (service_at at old.host))) place).1 in
+      record { it = Event.Answer at said; decides_there = there; place = sym (skips begin events (event.Answer at ticket said) old is reached its) ∙ place; one = goes.comes_to }
+  one_decision (event.Key terminal key) there steps goes = absurd (cc)
+  one_decision (event.Up at count) there steps goes = absurd (cc)
+  one_decision (event.Down at count) there steps goes = absurd (cc)
+  one_decision (event.Note at text) there steps goes = absurd (cc)
+  one_decision (event.KeepAlive at) there steps goes = absurd (cc)
+  one_decision (event.Lose at) there steps goes = absurd (cc)
+  one_decision (event.HostSees at) there steps goes = absurd (cc)
+  one_decision (event.TermSees terminal) there steps goes = absurd (cc)
+  one_decision (event.Connect terminal wanted) there steps goes = absurd (cc)
+  one_decision (event.RestartTerm terminal) there steps goes = absurd (cc)
+  one_decision event.RestartHost there steps goes = absurd (cc)
+
+pub decisions_are_shown : Given → PanelsAreShown → StepsGoOn → SkipsAreThose → PanelIsShownOverBytes → DecisionsAreShownOverBytes
+decisions_are_shown given panels go skips shown world number it events before chosen rest behind conn host terminal is real are there steps rests chosen_is paints world_is has terminal_is =
+    let begin : Begin = is.begin in
+    let app : Application = application_of begin.panels in
+    let is_app : IsApplication app = panels begin.panels is.is_begin.panels.otherwise is.is_begin.panels.laid_out is.is_begin.panels.apart in
+    let was : World = after begin is.events in
+    let good = run_good given app is_app is.events (new_world app begin.serves begin.pool begin.models) is.reached.are_events (new_good given app is_app begin.serves begin.pool begin.models is.is_begin.pool) in
+    let goes = go begin is.events it before stepped.Done chosen is.is_begin is.reached real steps in
+    let one = one_decision skips begin is.is_begin is.events number before chosen is.reached it there steps goes in
+    let next : after begin (is.events ++ goes.more) ≡ happens app one.it was = after_more begin is.events goes.more ∙ ap (λ (more : List Event). run app more was) one.one in
+    let first = stands_at begin (is.events ++ goes.more) chosen number rest conn goes.reached chosen_is in
+    let painting : is_painting ((happens app one.it was).link number).host.pending ≡ true =
+    ap (λ (w : World). is_painting (w.link number).host.pending) (sym next) ∙ ap (λ (c : Conn). is_painting c.pending) (sym first.same) ∙ paints in
+    let started = decision_starts app number one.it was (good.links number) one.decides_there one.place painting in
+    let now = rests_hold go skips begin is.is_begin (FindsOn (was.link number)) (keeps_finding (was.link number)) number events chosen world are rests
+    (record { events = is.events ++ goes.more; reached = goes.reached; holds = subst (λ (w : World). FindsOn (was.link number) (w.link number)) (sym next) started }) in
+    let last = stands_at begin now.events world number behind host now.reached world_is in
+    let seen_now = sym (ap (λ (l : SeenLink). l.terminal) (same_seen world (after begin now.events) now.reached.stands number)) ∙ terminal_is in
+    let found = found_there (was.link number) ((after begin now.events).link number) terminal now.holds (ap (λ (c : Conn). is_painting c.pending) (sym last.same) ∙ has.answered) seen_now in (
+      found.0,
+      ap (λ (l : SeenLink). l.terminal) (same_seen before was is.reached.stands number) ∙ found.1,
+      record {
+        found = found.2;
+        shown = subst (λ (s : Screen). IsPanelShown (application_of world.host.panels) true host s terminal.last_restored) found.2.same_screen
+            (shown world (record { begin = begin; is_begin = is.is_begin; events = now.events; reached = now.reached }) number behind host terminal world_is terminal_is has);
+      },
+    )
+
+pub others_are_not_shown : OtherTextsAreNot → OtherTextsAreNotShown
+others_are_not_shown others app host was terminal index field attribute text at shows differs before is =
+    others true (app.fields host.panel) host.values host.message was.screen terminal.last_restored index field attribute text at shows differs before is.shown.fields

@@ -1,0 +1,238 @@
+-- What comes down: the waiting terminal takes a paint, and answers a Read Buffer, on the screen as it is, which is told then.
+use Rattle.std.proofs.Common.{◌≡◌, ◌<◌, ◌||◌, Bool, true, false, ℕ, Option, None, List, [], ◌∷◌, length, refl, ap, sym, subst, ◌∙◌}
+use Rattle.std.specs.Prelude.{is_some}
+use Rattle.codes3270.specs.Size.{Shape, cells_in}
+use Rattle.codes3270.specs.declared.attention.Aid.{Aid}
+use Rattle.datastream.specs.Grammar.{CommandParts}
+use Rattle.datastream.specs.InboundFields.{buffer_data}
+use Rattle.datastream.specs.Meaning.{after_command}
+use Rattle.datastream.specs.Screen.{Screen}
+use Rattle.datastream.specs.Wanted.{WantedScreen}
+use Rattle.keyboard.specs.State.{freed}
+use Rattle.shadow.specs.Belief.{Shadow}
+use Rattle.shadow.specs.Meets.{Meets}
+use Rattle.shadow.specs.Painted.{plainly_painted}
+use Rattle.tn3270e_msg.specs.Talk.{Saying}
+use Rattle.tn3270e_msg.specs.TermTable.{Term}
+use Rattle.tn3270e_msg.specs.declared.cause.Cause.{Cause}
+use Rattle.host_core.specs.Application.{Application, IsApplication, message_place}
+use Rattle.host_core.specs.Messages.{ToHost, ToTerminal, Verdict}
+use Rattle.world3270.specs.EveryTerminal.{Told, paint_executed, told_if}
+use Rattle.world3270.specs.Given.{Given}
+use Rattle.world3270.specs.Link.{Link, sent, term_left_if, term_stepped}
+use Rattle.world3270.specs.Stages.{Kept}
+use Rattle.world3270.specs.Terminal.{Display, TermEnd, TermStep, bound_to, is_bound, note_came, once_bound, paint_came, read_came, talked}
+use Rattle.world3270.specs.View.{view_of}
+use Rattle.world3270.proofs.ComesDown.{note_comes, paint_comes, read_comes}
+use Rattle.world3270.proofs.Down.{bound, paints_on, read_of, reads_on, shape_of_model, showing, term_view}
+use Rattle.world3270.proofs.Obeys.{obeys}
+use Rattle.world3270.proofs.Keys.{or_false}
+use Rattle.world3270.proofs.NotesHeld.{note_held}
+use Rattle.world3270.proofs.ReadsInput.{reads_input}
+use Rattle.world3270.proofs.SecondKeys.{Extras}
+use Rattle.world3270.proofs.Simulation.{Simulated, agrees_now, both_say, since_same}
+use Rattle.world3270.proofs.StillKept.{still_as_left, still_kept}
+
+module _ (given : Given) (app : Application) (is : IsApplication app) (lu : List ℕ) (t : Told) (s : Simulated app lu t) where
+  abbrev end : Link
+  end = s.told
+
+  abbrev now : Link
+  now = t.link
+
+  -- once the message is taken
+  abbrev taken_so : Bool → ToTerminal → TermStep → List ToTerminal → Told
+  taken_so is_bound message step rest = told_if is_bound message t (term_stepped (once_bound is_bound step now.term) rest now)
+
+  -- at a bound terminal
+  bound_now : is_bound end.term ≡ true → is_bound now.term ≡ true
+  bound_now bound = ap (λ (talk : Term). is_some (bound_to talk.talk.state)) s.simulates.talk ∙ bound
+
+  -- ---- what the host's talk says
+
+  abbrev replied_so : Option Cause → TermEnd → List ToHost → List ToTerminal → Link
+  replied_so closes term says rest = term_left_if closes (record now { down = rest; term = term; up = sent now.lost now.up says })
+
+  pub talked_still : (saying : Saying) (rest : List ToTerminal) → now.down ≡ ToTerminal.TalksDown saying ∷ rest
+      → Simulated app lu (told_if (is_bound now.term) (ToTerminal.TalksDown saying) t (term_stepped (talked now.term now.term.talk saying) rest now))
+  talked_still saying rest e =
+      let obeyed = obeys given app is end (ToTerminal.TalksDown saying) rest (sym s.simulates.down ∙ e) s.kept in
+      let step : TermStep = talked end.term end.term.talk saying in
+      let new : TermEnd = record now.term { talk = record now.term.talk { talk = step.end.talk.talk } } in
+      let goes : Simulated app lu (record t { link = replied_so None new step.sends rest }) =
+      record {
+        told = term_view step rest end;
+        kept = obeyed.kept;
+        agreed = s.agreed;
+        any = s.any;
+        unsure = s.unsure;
+        display = s.display;
+        waits = s.waits;
+        host_here = s.host_here;
+        term_here = s.term_here;
+        simulates = record {
+          host = s.simulates.host;
+          lost = s.simulates.lost;
+          down = refl;
+          talk = ap (λ (term : Term). record term { talk = step.end.talk.talk }) s.simulates.talk;
+          up = both_say end now step.sends s.simulates.lost s.simulates.up;
+          since = s.simulates.since;
+        };
+      } in
+      by_bound (is_bound now.term)
+      (subst (λ (talk : Term). Simulated app lu (record t { link = term_stepped (talked now.term talk saying) rest now })) (sym s.simulates.talk)
+      (subst (λ (closes : Option Cause). Simulated app lu (record t { link = replied_so closes new step.sends rest })) (sym obeyed.open_end) goes))
+    where
+      by_bound : (b : Bool) {link : Link} → Simulated app lu (record t { link = link }) → Simulated app lu (told_if b (ToTerminal.TalksDown saying) t link)
+      by_bound true goes = goes
+      by_bound false goes = goes
+
+  -- ---- a paint
+
+  -- a paint that leaves this screen
+  abbrev drawn_so : ℕ → WantedScreen → Screen → TermStep
+  drawn_so number wanted drawn = record {
+    end = record now.term {
+      display = record now.term.display {
+        shape = wanted.size;
+        screen = drawn;
+        keyboard = freed now.term.display.keyboard;
+        last_restored = drawn;
+        before_restored = now.term.display.screen;
+        erased = false;
+      };
+    };
+    sends = ToHost.Response number Verdict.Positive ∷ [];
+    closes = None;
+  }
+
+  pub painted_still : (number : ℕ) (wanted : WantedScreen) (over : Shadow) (rest : List ToTerminal) → now.down ≡ ToTerminal.Paint number wanted over ∷ rest
+      → Simulated app lu (taken_so (is_bound now.term) (ToTerminal.Paint number wanted over) (paint_executed number wanted over now.term) rest)
+  painted_still number wanted over rest e =
+      let comes = paint_comes app end number wanted over rest (sym s.simulates.down ∙ e) s.kept (agrees_now s) in
+      let says : List ToHost = ToHost.Response number Verdict.Positive ∷ [] in
+      let screen : Screen = now.term.display.screen in
+      let new : Screen = plainly_painted wanted screen in
+      let meets : Meets over screen = comes.fact.doubts s.any s.simulates.since.erased screen s.simulates.since.held in
+      let step : TermStep = paint_came number wanted (showing screen end.term) in
+      let kept : Kept app (view_of (term_view step rest end)) =
+      paints_on given app is end rest s.kept comes.lu number comes.command wanted over comes.at comes.fact comes.asked comes.left screen meets (λ waits. absurd (let wrong : false ≡ true = sym s.unsure ∙ waits in cc)) in
+      let cells : length wanted.cells ≡ cells_in wanted.size = comes.fact.paintable.showable.cells ∙ ap (λ (shape : Shape). cells_in shape) (sym comes.fact.paintable.showable.size) in
+      let goes : Simulated app lu (taken_so true (ToTerminal.Paint number wanted over) (paint_came number wanted now.term) rest) =
+      record {
+        told = term_view step rest end;
+        kept = kept;
+        agreed = s.agreed;
+        any = s.any;
+        unsure = s.unsure;
+        display = sym (ap (λ (d : Display). record d { shape = wanted.size; screen = new; keyboard = freed end.term.display.keyboard; last_restored = new; before_restored = screen; erased = false }) s.simulates.since.rest);
+        waits = refl;
+        host_here = s.host_here;
+        term_here = s.term_here;
+        simulates = record {
+          host = s.simulates.host;
+          lost = s.simulates.lost;
+          down = refl;
+          talk = s.simulates.talk;
+          up = both_say end now says s.simulates.lost s.simulates.up;
+          since = since_same given step.end.display (paint_came number wanted now.term).end.display
+              (ap (λ (d : Display). record d { shape = wanted.size; screen = new; keyboard = freed now.term.display.keyboard; last_restored = new; before_restored = screen; erased = false }) s.simulates.since.rest)
+              (subst (λ (size : ℕ). new.cursor < size) (sym kept.whole) kept.cursor);
+        };
+      } in
+      subst (λ (b : Bool). Simulated app lu (taken_so b (ToTerminal.Paint number wanted over) (paint_executed number wanted over now.term) rest)) (sym (bound_now (bound end s.kept.wanted comes.lu _ comes.at)))
+      (subst (λ (drawn : Screen). Simulated app lu (taken_so true (ToTerminal.Paint number wanted over) (drawn_so number wanted drawn) rest)) (sym (given.belief.painted over wanted screen cells comes.fact.paintable.fits meets)) goes)
+
+  -- ---- a Read Buffer
+
+  -- The screen as it is goes up, and the waiting terminal has it from then on: the host is told what was typed in the wait.
+  pub read_still : (number : ℕ) (rest : List ToTerminal) → now.down ≡ ToTerminal.ReadBuffer number ∷ rest
+      → Simulated app lu (taken_so (is_bound now.term) (ToTerminal.ReadBuffer number) (read_came now.term) rest)
+  read_still number rest e =
+      let comes = read_comes app end number rest (sym s.simulates.down ∙ e) s.kept (agrees_now s) in
+      let since = s.simulates.since in
+      let old : Screen = end.term.display.screen in
+      let screen : Screen = now.term.display.screen in
+      let erased : Bool = end.term.display.erased || since.erased in
+      let row : ℕ = message_place end.term.display.shape in
+      let heard_as : Screen = record screen { aid = old.aid } in
+      let same_shape : now.term.display.shape ≡ end.term.display.shape = ap (λ (d : Display). d.shape) since.rest in
+      let kept : Kept app (view_of (term_view (read_of screen erased end.term) rest end)) =
+      reads_on app end rest s.kept comes.same comes.lu comes.number comes.at comes.fact comes.shown comes.left screen erased
+      (since.held.same_length ∙ s.kept.whole)
+      (subst (λ (size : ℕ). screen.cursor < size) (since.held.same_length ∙ s.kept.whole) since.cursor)
+      (still_kept given.keys.round end.term.display.erased since.erased end.term.display.last_restored.cells old.cells screen.cells (s.kept.unreturned comes.fact.not_cleared) since.held)
+      (still_as_left given.keys.round since.erased row end.term.display.last_restored.cells old.cells screen.cells (s.kept.as_left comes.fact.not_cleared) since.held)
+      (reads_input given.keys.round given.belief.reads given.belief.doubt_input end.host.shape since.erased end.host.shadow old heard_as comes.fact.decides.sees.meets since.held) in
+      let said : ToHost = ToHost.Data (buffer_data end.term.display.shape screen) in
+      let same_aid : old.aid ≡ t.told.screen.aid = ap (λ (d : Display). d.screen.aid) s.display in
+      subst (λ (b : Bool). Simulated app lu (taken_so b (ToTerminal.ReadBuffer number) (read_came now.term) rest)) (sym (bound_now (bound end s.kept.wanted comes.lu _ comes.at)))
+      (record {
+        told = term_view (read_of screen erased end.term) rest end;
+        kept = kept;
+        agreed = s.agreed;
+        any = s.any;
+        unsure = s.unsure;
+        display = ap (λ (aid : Aid). record end.term.display { screen = record screen { aid = aid }; erased = erased }) same_aid
+            ∙ ap (λ (b : Bool). record end.term.display { screen = record screen { aid = t.told.screen.aid }; erased = b }) (sym since.erasing)
+            ∙ sym (ap (λ (d : Display). record d { screen = record screen { aid = t.told.screen.aid }; keyboard = end.term.display.keyboard }) since.rest);
+        waits = s.waits;
+        host_here = s.host_here;
+        term_here = s.term_here;
+        simulates = record {
+          host = s.simulates.host;
+          lost = s.simulates.lost;
+          down = refl;
+          talk = s.simulates.talk;
+          up = subst (λ (shape : Shape). Extras end.host.turn end.host.pending (sent end.lost end.up (said ∷ [])) (sent now.lost now.up (ToHost.Data (buffer_data shape screen) ∷ []))) (sym same_shape)
+              (both_say end now (said ∷ []) s.simulates.lost s.simulates.up);
+          since = record {
+            erased = false;
+            held = given.keys.at_first screen.cells;
+            rest = since.rest;
+            erasing = since.erasing ∙ sym (or_false erased);
+            same = λ free. absurd (free comes.fact.decides.lock);
+            cursor = since.cursor;
+          };
+        };
+      })
+
+  -- ---- a note
+
+  pub noted_still : (number : ℕ) (command : CommandParts) (rest : List ToTerminal) → now.down ≡ ToTerminal.Note number command ∷ rest
+      → Simulated app lu (taken_so (is_bound now.term) (ToTerminal.Note number command) (note_came number command now.term) rest)
+  noted_still number command rest e =
+      let down : end.down ≡ ToTerminal.Note number command ∷ rest = sym s.simulates.down ∙ e in
+      let comes = note_comes given app end number command rest down s.kept (agrees_now s) in
+      let bounds = given.notes.bounds command now.term.display.screen (given.notes.are_notes end.host.shape command (shape_of_model app end.term.display.model end.host.shape is s.kept.sizes.host) comes.note).note in
+      let says : List ToHost = ToHost.Response number Verdict.Positive ∷ [] in
+      let since = s.simulates.since in
+      subst (λ (b : Bool). Simulated app lu (taken_so b (ToTerminal.Note number command) (note_came number command now.term) rest)) (sym (bound_now comes.bound))
+      (record {
+        told = term_view (note_came number command end.term) rest end;
+        kept = subst (λ (bound : Bool). Kept app (view_of (term_view (once_bound bound (note_came number command end.term) end.term) rest end))) comes.bound
+            (obeys given app is end (ToTerminal.Note number command) rest down s.kept).kept;
+        agreed = s.agreed;
+        any = s.any;
+        unsure = s.unsure;
+        display = ap (λ (d : Display). record d { screen = after_command command d.screen }) s.display;
+        waits = s.waits;
+        host_here = s.host_here;
+        term_here = s.term_here;
+        simulates = record {
+          host = s.simulates.host;
+          lost = s.simulates.lost;
+          down = refl;
+          talk = s.simulates.talk;
+          up = both_say end now says s.simulates.lost s.simulates.up;
+          since = record {
+            erased = since.erased;
+            held = note_held given given.keys.round end.host.shape command since.erased end.term.display.screen now.term.display.screen
+                (shape_of_model app end.term.display.model end.host.shape is s.kept.sizes.host) comes.note (s.kept.whole ∙ ap (λ (shape : Shape). cells_in shape) comes.same) comes.takes since.held;
+            rest = ap (λ (d : Display). record d { screen = after_command command d.screen }) since.rest;
+            erasing = since.erasing;
+            same = λ free. ap (λ (d : Display). record d { screen = after_command command d.screen }) (since.same free);
+            cursor = subst (λ (at : ℕ). at < length (after_command command now.term.display.screen).cells) (sym bounds.cursor) (subst (λ (size : ℕ). now.term.display.screen.cursor < size) (sym bounds.size) since.cursor);
+          };
+        };
+      })

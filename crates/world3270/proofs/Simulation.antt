@@ -1,0 +1,113 @@
+-- For the host, a terminal that doesn't wait is one that does: beside each connection there is one at whose end a terminal waits, displays
+-- what was told, and which the host can't tell from it.
+use Rattle.std.proofs.Common.{◌≡◌, ◌<◌, ◌||◌, ℕ, Bool, true, false, List, Some, length, refl, ap, sym, subst, ◌∙◌}
+use Rattle.std.specs.Prelude.{is_some}
+use Rattle.datastream.specs.Held.{Held}
+use Rattle.keyboard.specs.declared.key.Lock.{Lock}
+use Rattle.keyboard.specs.declared.key.Lock.TheVariants.{Free, Wait, Error}
+use Rattle.host_core.specs.Application.{Application}
+use Rattle.host_core.specs.Messages.{ToHost}
+use Rattle.host_core.specs.Session.{agreed_lu, is_agreed}
+use Rattle.host_core.specs.Takes.{may_have_changed}
+use Rattle.tn3270e_msg.specs.declared.host_talk.HostState.{HostState}
+use Rattle.tn3270e_msg.specs.declared.host_talk.HostState.TheVariants.{Offered, Asked, Asking, Named, Countered, Agreed, Closed}
+use Rattle.world3270.specs.EveryTerminal.{Told}
+use Rattle.world3270.specs.Given.{Given}
+use Rattle.world3270.specs.Link.{Link, sent}
+use Rattle.world3270.specs.Stages.{Kept}
+use Rattle.world3270.specs.Terminal.{Display, TermEnd}
+use Rattle.world3270.specs.View.{view_of}
+use Rattle.world3270.proofs.Keys.{or_false}
+use Rattle.world3270.proofs.SecondKeys.{Extras, same_more}
+
+-- What is displayed at a terminal that doesn't wait differs from what one displays that does in input alone, and only while that one waits.
+pub record Since (told now : Display) : Type 0 where
+  pub erased : Bool
+  pub held : Held erased told.screen.cells now.screen.cells
+  pub rest : now ≡ record told { screen = now.screen; keyboard = now.keyboard; erased = now.erased }
+  pub erasing : now.erased ≡ (told.erased || erased)
+  pub same : (told.keyboard.lock ≡ Wait → ⊥) → now ≡ record told { keyboard = now.keyboard }
+  pub cursor : now.screen.cursor < length now.screen.cells
+
+-- both display the same
+pub since_same : Given → (told now : Display) → now ≡ record told { keyboard = now.keyboard } → now.screen.cursor < length now.screen.cells → Since told now
+since_same given told now is cursor = record {
+  erased = false;
+  held = subst (λ (d : Display). Held false told.screen.cells d.screen.cells) (sym is) (given.keys.at_first told.screen.cells);
+  rest = is ∙ ap (λ (d : Display). record told { screen = d.screen; keyboard = now.keyboard; erased = d.erased }) (sym is);
+  erasing = ap (λ (d : Display). d.erased) is ∙ sym (or_false told.erased);
+  same = λ free. is;
+  cursor = cursor;
+}
+
+-- `told`: the link of the terminal that waits
+pub record Simulates (told now : Link) : Type 0 where
+  pub host : now.host ≡ told.host
+  pub lost : now.lost ≡ told.lost
+  pub down : now.down ≡ told.down
+  pub talk : now.term.talk ≡ told.term.talk
+  pub up : Extras told.host.turn told.host.pending told.up now.up
+  pub since : Since told.term.display now.term.display
+
+abbrev pub is_waiting : Lock → Bool
+is_waiting Wait = true
+is_waiting Free = false
+is_waiting Error = false
+
+-- in a session of a host that doesn't rely on the wait
+pub record Simulated (app : Application) (lu : List ℕ) (t : Told) : Type 0 where
+  pub told : Link
+  pub kept : Kept app (view_of told)
+  pub agreed : agreed_lu told.host.talk.state ≡ Some lu
+  pub any : may_have_changed told.host.unheard ≡ true
+  pub unsure : told.term.waits ≡ false
+  pub display : told.term.display ≡ record t.told { keyboard = told.term.display.keyboard }
+  pub waits : t.waits ≡ is_waiting told.term.display.keyboard.lock
+  pub host_here : t.link.host_here ≡ true
+  pub term_here : is_some t.link.term_here ≡ true
+  pub simulates : Simulates told t.link
+
+-- where an LU was agreed on, both agreed
+has_agreed : (lu : List ℕ) (state : HostState) → agreed_lu state ≡ Some lu → is_agreed state ≡ true
+has_agreed lu (Agreed device granted) is = refl
+has_agreed lu Offered is = absurd (cc)
+has_agreed lu Asked is = absurd (cc)
+has_agreed lu (Asking device) is = absurd (cc)
+has_agreed lu (Named device granted) is = absurd (cc)
+has_agreed lu (Countered device granted) is = absurd (cc)
+has_agreed lu (Closed cause) is = absurd (cc)
+
+pub agrees_now : {app : Application} {lu : List ℕ} {t : Told} (s : Simulated app lu t) → is_agreed s.told.host.talk.state ≡ true
+agrees_now {app} {lu} s = has_agreed lu s.told.host.talk.state s.agreed
+
+-- What happens at the host's end, and on the way, leaves what is displayed. `end`: the waiting terminal's link then.
+pub still_simulated : (app : Application) (lu : List ℕ) (t : Told) (s : Simulated app lu t) (end link : Link) → end.term ≡ s.told.term → link.term ≡ t.link.term → link.term_here ≡ t.link.term_here → link.host_here ≡ t.link.host_here
+    → Kept app (view_of end) → end.host.talk ≡ s.told.host.talk → may_have_changed end.host.unheard ≡ true → link.host ≡ end.host → link.lost ≡ end.lost → link.down ≡ end.down
+    → Extras end.host.turn end.host.pending end.up link.up → Simulated app lu (record t { link = link })
+still_simulated app lu t s end link end_term link_term term_here host_here kept talk any host lost down up = record {
+  told = end;
+  kept = kept;
+  agreed = ap (λ talk. agreed_lu talk.state) talk ∙ s.agreed;
+  any = any;
+  unsure = ap (λ (term : TermEnd). term.waits) end_term ∙ s.unsure;
+  display = subst (λ (term : TermEnd). term.display ≡ record t.told { keyboard = term.display.keyboard }) (sym end_term) s.display;
+  waits = s.waits ∙ ap (λ (term : TermEnd). is_waiting term.display.keyboard.lock) (sym end_term);
+  host_here = host_here ∙ s.host_here;
+  term_here = ap is_some term_here ∙ s.term_here;
+  simulates = record {
+    host = host;
+    lost = lost;
+    down = down;
+    talk = ap (λ (term : TermEnd). term.talk) link_term ∙ s.simulates.talk ∙ ap (λ (term : TermEnd). term.talk) (sym end_term);
+    up = up;
+    since = subst (λ (term : TermEnd). Since term.display link.term.display) (sym end_term) (subst (λ (term : TermEnd). Since s.told.term.display term.display) (sym link_term) s.simulates.since);
+  };
+}
+
+-- both ends say this
+pub both_say : (end now : Link) (says : List ToHost) → now.lost ≡ end.lost → Extras end.host.turn end.host.pending end.up now.up → Extras end.host.turn end.host.pending (sent end.lost end.up says) (sent now.lost now.up says)
+both_say end now says lost up = subst (λ (l : Bool). Extras end.host.turn end.host.pending (sent end.lost end.up says) (sent l now.up says)) (sym lost) (by_lost end.lost)
+  where
+    by_lost : (lost : Bool) → Extras end.host.turn end.host.pending (sent lost end.up says) (sent lost now.up says)
+    by_lost true = up
+    by_lost false = same_more end.host.turn end.host.pending end.up now.up says up

@@ -1,0 +1,213 @@
+-- One connection of a host that serves any terminal, once the host has agreed on an LU, with a terminal that keeps the
+-- rules (our profile): what may happen on it, and what holds then. Other clients change the pool of LUs alone.
+use Rattle.std.specs.Prelude.{◌≡◌, ◌≢◌, ⊤, ◌||◌, ℕ, Bool, true, false, List, [], ◌∷◌, None, Some, if◌then◌else◌, is_some}
+use Rattle.codes3270.specs.Size.{cells_in}
+use Rattle.codes3270.specs.declared.attention.Aid.{Aid}
+use Rattle.codes3270.specs.declared.attention.Aid.TheVariants.{NoAid, Clear}
+use Rattle.datastream.specs.Meaning.{after_command}
+use Rattle.datastream.specs.Wanted.{WantedScreen}
+use Rattle.keyboard.specs.State.{freed}
+use Rattle.lu_pool.specs.Asking.{answer_to}
+use Rattle.lu_pool.specs.HolderLaws.{IsSound}
+use Rattle.lu_pool.specs.declared.entry.Entry.{Entry}
+use Rattle.shadow.specs.Belief.{Shadow}
+use Rattle.shadow.specs.Doubt.{doubted}
+use Rattle.shadow.specs.Paint.{paint}
+use Rattle.tn3270e_msg.specs.Device.{model_of}
+use Rattle.tn3270e_msg.specs.declared.device.Device.{Device}
+use Rattle.tn3270e_msg.specs.declared.host_talk.HostState.TheVariants.{Agreed as HostAgreed}
+use Rattle.host_core.specs.Acts.{acted}
+use Rattle.host_core.specs.Application.{Application, IsApplication}
+use Rattle.host_core.specs.Messages.{ToTerminal, ToHost, Verdict}
+use Rattle.host_core.specs.Notes.{IsNoteText, noted}
+use Rattle.host_core.specs.Questions.{answered_on, question_in}
+use Rattle.host_core.specs.Session.{agreed_lu, new_conn}
+use Rattle.host_core.specs.Takes.{took as host_took}
+use Rattle.host_core.specs.declared.question.Answer.{Answer as Said}
+use Rattle.host_core.specs.declared.question.Question.{Question}
+use Rattle.host_core.specs.declared.terminals.Terminals.TheVariants.{Any}
+use Rattle.world3270.specs.Asked.{AreFieldsAsked, IsSeen, ShowsItsFields}
+use Rattle.world3270.specs.Headline.{Agrees, IsHostsTurn, SeesTheScreen}
+use Rattle.world3270.specs.Link.{Link, cut, host_sent, host_stepped, term_stepped}
+use Rattle.world3270.specs.Placed.{is_queued}
+use Rattle.world3270.specs.Rules.{Binds, Operates}
+use Rattle.world3270.specs.Seen.{end_seen, seen_link}
+use Rattle.world3270.specs.Shown.{HasShown, IsPanelShown}
+use Rattle.world3270.specs.ShownFields.{WantsItsFields}
+use Rattle.world3270.specs.Terminal.{Display, TermEnd, TermStep, bound_to, is_bound, new_display, once_bound, took as term_took}
+
+-- ---- the connection, and the screen of which the host has data
+
+-- `told`: what the terminal displayed when the first key was pressed that sent data since the last paint; or what it
+-- displays, if none was. A Read Buffer's answer tells the whole screen as it is then, but the AID stays that key's.
+-- Notes are written over it too.
+-- `waits`: such a key was pressed, so that a 3278 would wait, as it does until the first paint. What the ends do
+-- doesn't depend on either.
+pub record Told : Type 0 where
+  pub link : Link
+  pub told : Display
+  pub waits : Bool
+
+-- ---- the terminal takes a message
+
+-- It executes the orders of a paint, whatever is on its screen (GA23-0059-07, "Buffer Control Orders and Order Codes").
+abbrev pub paint_executed : ℕ → WantedScreen → Shadow → TermEnd → TermStep
+paint_executed number wanted over end =
+    let screen = after_command (paint (cells_in wanted.size) over wanted) end.display.screen in
+    record {
+      end = record end {
+        display = record end.display {
+          shape = wanted.size;
+          screen = screen;
+          keyboard = freed end.display.keyboard;
+          last_restored = screen;
+          before_restored = end.display.screen;
+          erased = false;
+        };
+      };
+      sends = ToHost.Response number Verdict.Positive ∷ [];
+      closes = None;
+    }
+
+-- All else is as in a world: there a paint leaves the wanted screen at once, as it does on each screen that the host's
+-- belief allows.
+abbrev pub executed : TermEnd → ToTerminal → TermStep
+executed end (ToTerminal.Paint number wanted over) = once_bound (is_bound end) (paint_executed number wanted over end) end
+executed end (ToTerminal.TalksDown saying) = term_took end (ToTerminal.TalksDown saying)
+executed end (ToTerminal.ReadBuffer number) = term_took end (ToTerminal.ReadBuffer number)
+executed end (ToTerminal.Note number command) = term_took end (ToTerminal.Note number command)
+
+-- what the host was told, once a terminal that is bound has taken a message and displays this
+abbrev pub told_after : ToTerminal → (told now : Display) → Display
+told_after (ToTerminal.Paint number wanted over) told now = now
+told_after (ToTerminal.ReadBuffer number) told now = record now { screen = record now.screen { aid = told.screen.aid } }
+told_after (ToTerminal.Note number command) told now = record told { screen = after_command command told.screen }
+told_after (ToTerminal.TalksDown saying) told now = told
+
+-- a paint ends the wait
+abbrev pub waits_after : ToTerminal → Bool → Bool
+waits_after (ToTerminal.Paint number wanted over) waits = false
+waits_after (ToTerminal.ReadBuffer number) waits = waits
+waits_after (ToTerminal.Note number command) waits = waits
+waits_after (ToTerminal.TalksDown saying) waits = waits
+
+-- a terminal that isn't bound drops what it takes
+abbrev pub told_if : Bool → ToTerminal → Told → Link → Told
+told_if true message t link = record { link = link; told = told_after message t.told link.term.display; waits = waits_after message t.waits }
+told_if false message t link = record t { link = link }
+
+-- ---- what may happen
+
+-- The next message is delivered, up or down, while the pool is this; the host acts, is answered by the application, or
+-- sends a note; the operator does something; the connection is lost.
+pub data Move : Type 0 where
+  Up : (pool : List Entry) → Move
+  Down : Move
+  Act : Move
+  Answer : Said → Move
+  Note : List ℕ → Move
+  Operate : TermStep → Move
+  Lose : Move
+
+abbrev pub came_up : List Entry → List ToHost → Told → Told
+came_up pool [] t = t
+came_up pool (message ∷ rest) t = record t { link = host_stepped (host_took (answer_to pool) t.link.host message) rest t.link }
+
+abbrev pub came_down : List ToTerminal → Told → Told
+came_down [] t = t
+came_down (message ∷ rest) t = told_if (is_bound t.link.term) message t (term_stepped (executed t.link.term message) rest t.link)
+
+abbrev pub operated : TermStep → Told → Told
+operated step t = record {
+  link = term_stepped step t.link.down t.link;
+  told = if t.waits then t.told else step.end.display;
+  waits = t.waits || is_queued step.sends;
+}
+
+abbrev pub moved : Application → Move → Told → Told
+moved app (Move.Up pool) t = came_up pool t.link.up t
+moved app Move.Down t = came_down t.link.down t
+moved app Move.Act t = record t { link = host_sent (acted app t.link.host) t.link }
+moved app (Move.Answer said) t = record t { link = host_sent (answered_on app t.link.host said) t.link }
+moved app (Move.Note text) t = record t { link = host_sent (noted text t.link.host) t.link }
+moved app (Move.Operate step) t = operated step t
+moved app Move.Lose t = record t { link = cut t.link }
+
+abbrev pub after_moves : Application → List Move → Told → Told
+after_moves app [] t = t
+after_moves app (move ∷ moves) t = after_moves app moves (moved app move t)
+
+-- ---- by the rules
+
+-- the key that was pressed, if one was that sends
+abbrev pub key_pressed : {end : TermEnd} {step : TermStep} → Operates end step → Aid
+key_pressed (Operates.edits keyboard cells cursor erases held on is) = NoAid
+key_pressed (Operates.sends keyboard aid some is) = aid
+
+-- The pool is sound, what the operator does keeps the rules, and notes are texts. Clear isn't pressed in the wait: it
+-- nulls the screen, and the host closes if a command is on its way, since what it wrote by what it knew is lost.
+abbrev pub IsByTheRules : Move → Told → Type 0
+IsByTheRules (Move.Up pool) t = IsSound pool
+IsByTheRules (Move.Operate step) t = (does : Operates t.link.term step) × (t.waits ≡ true → key_pressed does ≢ Clear)
+IsByTheRules (Move.Note text) t = IsNoteText text
+IsByTheRules Move.Down t = ⊤
+IsByTheRules Move.Act t = ⊤
+IsByTheRules (Move.Answer said) t = ⊤
+IsByTheRules Move.Lose t = ⊤
+
+abbrev pub AreByTheRules : Application → List Move → Told → Type 0
+AreByTheRules app [] t = ⊤
+AreByTheRules app (move ∷ moves) t = IsByTheRules move t × AreByTheRules app moves (moved app move t)
+
+-- ---- agreement
+
+-- Both ends as they are once the host has agreed on this LU (RFC 1647, section 7): the host as at the begin of the
+-- connection, but for its talk; the terminal bound, or about to be, with a blank screen of the size at which each
+-- connection begins, and of the model of the type that it asked for, with -E or without. Which functions were asked
+-- for and countered is of no matter.
+pub record Begins (app : Application) (lu : List ℕ) (t : Told) : Type 0 where
+  pub device : Device
+  pub agreed : t.link.host.talk.state ≡ HostAgreed device lu
+  pub host : t.link.host ≡ record (new_conn Any app) { talk = t.link.host.talk }
+  pub binds : Binds lu t.link.term.talk.talk.state t.link.down
+  pub blank : t.link.term.display ≡ record (new_display (model_of device) app.begins) { keyboard = t.link.term.display.keyboard }
+  pub nothing_up : t.link.up ≡ []
+  pub host_here : t.link.host_here ≡ true
+  pub term_here : is_some t.link.term_here ≡ true
+  pub told : t.told ≡ t.link.term.display
+  pub waits : t.waits ≡ true
+
+-- ---- what holds
+
+-- the connection, with what was told in place of what is displayed
+abbrev pub told_link : Told → Link
+told_link t = record t.link { term = record t.link.term { display = t.told } }
+
+-- The headline, and what is asked and shown, of this connection:
+-- (a) A terminal that is bound to an LU is bound to the one that the host granted.
+-- (b) to (d) Whenever the host decides, the headline's three parts hold of what it was told. And of the screen as it
+-- is at that moment what the host believes is so, but for the characters and MDT of input fields: the attributes are
+-- where it believes them, and so is each protected character.
+-- An open question has the key, the cursor and the text of each field of its panel of what the host was told.
+-- Once a paint is answered, the screen that it left shows the panel, whatever was typed in the wait before it.
+-- Neither end has closed the connection by a cause.
+pub record RightOf (app : Application) (lu : List ℕ) (t : Told) : Type 0 where
+  pub granted : agreed_lu t.link.host.talk.state ≡ Some lu
+  pub bound : (mine : List ℕ) → bound_to t.link.term.talk.talk.state ≡ Some mine → mine ≡ lu
+  pub agrees : (turn : IsHostsTurn (seen_link (told_link t))) → Agrees turn.host turn.terminal
+  pub now : IsHostsTurn (seen_link t.link) → SeesTheScreen (doubted t.link.host.shadow) t.link.term.display.screen
+  pub asked : (number session : ℕ) (question : Question) → question_in app session t.link.host ≡ Some question
+      → IsSeen (app.fields question.panel) question (end_seen number (told_link t).term)
+  pub fields_asked : ShowsItsFields app → (session : ℕ) (question : Question) → question_in app session t.link.host ≡ Some question
+      → AreFieldsAsked (app.fields question.panel) question t.told.screen
+  pub shown : WantsItsFields app → HasShown t.link.host
+      → IsPanelShown app false t.link.host t.link.term.display.before_restored t.link.term.display.last_restored
+  pub host_here : t.link.host_here ≡ true
+  pub term_here : is_some t.link.term_here ≡ true
+
+-- ---- the theorem
+
+-- After all moves that keep the rules, in any order.
+abbrev pub EveryTerminal : Type 0
+EveryTerminal = (app : Application) (lu : List ℕ) (begin : Told) (moves : List Move) → IsApplication app → Begins app lu begin → AreByTheRules app moves begin
+    → RightOf app lu (after_moves app moves begin)

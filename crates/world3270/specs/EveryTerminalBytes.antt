@@ -1,0 +1,200 @@
+-- One connection over bytes, of a host that serves any terminal, once the host has agreed on an LU, with a terminal that keeps the rules
+-- (our profile): what may happen on it, in the words of the host's calls, and what holds then. Other clients do what they like.
+use Rattle.std.specs.Prelude.{◌≡◌, ◌≢◌, ◌<◌, ◌||◌, ℕ, Bool, true, false, List, [], ◌∷◌, ◌++◌, Some, drop, take, if◌then◌else◌}
+use Rattle.codes3270.specs.declared.attention.Aid.TheVariants.{Clear}
+use Rattle.lu_pool.specs.HolderLaws.{IsSound as IsSoundPool}
+use Rattle.panels.specs.Panel.{AreSound}
+use Rattle.telnet_wire.specs.Reading.{Rest}
+use Rattle.tn3270e_msg.specs.TermTable.{Term}
+use Rattle.tn3270e_msg.specs.declared.cause.Fed.{Fed}
+use Rattle.term_core.specs.State.{Attached}
+use Rattle.host_core.specs.Application.{Application, AreTexts, application_of}
+use Rattle.host_core.specs.Bytes.{Counter}
+use Rattle.host_core.specs.Does.{Does as HostDoes, DoesAnswer, acted_by, noted_by}
+use Rattle.host_core.specs.Feeds.{Feeds, IsOpen, counter_at, with_counter}
+use Rattle.host_core.specs.KeepAlive.{kept_alive}
+use Rattle.host_core.specs.Messages.{ToHost}
+use Rattle.host_core.specs.Notes.{IsNoteText}
+use Rattle.host_core.specs.Questions.{answered_by}
+use Rattle.host_core.specs.Sound.{IsSound, NobodyShares}
+use Rattle.host_core.specs.State.{Connection, Host, connection_at, lu_of, most_connections, service_at, session_at, with_connection}
+use Rattle.host_core.specs.declared.acted.Acted.{Acted}
+use Rattle.host_core.specs.declared.question.Answer.{Answer as Said}
+use Rattle.host_core.specs.declared.question.Ticket.{Ticket}
+use Rattle.world3270.specs.ByteWorld.{is_there}
+use Rattle.world3270.specs.EveryTerminal.{AreByTheRules, Begins, Move, RightOf, Told, after_moves, key_pressed}
+use Rattle.world3270.specs.Placed.{is_queued}
+use Rattle.world3270.specs.Readings.{AreReadAs, IsReadAs}
+use Rattle.world3270.specs.Rules.{Operates}
+use Rattle.world3270.specs.Sendable.{CanBeSent}
+use Rattle.world3270.specs.Standing.{conn_of, rest_of, with_out}
+use Rattle.world3270.specs.Stands.{ByteLink, LinkStandsBy, sized}
+use Rattle.world3270.specs.Terminal.{Display, TermEnd, TermStep}
+use Rattle.world3270.specs.TrackedTerminals.{TrackedTerminal, TrackedTakesByte}
+
+-- ---- the connection
+
+-- The host with all its connections; the bytes under way down, which it has handed over, and up; and the terminal, with the history of its
+-- screen. What the terminal has to send is under way. `waits`: a key was pressed that sent data since the terminal last took a write that
+-- restores the keyboard, so that a 3278 would wait. On a connection that is lost nothing more comes.
+pub record OverBytes : Type 0 where
+  pub host : Host
+  pub down : List ℕ
+  pub up : List ℕ
+  pub tracked : TrackedTerminal
+  pub waits : Bool
+
+-- ---- the terminal
+
+abbrev pub display_of : TrackedTerminal → Display
+display_of tracked = record {
+  model = tracked.terminal.station.screen.model;
+  shape = tracked.terminal.station.screen.size;
+  screen = tracked.terminal.station.screen.screen;
+  keyboard = tracked.terminal.station.keyboard;
+  last_restored = tracked.history.last_restored;
+  before_restored = tracked.history.before_restored;
+  erased = tracked.history.erased;
+}
+
+abbrev pub end_of : Term → TrackedTerminal → TermEnd
+end_of talk tracked = record { waits = false; talk = talk; display = display_of tracked }
+
+-- it displays this
+abbrev pub displaying : Display → TrackedTerminal → TrackedTerminal
+displaying display tracked = record {
+  terminal = record tracked.terminal { station = record tracked.terminal.station { screen = sized display; keyboard = display.keyboard } };
+  history = record { last_restored = display.last_restored; before_restored = display.before_restored; erased = display.erased };
+}
+
+-- It takes the next byte: what it makes of it is what RFC 1647 and GA23-0059-07 say, as ours does, and it sends whatever the host reads as it
+-- reads what ours sends.
+pub record Takes (old new : OverBytes) : Type 0 where
+  pub byte : ℕ
+  pub behind : List ℕ
+  pub next : old.down ≡ byte ∷ behind
+  pub ours : TrackedTerminal
+  pub takes : TrackedTakesByte old.tracked byte ours
+  pub bytes : List ℕ
+  pub alike : (messages : List ToHost) → AreReadAs ours.terminal.out messages → AreReadAs bytes messages
+  pub leaves : new ≡ record {
+    host = old.host;
+    down = behind;
+    up = old.up ++ bytes;
+    tracked = with_out [] ours;
+    waits = if ours.terminal.station.took_write then false else old.waits;
+  }
+
+-- Its operator does something by the rules, on a connection that it hasn't closed, and leaves characters that a terminal can store. Clear isn't
+-- pressed in the wait. What is sent is spelt as the terminal likes.
+pub record IsOperated (step : TermStep) (old new : OverBytes) : Type 0 where
+  pub rest : Rest
+  pub talk : Term
+  pub attached : old.tracked.terminal.link ≡ Attached rest talk
+  pub does : Operates (end_of talk old.tracked) step
+  pub not_clear : old.waits ≡ true → key_pressed does ≢ Clear
+  pub stored : CanBeSent step.end.display.shape step.end.display.screen
+  pub bytes : List ℕ
+  pub spelt : AreReadAs bytes step.sends
+  pub leaves : new ≡ record old {
+    up = old.up ++ bytes;
+    tracked = displaying step.end.display old.tracked;
+    waits = old.waits || is_queued step.sends;
+  }
+
+-- ---- what may happen
+
+abbrev pub with_host : Host → OverBytes → OverBytes
+with_host host old = record old { host = host }
+
+-- the connection with this number is this one
+abbrev pub on_connection : ℕ → Connection → OverBytes → OverBytes
+on_connection number connection old = with_host (with_connection number connection old.host) old
+
+-- Whatever happens on other connections leaves this one as it is.
+pub record IsElsewhere (number : ℕ) (old new : Host) : Type 0 where
+  pub panels : new.panels ≡ old.panels
+  pub stays : connection_at number new ≡ connection_at number old
+  pub pool : IsSoundPool new.pool
+
+-- Bytes that came up are fed to the host, which may stop before the last of them; it hands bytes over; it acts, is answered by the application, or
+-- sends a note, where memory may be refused; it keeps the connection alive; something happens elsewhere. The terminal takes a byte, or is operated.
+pub data Moves (app : Application) (number : ℕ) (old new : OverBytes) : Type 0 where
+  feeds : (bytes behind : List ℕ) (fed : Fed) (counter : Counter) → old.up ≡ bytes ++ behind → Feeds number (counter_at number old.host) bytes fed counter
+      → new ≡ record old { host = with_counter number counter old.host; up = drop fed.taken bytes ++ behind } → Moves app number old new
+  hands_over : (count : ℕ) → new ≡ record old {
+    host = with_connection number (record (connection_at number old.host) { out = drop count (connection_at number old.host).out }) old.host;
+    down = old.down ++ take count (connection_at number old.host).out;
+  } → Moves app number old new
+  acts : (did : Acted) (connection : Connection) → HostDoes (acted_by app (service_at number old.host)) (connection_at number old.host) did connection
+      → new ≡ on_connection number connection old → Moves app number old new
+  answers : (ticket : Ticket) (said : Said) (did : Acted) (connection : Connection) → AreTexts said.values
+      → DoesAnswer app said (answered_by app (session_at number old.host) ticket said (service_at number old.host)) (connection_at number old.host) did connection
+      → new ≡ on_connection number connection old → Moves app number old new
+  notes : (text : List ℕ) (did : Acted) (connection : Connection) → IsNoteText text
+      → HostDoes (noted_by text (service_at number old.host)) (connection_at number old.host) did connection
+      → new ≡ on_connection number connection old → Moves app number old new
+  keeps_alive : new ≡ on_connection number (kept_alive (connection_at number old.host)) old → Moves app number old new
+  elsewhere : (host : Host) → IsElsewhere number old.host host → new ≡ with_host host old → Moves app number old new
+  takes : Takes old new → Moves app number old new
+  operates : (step : TermStep) → IsOperated step old new → Moves app number old new
+
+-- what holds of each value of `Host`
+pub record IsHost (host : Host) : Type 0 where
+  pub sound : IsSound host
+  pub unshared : NobodyShares host
+
+-- Such moves lead from one state to the next, up to the last.
+abbrev pub LeadTo : Application → ℕ → List OverBytes → OverBytes → OverBytes → Type 0
+LeadTo app number [] old new = new ≡ old
+LeadTo app number (next ∷ others) old new = Moves app number old next × IsHost next.host × LeadTo app number others next new
+
+-- ---- what the bytes represent
+
+-- what the host has to send is under way, too
+abbrev pub link_over : ℕ → OverBytes → ByteLink
+link_over number bytes = record {
+  lost = false;
+  down = bytes.down ++ (connection_at number bytes.host).out;
+  up = bytes.up;
+  host_here = is_there (service_at number bytes.host);
+  host = conn_of (service_at number bytes.host);
+  host_rest = rest_of (service_at number bytes.host);
+  term_here = Some 0;
+  tracked = bytes.tracked;
+}
+
+-- Both ends are those of the connection over messages, and the bytes under way are its messages.
+pub record Represents (number : ℕ) (bytes : OverBytes) (told : Told) : Type 0 where
+  pub is_open : IsOpen (service_at number bytes.host)
+  pub stands : LinkStandsBy IsReadAs (link_over number bytes) told.link
+  pub waits : bytes.waits ≡ told.waits
+  pub unnamed : told.link.term.waits ≡ false
+  pub stored : CanBeSent told.link.term.display.shape told.link.term.display.screen
+
+-- Both ends as they are once the host has agreed on this LU. The sizes of the terminal's model are one: where a panel of another size is on its
+-- way, the host reads a second key that was pressed on the old screen by the new size.
+pub record BeginsOverBytes (app : Application) (number : ℕ) (lu : List ℕ) (bytes : OverBytes) : Type 0 where
+  pub begin : Told
+  pub begins : Begins app lu begin
+  pub represents : Represents number bytes begin
+  pub below : number < most_connections
+  pub is_host : IsHost bytes.host
+  pub pool : IsSoundPool bytes.host.pool
+  pub one_size : app.alternate begin.link.term.display.model ≡ app.begins
+
+-- ---- what holds
+
+-- The bytes represent the connection over messages after moves that keep the rules, and what the theorem over messages says is so: of the
+-- host's connection as it is and of the terminal's screen. The host has granted the LU to no other connection.
+pub record RightOverBytes (app : Application) (number : ℕ) (lu : List ℕ) (begin : Told) (bytes : OverBytes) : Type 0 where
+  pub moves : List Move
+  pub by_the_rules : AreByTheRules app moves begin
+  pub represents : Represents number bytes (after_moves app moves begin)
+  pub right : RightOf app lu (after_moves app moves begin)
+  pub alone : (other : ℕ) → lu_of (service_at other bytes.host) ≡ Some lu → other ≡ number
+
+-- After all such moves, in any order, of a host with sound panels.
+abbrev pub EveryTerminalOverBytes : Type 0
+EveryTerminalOverBytes = (number : ℕ) (lu : List ℕ) (old new : OverBytes) (states : List OverBytes) → let app = application_of old.host.panels in
+    AreSound old.host.panels → (begins : BeginsOverBytes app number lu old) → LeadTo app number states old new → RightOverBytes app number lu begins.begin new

@@ -1,0 +1,76 @@
+-- Which items a host reads as which messages (RFC 1647, sections 8.1 and 10.4; that it reads no more of a record is our profile), and what
+-- may come to it next.
+use Rattle.std.specs.Prelude.{◌≡◌, ◌⊎◌, ◌<◌, ⊤, ℕ, true, List, [], ◌∷◌}
+use Rattle.codes3270.specs.Size.{cells_in}
+use Rattle.datastream.specs.InboundText.{InboundParts, IsInbound}
+use Rattle.datastream.specs.declared.inbound_part.Form.TheVariants.{Modified}
+use Rattle.datastream.specs.declared.inbound_part.Part.{Part}
+use Rattle.datastream.specs.declared.inbound_part.Part.TheVariants.{At, Char, Attr}
+use Rattle.telnet_wire.specs.Items.{WireItem, Record}
+use Rattle.telnet_wire.specs.Reading.{nothing}
+use Rattle.tn3270e_msg.specs.Header.{Begins}
+use Rattle.tn3270e_msg.specs.Talk.{item_of}
+use Rattle.tn3270e_msg.specs.declared.header.DataType.TheVariants.{Data3270, Response}
+use Rattle.tn3270e_msg.specs.declared.header.Header.{Header}
+use Rattle.host_core.specs.Items.{may_be_second_key, verdict_of}
+use Rattle.host_core.specs.Messages.{ToHost, Verdict}
+use Rattle.host_core.specs.Session.{Conn}
+use Rattle.world3270.specs.Forms.{IsAwaitedBy}
+use Rattle.world3270.specs.Stands.{BytesStand, all_items}
+use Rattle.world3270.specs.StandsEnds.{IsSaid}
+
+-- ---- which items
+
+-- a record of data: its number, and whether it wants a response, are of no matter to the host
+pub record IsData (item : WireItem) (parts : InboundParts) : Type 0 where
+  pub bytes : List ℕ
+  pub header : Header
+  pub body : List ℕ
+  pub is_record : item ≡ Record bytes
+  pub begins : Begins bytes header body
+  pub kind : header.kind ≡ Data3270
+  pub inbound : IsInbound parts body
+
+-- a response to the command with this number, whatever code or sense is behind its header
+pub record IsResponse (item : WireItem) (number : ℕ) (verdict : Verdict) : Type 0 where
+  pub bytes : List ℕ
+  pub header : Header
+  pub body : List ℕ
+  pub is_record : item ≡ Record bytes
+  pub begins : Begins bytes header body
+  pub kind : header.kind ≡ Response
+  pub number_is : header.seq ≡ number
+  pub verdict_is : verdict_of header.flag ≡ verdict
+
+-- the host reads the item as this message
+abbrev pub IsReadAs : WireItem → ToHost → Type 0
+IsReadAs item (ToHost.TalksUp saying) = item ≡ item_of saying
+IsReadAs item (ToHost.Data parts) = IsData item parts
+IsReadAs item (ToHost.Response number verdict) = IsResponse item number verdict
+
+-- the bytes are whole items, which it reads as these messages
+abbrev pub AreReadAs : List ℕ → List ToHost → Type 0
+AreReadAs bytes messages = BytesStand all_items IsReadAs nothing bytes messages
+
+-- ---- what may come next
+
+-- no characters stand before the first address, as none do on a screen with fields
+abbrev pub HasNoLead : List Part → Type 0
+HasNoLead [] = ⊤
+HasNoLead (At address ∷ parts) = ⊤
+HasNoLead (Char char ∷ parts) = ⊥
+HasNoLead (Attr attr ∷ parts) = ⊥
+
+-- A second key's data while a read is pending: the host reads it as that only where it can't be the read's answer.
+pub record IsSecondKeyIn (conn : Conn) (parts : InboundParts) : Type 0 where
+  pub may_be : may_be_second_key conn ≡ true
+  pub form : parts.form ≡ Modified
+  pub size : parts.size ≡ conn.shape
+  pub some : 0 < cells_in conn.shape
+  pub no_lead : HasNoLead parts.parts
+
+-- LUs are named; data has the form and the size that the host awaits, or is a second key's
+abbrev pub MayComeUp : Conn → ToHost → Type 0
+MayComeUp conn (ToHost.TalksUp saying) = IsSaid saying
+MayComeUp conn (ToHost.Data parts) = IsAwaitedBy conn parts ⊎ IsSecondKeyIn conn parts
+MayComeUp conn (ToHost.Response number verdict) = ⊤
