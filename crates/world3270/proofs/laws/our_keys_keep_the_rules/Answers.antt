@@ -1,8 +1,0 @@
-use Rattle.world3270.proofs.KeyMoves.{keys_operate, impatient_keys_operate}
-use Rattle.world3270.proofs.laws.our_keys_keep_the_rules.Goals as goal
-
-pub returns : goal.returns
-returns c =
-    let ours = keys_operate c.keys_keep_what_was_left.ensures.leave c.keys_keep_what_was_left.ensures.on_screen c.sent_keys_wait.ensures.keeps c.sent_keys_wait.ensures.locked c.sent_keys_wait.ensures.sends
-    c.kept_since_the_write.ensures.at_first c.kept_since_the_write.ensures.erase_input in
-    record { ours = ours; impatient = impatient_keys_operate ours }
