@@ -60,7 +60,7 @@ AttributesAreThere =
     → slice_get panel.fields i ≡ Some field
     → slice_get (screen_of panel values message keep).cells (field.extent.first - 1) ≡ Some (want.Attr (field_attr values message keep field))
 
--- Where nothing is kept each cell of each field is written: with the field's content, and with nulls where that is shorter.
+-- Where nothing is kept each cell of each field is written: with the field's content, and with nulls after a content that is shorter.
 abbrev pub FieldsAreWritten : Type 0
 FieldsAreWritten =
     (panel : PanelParts) (values : Values) (message : Message) (i : ℕ) (field : Field) (cell : ℕ) → HasItemsApart panel → IsLaidOut panel

@@ -34,7 +34,7 @@ abbrev pub HaveNoStart : List Cell → ℕ → ℕ → Type 0
 HaveNoStart cells from to =
     (index : ℕ) → from ≤ index → index < to → place_of cells index + 1 < length cells → starts_at cells (place_of cells index + 1) ≡ false
 
--- the attribute with this index is the first, from one on, that has a start behind it, up to the last cell
+-- the attribute with this index is the first, from one on, that has a start after it, up to the last cell
 pub record IsFirstWithStart (cells : List Cell) (from index : ℕ) : Type 0 where
   pub after : from ≤ index
   pub listed : index < length (attribute_places cells 0)

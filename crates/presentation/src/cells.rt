@@ -253,7 +253,7 @@ pub(crate) fn is_start_first(cells: &ScreenCells) -> bool
     is_start_behind(before, cell)
 }
 
-/// The number of the first attribute from one on, by the list of attributes, that has a start behind it, up to the last cell.
+/// The number of the first attribute from one on, by the list of attributes, that has a start after it, up to the last cell.
 pub(crate) fn first_with_start(
     cells: &ScreenCells,
     attributes: &[u16],

@@ -37,7 +37,7 @@ StandsCompose {X} spoken Stands = (rest : Rest) (bytes : List ℕ) (messages mor
     → BytesStand spoken Stands rest bytes messages → AllByRecursion (CanCome record_limit) items → Pairwise Stands (spoken items) more
     → BytesStand spoken Stands rest (bytes ++ sent_bytes items) (messages ++ more)
 
--- So does one with whole items behind it, however they are spelt.
+-- So does one with whole items after it, however they are spelt.
 abbrev pub StandsJoin : {X : Type 0} → (List WireItem → List WireItem) → (WireItem → X → Type 0) → Type 0
 StandsJoin {X} spoken Stands = (rest : Rest) (bytes more : List ℕ) (messages others : List X)
     → BytesStand spoken Stands rest bytes messages → BytesStand spoken Stands nothing more others → BytesStand spoken Stands rest (bytes ++ more) (messages ++ others)
