@@ -15,11 +15,11 @@ use Rattle.tn3270e_msg.specs.declared.header.DataType.{DataType}
 use Rattle.tn3270e_msg.specs.declared.header.DataType.TheVariants.{Data3270, ScsData, Response, BindImage, Unbind, NvtData, Request, SscpLuData, Unnamed}
 use Rattle.host_core.specs.declared.after_record.AfterRecord.{AfterRecord}
 use Rattle.host_core.specs.declared.after_record.AfterRecord.TheVariants.{Closes}
-use Rattle.host_core.specs.Items.{IsNoSecondKey, IsOther, TakesData, may_be_second_key}
+use Rattle.host_core.specs.Items.{IsNoSecondKey, IsOther, TakesData, may_be_second_key, second_key_size}
 use Rattle.host_core.specs.Keeps.{IsKept, IsPlainWrite, pending_in, silent, step_of}
 use Rattle.host_core.specs.Parts.{IsWrite}
 use Rattle.host_core.specs.Session.{Conn, Pending}
-use Rattle.host_core.specs.Takes.{HostStep, believed, buffer_came, data_came, form_awaited, hears, once_read}
+use Rattle.host_core.specs.Takes.{HostStep, believed, buffer_came, data_came, form_awaited, hears, once_read, second_key}
 use Rattle.host_core.specs.declared.turn_reason.TurnReason.{TurnReason}
 use Rattle.host_core.specs.declared.pending.Pending.{Pending as Unanswered}
 use Rattle.host_core.specs.declared.pending.Pending.TheVariants as unanswered
@@ -84,9 +84,10 @@ pub of_data : (old new : Conn) (after : AfterRecord) (body : List ℕ) (form : F
     → step_of new after ≡ data_came parts old.turn old.pending old → TakesData old body (step_of new after)
 of_data old new after body form parts awaited read sized is came = TakesData.hears parts (read ∙ awaited) sized is came
 
-pub of_second_key : (old new : Conn) (after : AfterRecord) (body : List ℕ) (fault : InboundFault) (parts : InboundParts) → IsNoInbound old.shape (form_awaited old.pending) fault body
-    → may_be_second_key old ≡ true → parts.form ≡ Modified → parts.size ≡ old.shape → IsInbound parts body
-    → step_of new after ≡ data_came parts old.turn old.pending old → TakesData old body (step_of new after)
+pub of_second_key : (old new : Conn) (after : AfterRecord) (body : List ℕ) (fault : InboundFault) (parts : InboundParts)
+    → IsNoInbound old.shape (form_awaited old.pending) fault body → may_be_second_key old ≡ true
+    → parts.form ≡ Modified → parts.size ≡ second_key_size old old.pending → IsInbound parts body
+    → step_of new after ≡ second_key parts.aid old.pending old → TakesData old body (step_of new after)
 of_second_key old new after body fault parts wrong may form sized is came = TakesData.is_second_key fault parts wrong may form sized is came
 
 no_second_key : (may : Bool) (shape : Shape) (body : List ℕ) → may ≡ false → IsNoSecondKey may shape body
@@ -99,8 +100,9 @@ still_no_key false shape body fault wrong = tt
 
 pub of_no_key : (old : Conn) (body : List ℕ) (fault : InboundFault) → IsNoInbound old.shape (form_awaited old.pending) fault body → may_be_second_key old ≡ false
     → TakesData old body (step_of old (Closes BadInbound))
-of_no_key old body fault wrong may = TakesData.no_data fault wrong (no_second_key (may_be_second_key old) old.shape body may) refl
+of_no_key old body fault wrong may = TakesData.no_data fault wrong (no_second_key (may_be_second_key old) (second_key_size old old.pending) body may) refl
 
-pub of_no_data : (old : Conn) (body : List ℕ) (fault other : InboundFault) → IsNoInbound old.shape (form_awaited old.pending) fault body → IsNoInbound old.shape Modified other body
-    → TakesData old body (step_of old (Closes BadInbound))
-of_no_data old body fault other wrong no_key = TakesData.no_data fault wrong (still_no_key (may_be_second_key old) old.shape body other no_key) refl
+pub of_no_data : (old : Conn) (body : List ℕ) (fault other : InboundFault) → IsNoInbound old.shape (form_awaited old.pending) fault body
+    → IsNoInbound (second_key_size old old.pending) Modified other body → TakesData old body (step_of old (Closes BadInbound))
+of_no_data old body fault other wrong no_key =
+    TakesData.no_data fault wrong (still_no_key (may_be_second_key old) (second_key_size old old.pending) body other no_key) refl

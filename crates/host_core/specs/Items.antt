@@ -1,7 +1,7 @@
 -- What a host makes of what the stream hands out: options and subnegotiations (RFC 1647, section 7), and records (sections 8.1 and
 -- 10.4). That others are dropped, and the causes, are our profile.
 use Rattle.std.specs.Prelude.{◌≡◌, ◌==◌, ◌&&◌, ⊤, ℕ, Bool, true, false, List, if◌then◌else◌}
-use Rattle.codes3270.specs.Size.{Shape}
+use Rattle.codes3270.specs.Size.{Shape, alternate_of}
 use Rattle.datastream.specs.InboundText.{InboundParts, IsInbound, IsNoInbound}
 use Rattle.datastream.specs.declared.inbound_part.Form.TheVariants.{Modified}
 use Rattle.datastream.specs.declared.inbound_part.InboundFault.{InboundFault}
@@ -14,8 +14,8 @@ use Rattle.tn3270e_msg.specs.declared.header.HeadFault.{HeadFault}
 use Rattle.tn3270e_msg.specs.declared.header.DataType.{DataType}
 use Rattle.tn3270e_msg.specs.declared.header.DataType.TheVariants.{Data3270, Response}
 use Rattle.host_core.specs.Messages.{Verdict}
-use Rattle.host_core.specs.Session.{Conn, Pending, is_agreed}
-use Rattle.host_core.specs.Takes.{Answers, HostStep, quiet, closed_by, form_awaited, data_came, may_have_changed, response_came, talked}
+use Rattle.host_core.specs.Session.{Conn, Pending, is_agreed, model_in}
+use Rattle.host_core.specs.Takes.{Answers, HostStep, quiet, closed_by, form_awaited, data_came, may_have_changed, response_came, second_key, talked}
 
 -- what the flag of a response says
 abbrev pub verdict_of : ℕ → Verdict
@@ -27,27 +27,40 @@ IsOther Data3270 = ⊥
 IsOther Response = ⊥
 IsOther _ = ⊤
 
--- While a read is pending, data that isn't its answer may be a second key's, unless the host relies on the terminal's wait.
-abbrev pub is_read_pending : Pending → Bool
-is_read_pending Pending.Nothing = false
-is_read_pending (Pending.Writing number command) = false
-is_read_pending (Pending.Reading number) = true
-is_read_pending (Pending.Noting number command) = false
+-- While a paint or a read is pending, data that isn't in the form awaited may be a second key's, unless the host relies on the terminal's
+-- wait.
+abbrev pub is_paint_or_read : Pending → Bool
+is_paint_or_read Pending.Nothing = false
+is_paint_or_read (Pending.Writing number command) = true
+is_paint_or_read (Pending.Reading number) = true
+is_paint_or_read (Pending.Noting number command) = false
 
 abbrev pub may_be_second_key : Conn → Bool
-may_be_second_key conn = may_have_changed conn.unheard && is_read_pending conn.pending
+may_be_second_key conn = may_have_changed conn.unheard && is_paint_or_read conn.pending
+
+-- The size by which a second key's data is read. While a paint is pending, the key may have been pressed on the screen before it, of another
+-- size; the largest size of the terminal's model has the addresses of each. If none is pending, the terminal has answered each erase before
+-- it sent the data, and so its screen has the size that the last erase set.
+abbrev pub second_key_size : Conn → Pending → Shape
+second_key_size conn (Pending.Writing number command) = alternate_of (model_in conn)
+second_key_size conn Pending.Nothing = conn.shape
+second_key_size conn (Pending.Reading number) = conn.shape
+second_key_size conn (Pending.Noting number command) = conn.shape
 
 abbrev pub IsNoSecondKey : Bool → Shape → List ℕ → Type 0
 IsNoSecondKey false size body = ⊤
 IsNoSecondKey true size body = (fault : InboundFault) × IsNoInbound size Modified fault body
 
--- Data comes. It is read in the form that the host awaits, by the size of the terminal's screen.
+-- Data comes. It is read in the form that the host awaits, by the size of the terminal's screen; or else as a second key's, of which the AID
+-- alone counts.
 pub data TakesData (conn : Conn) (body : List ℕ) (step : HostStep) : Type 0 where
   hears : (parts : InboundParts) → parts.form ≡ form_awaited conn.pending → parts.size ≡ conn.shape → IsInbound parts body
       → step ≡ data_came parts conn.turn conn.pending conn → TakesData conn body step
-  is_second_key : (fault : InboundFault) (parts : InboundParts) → IsNoInbound conn.shape (form_awaited conn.pending) fault body → may_be_second_key conn ≡ true
-      → parts.form ≡ Modified → parts.size ≡ conn.shape → IsInbound parts body → step ≡ data_came parts conn.turn conn.pending conn → TakesData conn body step
-  no_data : (fault : InboundFault) → IsNoInbound conn.shape (form_awaited conn.pending) fault body → IsNoSecondKey (may_be_second_key conn) conn.shape body
+  is_second_key : (fault : InboundFault) (parts : InboundParts) → IsNoInbound conn.shape (form_awaited conn.pending) fault body
+      → may_be_second_key conn ≡ true → parts.form ≡ Modified → parts.size ≡ second_key_size conn conn.pending → IsInbound parts body
+      → step ≡ second_key parts.aid conn.pending conn → TakesData conn body step
+  no_data : (fault : InboundFault) → IsNoInbound conn.shape (form_awaited conn.pending) fault body
+      → IsNoSecondKey (may_be_second_key conn) (second_key_size conn conn.pending) body
       → step ≡ closed_by BadInbound conn → TakesData conn body step
 
 -- A record comes, once both ends agreed. Without a header the host closes; of a response the header counts alone; types other than it and

@@ -1,6 +1,6 @@
 ghost use Rattle.std.specs.Prelude.{◌≡◌, ℕ, List};
 ghost use Rattle.codes3270.specs.Size.{Shape};
-ghost use Rattle.host_core.specs.Items.{is_read_pending};
+ghost use Rattle.host_core.specs.Items.{is_paint_or_read};
 ghost use Rattle.host_core.specs.Keeps.{number_kept, pending_in};
 
 /// The command that isn't answered yet, with its number (our profile).
@@ -29,13 +29,13 @@ impl Pending {
         }
     }
 
-    /// Whether a read waits for its answer.
-    pub(crate) fn is_read(self) -> bool
-        ensures { (shape : Shape) (sent : List ℕ) → result ≡ is_read_pending (pending_in shape self sent) }
+    /// Whether a paint or a read waits for its answer.
+    pub(crate) fn is_paint_or_read(self) -> bool
+        ensures { (shape : Shape) (sent : List ℕ) → result ≡ is_paint_or_read (pending_in shape self sent) }
     {
         match self {
-            Pending::Reading(_) => true,
-            Pending::Nothing | Pending::Writing(_) | Pending::Noting(_) => false,
+            Pending::Writing(_) | Pending::Reading(_) => true,
+            Pending::Nothing | Pending::Noting(_) => false,
         }
     }
 }

@@ -10,7 +10,7 @@ ghost use Rattle.shadow.specs.Belief.{IsOfSize};
 ghost use Rattle.shadow.specs.Exactness.{is_erase};
 ghost use Rattle.shadow.specs.Stores.{is_plain};
 ghost use Rattle.tn3270e_msg.specs.Header.{header_length};
-ghost use Rattle.host_core.specs.Items.{IsNoSecondKey, TakesData, TakesRecord, is_read_pending, may_be_second_key, verdict_of};
+ghost use Rattle.host_core.specs.Items.{IsNoSecondKey, TakesData, TakesRecord, is_paint_or_read, may_be_second_key, second_key_size, verdict_of};
 ghost use Rattle.host_core.specs.Keeps.{IsPlainWrite, command_in, silent, step_of};
 ghost use Rattle.host_core.specs.Parts.{IsWrite, key_data_in_turn, write_of};
 ghost use Rattle.host_core.specs.Takes.{believed, buffer_came, data_came, form_awaited, hears, key_data_came, once_read, out_of_turn, second_key, refused, response_came, verdict_came};
@@ -97,11 +97,11 @@ impl Session {
         }
     }
 
-    /// Whether data that isn't the answer to a read may be a second key's.
+    /// Whether data that can't be read in the form that is awaited may be a second key's.
     fn may_be_second_key(&self) -> bool
         ensures { result ≡ may_be_second_key self.now }
     {
-        self.unheard.may_have_changed() && self.pending.is_read()
+        self.unheard.may_have_changed() && self.pending.is_paint_or_read()
     }
 
     /// Takes data that can't be read in the form that is awaited.
@@ -115,8 +115,8 @@ impl Session {
         if !self.may_be_second_key() {
             return AfterRecord::Closes(Cause::BadInbound);
         }
-        match read_inbound(body, Form::Modified, self.size()) {
-            Ok(inbound) => self.hear(&inbound),
+        match read_inbound(body, Form::Modified, self.second_key_size()) {
+            Ok(inbound) => self.drop_key(inbound.aid()),
             Err(_) => AfterRecord::Closes(Cause::BadInbound),
         }
     }
@@ -126,6 +126,16 @@ impl Session {
         ensures { result ≡ self.now.shape }
     {
         self.size
+    }
+
+    /// The size by which a second key's data is read. While a paint is pending, the key may have been pressed on a larger screen.
+    fn second_key_size(&self) -> Size
+        ensures { result ≡ second_key_size self.now self.now.pending }
+    {
+        match self.pending {
+            Pending::Writing(_) => self.shown_model().alternate(),
+            Pending::Nothing | Pending::Reading(_) | Pending::Noting(_) => self.size,
+        }
     }
 
     /// The form in which data is read.

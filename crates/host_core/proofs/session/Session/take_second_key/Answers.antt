@@ -1,7 +1,9 @@
-use Rattle.std.proofs.Common.{subst, sym, ◌∙◌}
+use Rattle.std.proofs.Common.{ap, subst, sym, ◌∙◌}
 use Rattle.codes3270.specs.Size.{Shape}
+use Rattle.codes3270.specs.declared.attention.Aid.{Aid}
 use Rattle.datastream.specs.InboundText.{IsNoInbound}
 use Rattle.datastream.specs.declared.inbound_part.Form.TheVariants.{Modified}
+use Rattle.host_core.specs.Takes.{second_key}
 use Rattle.host_core.proofs.RecordsTaken.{of_no_data, of_no_key, of_second_key}
 use Rattle.host_core.proofs.session.Session.take_second_key.Goals as goal
 
@@ -11,10 +13,12 @@ returns-then-not-may_be_second_key-clause-taken c =
 
 pub returns-in-Ok-clause-taken : goal.returns-in-Ok-clause-taken
 returns-in-Ok-clause-taken c =
-    of_second_key c.args.self.now c.hear.new.self c.hear.result c.args.body.now c.requires.0 c.in-Ok.inbound c.requires.1 (sym c.may_be_second_key.ensures ∙ c.if-not-may_be_second_key.false)
-    c.in-Ok.ensures.found.0 (c.in-Ok.ensures.found.1 ∙ c.size.ensures) c.in-Ok.ensures.found.2 c.hear.ensures.came
+    of_second_key c.args.self.now c.drop_key.new.self c.drop_key.result c.args.body.now c.requires.0 c.in-Ok.inbound c.requires.1
+    (sym c.may_be_second_key.ensures ∙ c.if-not-may_be_second_key.false) c.in-Ok.ensures.found.0
+    (c.in-Ok.ensures.found.1 ∙ c.second_key_size.ensures) c.in-Ok.ensures.found.2
+    (c.drop_key.ensures.came ∙ ap (λ (aid : Aid). second_key aid c.args.self.now.pending c.args.self.now) c.aid.ensures.aid)
 
 pub returns-in-Err-clause-taken : goal.returns-in-Err-clause-taken
 returns-in-Err-clause-taken c =
     of_no_data c.args.self.now c.args.body.now c.requires.0 c.in-Err.field-0 c.requires.1
-    (subst (λ (size : Shape). IsNoInbound size Modified c.in-Err.field-0 c.args.body.now) c.size.ensures c.in-Err.ensures.found)
+    (subst (λ (size : Shape). IsNoInbound size Modified c.in-Err.field-0 c.args.body.now) c.second_key_size.ensures c.in-Err.ensures.found)
