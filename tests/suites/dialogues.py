@@ -66,6 +66,8 @@ class Terminal(Subject):
     stops WHY            going, or closed CAUSE
     says BYTES           the terminal's output is these; they are sent
     silent               the terminal has no output
+    waiting              what output there is isn't sent, and waits
+    answers BYTES        the output behind what waits is these; they wait, too
     key NAME [OUTCOME]   the key is pressed: done (said of none), sends AID, or refused REFUSAL; one character is its key
     type TEXT            the key of each character is pressed, and is done
     lost [BYTES]         the connection is lost before these were sent
@@ -84,6 +86,7 @@ class Terminal(Subject):
     def __init__(self, probe: Probe, holding: int) -> None:
         super().__init__(probe)
         self.cut, self.cuts, self.behind, self.fed = holding, 1, b"", "0 going"
+        self.waits = "out -"
         probe.ask("new 2")
 
     def hear(self, data: bytes) -> None:
@@ -133,6 +136,14 @@ class Terminal(Subject):
     def do_silent(self, words: str) -> None:
         self.none(words)
         self.do_says("")
+
+    def do_waiting(self, words: str) -> None:
+        self.none(words)
+        (self.waits,) = self.ask("out")
+
+    def do_answers(self, words: str) -> None:
+        self.waits = f"{self.waits.removesuffix('-')}{spelt(self.line.data(words))}"
+        self.expect([self.waits], self.ask("out"))
 
     def do_key(self, words: str) -> None:
         name, _, outcome = words.partition(" ")
