@@ -1,7 +1,7 @@
-/* Fails one allocation of a program that is run with this library preloaded: the one with the number
-   GROWTH, from 1 on, of those between the lines `begin` and `end` that the program writes to standard
-   error; if WHOLE is set, of all. At each `end`, or at the program's end, it prints their number so
-   far. */
+/* Fails one allocation of a program that is run with this library preloaded: the one with the
+   number GROWTH, from 1 on, of those between the lines `begin` and `end` that the program writes to
+   standard error; if WHOLE is set, of all. At each `end`, or at the program's end, it prints their
+   number so far. */
 #include <errno.h>
 #include <stdio.h>
 #include <stdlib.h>

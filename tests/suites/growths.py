@@ -1,10 +1,10 @@
-"""Calls whose growths of memory are refused, one a run: the first, the second, and so on until a run meets no refusal:
-tests/cases/*.growths.
+"""Calls whose growths of memory are refused, one a run: the first, the second, and so on until a
+run meets no refusal: tests/cases/*.growths.
 
-tests/harness/refuse.c, which is preloaded, refuses the growth. If the call then answers want of memory,
-what is to be seen must be as before the call, or as after the bytes or events that it took; once it is made again,
-and all goes on, as if nothing was refused. A call may get over a refusal and be done. A file has these blocks,
-without blank lines and comments:
+tests/harness/refuse.c, which is preloaded, refuses the growth. If the call then answers want of
+memory, what is to be seen must be as before the call, or as after the bytes or events that it took;
+once it is made again, and all goes on, as if nothing was refused. A call may get over a refusal and
+be done. A file has these blocks, without blank lines and comments:
 
     steps NAME         begins commands that `play NAME` repeats
     call NAME          begins a case
@@ -13,14 +13,15 @@ without blank lines and comments:
     ! COMMAND          the call
     = LINE             the first line that it answers; - if there is none
     meets none         the call meets no growth
-    taken COMMAND      if memory is refused to the call, it stands as after this command, and not as before
+    taken COMMAND      if memory is refused to the call, it stands as after this command, and not as
+                       before
     + COMMAND          what goes on after the call
     look COMMAND       shows what is to be seen; with ` = LINE` behind it, this line first once the
                        call is done, whose bytes may be spelt as in a file of rows
-    whole SUITE NAME   a case of the suite, in which each growth of memory in its calls is refused in
-                       a run of its own, and each call that was refused memory is repeated: it must
-                       pass. A dialogue with a terminal is a case for each cut; from the refused call
-                       on a twin, which is refused nothing, must look the same
+    whole SUITE NAME   a case of the suite, in which each growth of memory in its calls is refused
+                       in a run of its own, and each call that was refused memory is repeated: it
+                       must pass. A dialogue with a terminal is a case for each cut; from the
+                       refused call on a twin, which is refused nothing, must look the same
 """
 import dataclasses
 import functools
@@ -40,7 +41,23 @@ from suites import dialogues, worlds
 PARTS = 4
 LONG = True
 # What has no call that could be refused memory, or grows but the probe's own memory.
-UNMARKED = {"|", "list", "say", "plug", "see", "state", "states", "host", "terminal", "left", "queued", "out", "sent", "lines", "text"}
+UNMARKED = {
+    "|",
+    "list",
+    "say",
+    "plug",
+    "see",
+    "state",
+    "states",
+    "host",
+    "terminal",
+    "left",
+    "queued",
+    "out",
+    "sent",
+    "lines",
+    "text",
+}
 FEED = re.compile(r"(feed)((?: \d+)?) (.+)")
 NO_MEMORY = "the probe no memory"
 
@@ -64,14 +81,17 @@ def first_plain(answer: list[str]) -> list[str]:
 
 
 class NotCalled(Exception):
-    """The probe itself was refused memory, for what it reads or prints: the library wasn't called."""
+    """The probe itself was refused memory, for what it reads or prints: the library wasn't
+    called."""
 
 
 class Refusing(Probe):
     """A probe to which one growth of memory is refused, of those in commands that are marked."""
 
     def __init__(self, subject: str, growth: int) -> None:
-        super().__init__(subject, {**os.environ, "LD_PRELOAD": str(library()), "GROWTH": str(growth)})
+        super().__init__(
+            subject, {**os.environ, "LD_PRELOAD": str(library()), "GROWTH": str(growth)}
+        )
 
     def call(self, command: str, line: Line | None = None) -> list[str]:
         """Makes a marked call."""
@@ -135,8 +155,9 @@ class Repeating(Refusing):
 
 
 class Twinned(Repeating):
-    """A terminal whose calls are repeated. A twin, which is refused nothing, takes the same from the
-    call on that was refused memory; they must look the same at the refusal and after each call."""
+    """A terminal whose calls are repeated. A twin, which is refused nothing, takes the same from
+    the call on that was refused memory; they must look the same at the refusal and after each
+    call."""
 
     def __init__(self, subject: str, growth: int) -> None:
         super().__init__(subject, growth)
@@ -251,7 +272,8 @@ class Call:
         return self.look(probe)
 
     def partly(self, answer: str) -> list[str]:
-        """What is to be seen after the bytes or events that a call took, which was refused memory then."""
+        """What is to be seen after the bytes or events that a call took, which was refused memory
+        then."""
         with self.begin(0) as probe:
             if self.taken:
                 probe.ask(self.taken)
@@ -264,7 +286,9 @@ class Call:
             return self.look(probe)
 
     def events(self) -> list[str]:
-        return [line.text.removeprefix("list ") for line in self.before if line.text.startswith("list ")]
+        return [
+            line.text.removeprefix("list ") for line in self.before if line.text.startswith("list ")
+        ]
 
     def after_events(self, whole: int, part: int) -> list[str]:
         """What is to be seen after so many whole events. No delivery is refused in its midst."""
@@ -289,7 +313,8 @@ class Call:
         taken = int(answer.split()[0]) if fed and answer != "memory" else 0
         if not taken:
             return first_plain(probe.ask(self.call))
-        count, _, stop = plain(probe.ask(f"{fed[1]}{fed[2]} {spelt(self.head.data(fed[3])[taken:])}")[0]).partition(" ")
+        rest = spelt(self.head.data(fed[3])[taken:])
+        count, _, stop = plain(probe.ask(f"{fed[1]}{fed[2]} {rest}")[0]).partition(" ")
         return [f"{taken + int(count)} {stop}"]
 
     def run(self) -> None:
@@ -303,10 +328,14 @@ class Call:
             done = self.look(probe)
             end = self.finish(probe)
             count = probe.met()
-        refused = sum(self.refuse(growth, before, wanted, done, end) for growth in range(1, count + 1))
+        refused = sum(
+            self.refuse(growth, before, wanted, done, end) for growth in range(1, count + 1)
+        )
         same(self.meets_none, refused == 0)
 
-    def refuse(self, growth: int, before: list[str], wanted: list[str], done: list[str], end: list[str]) -> bool:
+    def refuse(
+        self, growth: int, before: list[str], wanted: list[str], done: list[str], end: list[str]
+    ) -> bool:
         """Refuses a growth. Whether it was refused to the call, and not to the probe itself."""
         with self.begin(growth) as probe:
             same([f"growth {growth}", *before], [f"growth {growth}", *self.look(probe)])
@@ -317,16 +346,23 @@ class Call:
             if answer != wanted:
                 self.stands(probe, growth, first(answer), wanted, before)
             same([f"growth {growth}, done", *done], [f"growth {growth}, done", *self.look(probe)])
-            same([f"growth {growth}, at the end", *end], [f"growth {growth}, at the end", *self.finish(probe)])
+            same(
+                [f"growth {growth}, at the end", *end],
+                [f"growth {growth}, at the end", *self.finish(probe)],
+            )
             return True
 
-    def stands(self, probe: Refusing, growth: int, answer: str, wanted: list[str], before: list[str]) -> None:
+    def stands(
+        self, probe: Refusing, growth: int, answer: str, wanted: list[str], before: list[str]
+    ) -> None:
         """A call was refused memory. It stands as it should, and does all when it is made again."""
         if self.call != "run" and not re.search("memory|AllocError", answer):
             raise Difference(wanted, f"growth {growth}: {answer}")
         is_part = self.taken or self.call == "run" or re.fullmatch(r"\d+ memory", answer)
         stand = self.partly(answer) if is_part else before
-        same([f"growth {growth}, refused", *stand], [f"growth {growth}, refused", *self.look(probe)])
+        same(
+            [f"growth {growth}, refused", *stand], [f"growth {growth}, refused", *self.look(probe)]
+        )
         same(wanted, self.repeat(probe, answer))
 
 
@@ -372,16 +408,25 @@ def whole_worlds(name: str) -> Iterator[tuple[str, Run]]:
     panels, found = worlds.scripts()
     for script in found:
         if script.name == name:
-            yield name, lambda probe, script=script: worlds.run(lambda: [probe("world") for _ in range(3)], panels, script)
+            yield name, lambda probe, script=script: worlds.run(
+                lambda: [probe("world") for _ in range(3)], panels, script
+            )
+
+
+def held(dialogue: dialogues.Dialogue, cut: int, probe: Callable[[str], Probe]) -> None:
+    dialogues.hold_once(probe("terminal"), dialogue, cut)
 
 
 def whole_dialogues(name: str) -> Iterator[tuple[str, Run]]:
     """A dialogue with a terminal, with each cut."""
     for dialogue in dialogues.dialogues():
         if (dialogue.subject, dialogue.name) == ("terminal", name):
-            cuts = [len(line.data(line.text[4:])) - 1 for line in dialogue.body if line.text.startswith("cut ")]
+            cuts = [
+                len(line.data(line.text[4:])) - 1
+                for line in dialogue.body if line.text.startswith("cut ")
+            ]
             for cut in range(1, max(cuts, default=1) + 1):
-                yield f"{name}, cut {cut}", lambda probe, dialogue=dialogue, cut=cut: dialogues.hold_once(probe("terminal"), dialogue, cut)
+                yield f"{name}, cut {cut}", functools.partial(held, dialogue, cut)
 
 
 def whole_cases(line: Line, words: str) -> list[Case]:
@@ -390,7 +435,9 @@ def whole_cases(line: Line, words: str) -> list[Case]:
     if suite not in kinds:
         raise line.bad("needs dialogues or worlds")
     find, kind = kinds[suite]
-    made = [Case(f"whole: {of}", line.at, functools.partial(whole, kind, run)) for of, run in find(name)]
+    made = [
+        Case(f"whole: {of}", line.at, functools.partial(whole, kind, run)) for of, run in find(name)
+    ]
     if not made:
         raise line.bad("needs a case of that suite")
     return made
