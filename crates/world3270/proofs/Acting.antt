@@ -144,7 +144,7 @@ paintable : Given → (app : Application) → IsApplication app → (link : Link
 paintable given app is link panel message keep values = (given.belief.fit app link.host (Act.Show panel message keep values) is).0
 
 -- the model that the host knows is the terminal's
-model_here : (link : Link) (lu : List ℕ) → IsAgreed link.term.display.model lu link.host.talk → model_in link.host ≡ link.term.display.model
+pub model_here : (link : Link) (lu : List ℕ) → IsAgreed link.term.display.model lu link.host.talk → model_in link.host ≡ link.term.display.model
 model_here link lu talks = ap (λ (state : HostState). unwrap_or (model_asked state) M2) talks.state_is ∙ talks.model_is
 
 -- so what is shown has a size that the terminal may have

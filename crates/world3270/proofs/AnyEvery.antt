@@ -43,10 +43,9 @@ use Rattle.world3270.proofs.StandsLinks.{host_sends, nop_stands, up_stands}
 
 -- ---- what is asked of the queue
 
--- Some property of what comes up holds at agreement, on a terminal whose sizes are one; all typed moves that keep the rules keep it; and by it what
--- comes up next may come.
+-- Some property of what comes up holds at agreement; all typed moves that keep the rules keep it; and by it what comes up next may come.
 pub record QueueIsKept (app : Application) (lu : List ℕ) (Queued : Told → Type 0) : Type 0 where
-  pub begins : (t : Told) → Begins app lu t → t.link.lost ≡ false → app.alternate t.link.term.display.model ≡ app.begins → Queued t
+  pub begins : (t : Told) → Begins app lu t → t.link.lost ≡ false → Queued t
   pub goes_on : (move : Move) (t : Told) → Simulated app lu t → IsTexts t → Queued t → IsByTheRules move t → IsTypedMove move → Queued (moved app move t)
   pub comes_up : (t : Told) → Simulated app lu t → IsTexts t → Queued t → (message : ToHost) (others : List ToHost) → t.link.up ≡ message ∷ others → MayComeUp t.link.host message
 
@@ -164,7 +163,7 @@ module _ (laws : AnyLaws) (app : Application) (is : IsApplication app) (asks : A
       let good : Good b.begin = record {
         simulated = begins_simulated laws.given app is lu b.begin b.begins;
         texts = begins_texts app is lu b.begin b.begins;
-        queued = queue.begins b.begin b.begins (sym b.represents.stands.lost) b.one_size;
+        queued = queue.begins b.begin b.begins (sym b.represents.stands.lost);
       } in
       let below : number < length old.host.connections = subst (λ (n : ℕ). number < n) (sym b.is_host.sound.connections) b.below in
       let goes = all_moves laws.takes laws.hears app Good good_is_kept number states old new b.begin b.below good b.represents (record { below = below; pool = b.pool }) lead in

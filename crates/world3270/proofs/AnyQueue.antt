@@ -1,12 +1,13 @@
 -- What comes up next to the host of a terminal that keeps the rules may come: it is what the waiting terminal says, or a second key, of the size
--- that the connection has. What is still asked for is that a second key's data can't be taken for a read's answer (`LeadsAreKept`).
-use Rattle.std.proofs.Common.{◌≡◌, ◌⊎◌, inl, inr, ◌<◌, ◌&&◌, ℕ, Bool, true, false, Option, None, Some, List, [], ◌∷◌, refl, ap, sym, subst, ◌∙◌, if◌then◌else◌}
+-- by which the host reads it. What is still asked for is that a second key's data can't be taken for a read's answer (`LeadsAreKept`).
+use Rattle.std.proofs.Common.{◌≡◌, ◌⊎◌, inl, inr, ◌<◌, ◌&&◌, ◌≤◌, ◌++◌, ℕ, Bool, true, false, Option, None, Some, List, [], ◌∷◌, arith, map, refl, ap, sym, subst, ◌∙◌, if◌then◌else◌}
 use Rattle.std.specs.Prelude.{⊤, All}
 use Rattle.std.proofs.lemmas.List.Elements.{All-cons, All-head, All-map, All-nil, All-tail}
-use Rattle.codes3270.specs.Size.{Shape, cells_in}
+use Rattle.codes3270.specs.Size.{Shape, alternate_of, cells_in, model_2}
 use Rattle.codes3270.specs.declared.attention.Aid.{Aid}
 use Rattle.codes3270.specs.declared.size.Model.{Model}
-use Rattle.datastream.specs.InboundFields.{lead_of, parts_of_fields, returned_of}
+use Rattle.codes3270.specs.declared.size.Model.TheVariants.{M2, M3, M4, M5}
+use Rattle.datastream.specs.InboundFields.{buffer_data, lead_of, parts_of_fields, returned_of}
 use Rattle.datastream.specs.InboundText.{InboundParts, stands_alone}
 use Rattle.datastream.specs.Screen.{Screen}
 use Rattle.datastream.specs.declared.inbound_part.Form.TheVariants.{Buffer, Modified}
@@ -15,34 +16,43 @@ use Rattle.lu_pool.specs.Asking.{answer_to}
 use Rattle.lu_pool.specs.declared.entry.Entry.{Entry}
 use Rattle.tn3270e_msg.specs.Talk.{Saying}
 use Rattle.tn3270e_msg.specs.declared.cause.Cause.{Cause}
-use Rattle.host_core.specs.Acts.{Sent, acted}
+use Rattle.host_core.specs.Acts.{Act, Decision, Sent, acted, decided, decision_on, done, may_act}
 use Rattle.host_core.specs.Application.{Application, IsApplication, IsSizeOf, application_of}
-use Rattle.host_core.specs.Items.{is_read_pending}
+use Rattle.host_core.specs.Items.{is_paint_or_read, second_key_size}
 use Rattle.host_core.specs.Messages.{ToHost, ToTerminal, Verdict}
-use Rattle.host_core.specs.Notes.{noted}
-use Rattle.host_core.specs.Questions.{answered_on}
-use Rattle.host_core.specs.Session.{Conn, Pending}
-use Rattle.host_core.specs.Takes.{HostStep, form_awaited, may_have_changed, took as host_took}
+use Rattle.host_core.specs.Notes.{may_note, noted, noted_as}
+use Rattle.host_core.specs.Questions.{act_by, answered_on, has_its_panel, is_ask}
+use Rattle.host_core.specs.Session.{Conn, Pending, is_agreed, model_in}
+use Rattle.host_core.specs.Takes.{Answers, HostStep, dropping, form_awaited, may_have_changed, took as host_took}
+use Rattle.host_core.specs.declared.question.Answer.{Answer as Said}
+use Rattle.host_core.specs.declared.turn.Turn.{Turn}
+use Rattle.host_core.specs.declared.turn.Turn.TheVariants as whose
 use Rattle.world3270.specs.EveryTerminal.{Begins, IsByTheRules, Move, Told, came_down, came_up, moved}
 use Rattle.world3270.specs.EveryTerminalBytes.{EveryTerminalOverBytes}
 use Rattle.world3270.specs.Forms.{IsAwaitedBy}
 use Rattle.world3270.specs.Given.{Given}
 use Rattle.world3270.specs.Link.{Link, host_left_if, host_sent, sent, term_left_if}
-use Rattle.world3270.specs.Moments.{IsAt, Moment, Serving, Talking, UnderWay, served_up, talk_up, up_at}
+use Rattle.world3270.specs.Moments.{IsAt, IsHostIn, Moment, Serving, Talking, UnderWay, pending_at, served_up, talk_up, up_at}
 use Rattle.world3270.specs.Readings.{HasNoLead, IsSecondKeyIn, MayComeUp}
 use Rattle.world3270.specs.Rules.{Operates, with_aid}
+use Rattle.world3270.specs.Sizes.{is_painting}
+use Rattle.world3270.specs.Stages.{Kept, may_differ_at}
 use Rattle.world3270.specs.StandsLinks.{HasTheSizes, NoneCloses}
 use Rattle.world3270.specs.Terminal.{Display, TermEnd, TermStep, data_of, is_bound, once_bound, took}
 use Rattle.world3270.specs.View.{view_of}
+use Rattle.world3270.proofs.Acting.{model_here}
 use Rattle.world3270.proofs.AnyEvery.{AnyLaws, QueueIsKept, over_bytes}
 use Rattle.world3270.proofs.AnyReady.{all_may_now, same_now}
 use Rattle.world3270.proofs.AnySpelt.{IsTexts}
 use Rattle.world3270.proofs.AnyTerminal.{IsTypedMove, came_one}
+use Rattle.world3270.proofs.Down.{shape_of_model}
 use Rattle.world3270.proofs.Forms.{awaited}
+use Rattle.world3270.proofs.HeardTurns.{goes_on as heard_goes_on}
+use Rattle.world3270.proofs.HostSteps.{just_talks}
 use Rattle.world3270.proofs.Known.{the_sizes}
-use Rattle.world3270.proofs.Numbers.{sent_all}
 use Rattle.world3270.proofs.Queues.{front, nothing}
-use Rattle.world3270.proofs.SecondKeys.{Extras}
+use Rattle.world3270.proofs.SecondKeys.{Extras, IsSecondKey, is_dropping, pending_after, second_key_dropped, unless_read}
+use Rattle.world3270.proofs.SimulatedHost.{may_act_when, may_note_when, nothing_up}
 use Rattle.world3270.proofs.Simulation.{Simulated, agrees_now}
 use Rattle.world3270.proofs.TalkStates.{agreed_there}
 use Rattle.world3270.proofs.Worlds.{some_cells}
@@ -89,29 +99,151 @@ no_talk app lu t s saying rest e = not_first s.told.lost s.told.up (up_at model 
 
 -- ---- the size of what is queued
 
-abbrev pub HasThatSize : Application → ToHost → Type 0
-HasThatSize app (ToHost.Data parts) = parts.size ≡ app.begins
-HasThatSize app (ToHost.TalksUp saying) = ⊤
-HasThatSize app (ToHost.Response number verdict) = ⊤
+-- what the data of a message is about: a screen of this size
+abbrev pub HasThatSize : Shape → ToHost → Type 0
+HasThatSize size (ToHost.Data parts) = parts.size ≡ size
+HasThatSize size (ToHost.TalksUp saying) = ⊤
+HasThatSize size (ToHost.Response number verdict) = ⊤
 
--- all sizes of the terminal's model are one
-pub record IsSized (app : Application) (t : Told) : Type 0 where
-  pub one : app.alternate t.link.term.display.model ≡ app.begins
-  pub up : All (HasThatSize app) t.link.up
+abbrev pub IsSizedIf : Application → Model → Bool → Shape → Shape → Type 0
+IsSizedIf app model true now size = IsSizeOf app model size
+IsSizedIf app model false now size = size ≡ now
 
-the_size : (app : Application) (model : Model) (size : Shape) → app.alternate model ≡ app.begins → IsSizeOf app model size → size ≡ app.begins
-the_size app model size one (inl begins) = begins
-the_size app model size one (inr alternate) = alternate ∙ one
+-- Data has the size that the host set last. Only while a paint waits for its answer, data before that answer may have another size of the model.
+abbrev pub AreSized : Application → Model → Bool → Shape → List ToHost → Type 0
+AreSized app model painting now [] = ⊤
+AreSized app model painting now (ToHost.Data parts ∷ up) = IsSizedIf app model painting now parts.size × AreSized app model painting now up
+AreSized app model painting now (ToHost.Response number verdict ∷ up) = AreSized app model false now up
+AreSized app model painting now (ToHost.TalksUp saying ∷ up) = AreSized app model painting now up
 
-bound_size : (app : Application) (bound : Bool) (end new : TermEnd) (message : ToHost) → HasThatSize app message → All (HasThatSize app) (once_bound bound (record { end = new; sends = message ∷ []; closes = None }) end).sends
-bound_size app true end new message is = All-cons (HasThatSize app) message [] is (All-nil (HasThatSize app))
-bound_size app false end new message is = All-nil (HasThatSize app)
+pub record IsSized (app : Application) (link : Link) : Type 0 where
+  pub model : Model
+  pub model_is : link.term.display.model ≡ model
+  pub up : AreSized app model (is_painting link.host.pending) link.host.shape link.up
 
-took_sized : (app : Application) (end : TermEnd) (message : ToTerminal) → end.display.shape ≡ app.begins → All (HasThatSize app) (took end message).sends
-took_sized app end (ToTerminal.TalksDown saying) size = All-map (HasThatSize app) ToHost.TalksUp _ (λ k d below. tt)
-took_sized app end (ToTerminal.Paint number wanted over) size = bound_size app (is_bound end) end _ (ToHost.Response number Verdict.Positive) tt
-took_sized app end (ToTerminal.ReadBuffer number) size = bound_size app (is_bound end) end _ _ size
-took_sized app end (ToTerminal.Note number command) size = bound_size app (is_bound end) end _ (ToHost.Response number Verdict.Positive) tt
+-- nothing but data
+abbrev IsDataOnly : List ToHost → Type 0
+IsDataOnly [] = ⊤
+IsDataOnly (ToHost.Data parts ∷ up) = IsDataOnly up
+IsDataOnly (ToHost.Response number verdict ∷ up) = ⊥
+IsDataOnly (ToHost.TalksUp saying ∷ up) = ⊥
+
+module _ (app : Application) (model : Model) (now : Shape) where
+  sized_if : (painting : Bool) (size : Shape) → IsSizeOf app model now → size ≡ now → IsSizedIf app model painting now size
+  sized_if true size is same = subst (IsSizeOf app model) (sym same) is
+  sized_if false size is same = same
+
+  -- more data of the size that the host set last
+  all_sized : (painting : Bool) (more : List ToHost) → IsSizeOf app model now → All (HasThatSize now) more → AreSized app model painting now more
+  all_sized painting [] is all = tt
+  all_sized painting (ToHost.Data parts ∷ more) is all =
+      (sized_if painting parts.size is (All-head (HasThatSize now) (ToHost.Data parts) more all), all_sized painting more is (All-tail (HasThatSize now) (ToHost.Data parts) more all))
+  all_sized painting (ToHost.Response number verdict ∷ more) is all = all_sized false more is (All-tail (HasThatSize now) (ToHost.Response number verdict) more all)
+  all_sized painting (ToHost.TalksUp saying ∷ more) is all = all_sized painting more is (All-tail (HasThatSize now) (ToHost.TalksUp saying) more all)
+
+  more_sized : (painting : Bool) (up more : List ToHost) → IsSizeOf app model now → AreSized app model painting now up → All (HasThatSize now) more → AreSized app model painting now (up ++ more)
+  more_sized painting [] more is sized all = all_sized painting more is all
+  more_sized painting (ToHost.Data parts ∷ up) more is sized all = (sized.0, more_sized painting up more is sized.1 all)
+  more_sized painting (ToHost.Response number verdict ∷ up) more is sized all = more_sized false up more is sized all
+  more_sized painting (ToHost.TalksUp saying ∷ up) more is sized all = more_sized painting up more is sized all
+
+  -- behind data alone, whatever may come before the paint's answer
+  more_before : (up more : List ToHost) → IsDataOnly up → AreSized app model true now up → AreSized app model true now more → AreSized app model true now (up ++ more)
+  more_before [] more only sized after = after
+  more_before (ToHost.Data parts ∷ up) more only sized after = (sized.0, more_before up more only sized.1 after)
+  more_before (ToHost.Response number verdict ∷ up) more only sized after = absurd only
+  more_before (ToHost.TalksUp saying ∷ up) more only sized after = absurd only
+
+  -- the host paints, in whatever size
+  once_painting : (next : Shape) (up : List ToHost) → IsDataOnly up → IsSizeOf app model now → AreSized app model false now up → AreSized app model true next up
+  once_painting next [] only is sized = tt
+  once_painting next (ToHost.Data parts ∷ up) only is sized = (subst (IsSizeOf app model) (sym sized.0) is, once_painting next up only is sized.1)
+  once_painting next (ToHost.Response number verdict ∷ up) only is sized = absurd only
+  once_painting next (ToHost.TalksUp saying ∷ up) only is sized = absurd only
+
+  still_painting : (pending : Pending) → is_painting (unless_read pending) ≡ is_painting pending
+  still_painting Pending.Nothing = refl
+  still_painting (Pending.Reading number) = refl
+  still_painting (Pending.Writing number command) = refl
+  still_painting (Pending.Noting number command) = refl
+
+  -- the first is heard
+  heard_sized : (message : ToHost) (pending : Pending) (up : List ToHost) → AreSized app model (is_painting pending) now (message ∷ up) → AreSized app model (is_painting (pending_after message pending)) now up
+  heard_sized (ToHost.Data parts) pending up sized = subst (λ (painting : Bool). AreSized app model painting now up) (sym (still_painting pending)) sized.1
+  heard_sized (ToHost.Response number verdict) pending up sized = sized
+  heard_sized (ToHost.TalksUp saying) pending up sized = sized
+
+  -- or dropped
+  dropped_sized : (painting : Bool) (message : ToHost) (up : List ToHost) → IsSecondKey message → AreSized app model painting now (message ∷ up) → AreSized app model painting now up
+  dropped_sized painting message up second sized = (subst (λ (m : ToHost). AreSized app model painting now (m ∷ up)) second.is sized).1
+
+-- second keys are data
+data_only : (turn : Turn) (pending : Pending) (up : List ToHost) → Extras turn pending [] up → IsDataOnly up
+data_only turn pending [] x = tt
+data_only turn pending (message ∷ up) (inl x) = subst (λ (m : ToHost). IsDataOnly (m ∷ up)) (sym x.1.is) (data_only turn pending up x.2)
+data_only turn pending (message ∷ up) (inr x) = absurd (let some = x.1 in cc)
+
+none_queued : (queue vanished : List ToHost) → queue ++ vanished ≡ [] → queue ≡ []
+none_queued [] vanished is = refl
+none_queued (message ∷ queue) vanished is = absurd (cc)
+
+-- ---- what the terminal sends
+
+-- all of it has the size of its screen, whether or not a paint waits for its answer
+record SendsSized (app : Application) (model : Model) (now size : Shape) (sends : List ToHost) : Type 0 where
+  all : All (HasThatSize size) sends
+  before : AreSized app model true now sends
+
+module _ (app : Application) (model : Model) (now size : Shape) (is : IsSizeOf app model size) where
+  nothing_sized : SendsSized app model now size []
+  nothing_sized = record { all = All-nil (HasThatSize size); before = tt }
+
+  talk_before : (sayings : List Saying) → AreSized app model true now (map ToHost.TalksUp sayings)
+  talk_before [] = tt
+  talk_before (saying ∷ sayings) = talk_before sayings
+
+  talk_sized : (sayings : List Saying) → SendsSized app model now size (map ToHost.TalksUp sayings)
+  talk_sized sayings = record { all = All-map (HasThatSize size) ToHost.TalksUp sayings (λ k d below. tt); before = talk_before sayings }
+
+  data_sized : (parts : InboundParts) → parts.size ≡ size → SendsSized app model now size (ToHost.Data parts ∷ [])
+  data_sized parts same = record {
+    all = All-cons (HasThatSize size) (ToHost.Data parts) [] same (All-nil (HasThatSize size));
+    before = (subst (IsSizeOf app model) (sym same) is, tt);
+  }
+
+  response_sized : (number : ℕ) → SendsSized app model now size (ToHost.Response number Verdict.Positive ∷ [])
+  response_sized number = record { all = All-cons (HasThatSize size) (ToHost.Response number Verdict.Positive) [] tt (All-nil (HasThatSize size)); before = tt }
+
+  bound_sized : (bound : Bool) (end : TermEnd) (step : TermStep) → SendsSized app model now size step.sends → SendsSized app model now size (once_bound bound step end).sends
+  bound_sized true end step sized = sized
+  bound_sized false end step sized = nothing_sized
+
+  took_sized : (end : TermEnd) (message : ToTerminal) → end.display.shape ≡ size → SendsSized app model now size (took end message).sends
+  took_sized end (ToTerminal.TalksDown saying) same = talk_sized _
+  took_sized end (ToTerminal.Paint number wanted over) same = bound_sized (is_bound end) end _ (response_sized number)
+  took_sized end (ToTerminal.ReadBuffer number) same = bound_sized (is_bound end) end _ (data_sized (buffer_data end.display.shape end.display.screen) same)
+  took_sized end (ToTerminal.Note number command) same = bound_sized (is_bound end) end _ (response_sized number)
+
+  key_sized : (bound : Bool) (aid : Aid) (screen : Screen) → SendsSized app model now size (data_of bound (Send aid) size screen)
+  key_sized true aid screen = by_test (stands_alone Modified screen.aid)
+    where
+      long : InboundParts
+      long = record { form = Modified; size = size; aid = screen.aid; cursor = Some screen.cursor; parts = parts_of_fields (lead_of screen.cells) (returned_of screen.cells) }
+
+      by_test : (b : Bool) → SendsSized app model now size (ToHost.Data (if b then record { form = Modified; size = size; aid = screen.aid; cursor = None; parts = [] } else long) ∷ [])
+      by_test true = data_sized (record { form = Modified; size = size; aid = screen.aid; cursor = None; parts = [] }) refl
+      by_test false = data_sized long refl
+  key_sized false aid screen = nothing_sized
+
+  operates_sized : (end : TermEnd) (step : TermStep) → Operates end step → end.display.shape ≡ size
+      → SendsSized app model now size step.sends × (step.end.display.model ≡ end.display.model)
+  operates_sized end step (Operates.edits keyboard cells cursor erases held on is) same =
+      (subst (λ (s : TermStep). SendsSized app model now size s.sends) (sym is) nothing_sized, ap (λ (s : TermStep). s.end.display.model) is)
+  operates_sized end step (Operates.sends keyboard aid some is) same = (
+    subst (λ (s : TermStep). SendsSized app model now size s.sends) (sym is)
+        (subst (λ (shape : Shape). SendsSized app model now size (data_of (is_bound end) (Send aid) shape (with_aid aid end.display.screen))) (sym same) (key_sized (is_bound end) aid (with_aid aid end.display.screen))),
+    ap (λ (s : TermStep). s.end.display.model) is,
+  )
 
 bound_model : (bound : Bool) (step : TermStep) (end : TermEnd) → step.end.display.model ≡ end.display.model → (once_bound bound step end).end.display.model ≡ end.display.model
 bound_model true step end is = is
@@ -123,92 +255,236 @@ took_model end (ToTerminal.Paint number wanted over) = bound_model (is_bound end
 took_model end (ToTerminal.ReadBuffer number) = bound_model (is_bound end) _ end refl
 took_model end (ToTerminal.Note number command) = bound_model (is_bound end) _ end refl
 
-key_sized : (app : Application) (bound : Bool) (aid : Aid) (shape : Shape) (screen : Screen) → shape ≡ app.begins → All (HasThatSize app) (data_of bound (Send aid) shape screen)
-key_sized app true aid shape screen size = All-cons (HasThatSize app) _ [] (by_test (stands_alone Modified screen.aid)) (All-nil (HasThatSize app))
-  where
-    long : InboundParts
-    long = record { form = Modified; size = shape; aid = screen.aid; cursor = Some screen.cursor; parts = parts_of_fields (lead_of screen.cells) (returned_of screen.cells) }
+-- ---- an end that leaves
 
-    by_test : (b : Bool) → (if b then record { form = Modified; size = shape; aid = screen.aid; cursor = None; parts = [] } else long).size ≡ app.begins
-    by_test true = size
-    by_test false = size
-key_sized app false aid shape screen size = All-nil (HasThatSize app)
+host_left_sized : (app : Application) (cause : Option Cause) (link : Link) → IsSized app link → IsSized app (host_left_if cause link)
+host_left_sized app None link z = z
+host_left_sized app (Some cause) link z = record { model = z.model; model_is = z.model_is; up = z.up }
 
-operates_sized : (app : Application) (end : TermEnd) (step : TermStep) → Operates end step → end.display.shape ≡ app.begins → All (HasThatSize app) step.sends × (step.end.display.model ≡ end.display.model)
-operates_sized app end step (Operates.edits keyboard cells cursor erases held on is) size =
-    (subst (λ (s : TermStep). All (HasThatSize app) s.sends) (sym is) (All-nil (HasThatSize app)), ap (λ (s : TermStep). s.end.display.model) is)
-operates_sized app end step (Operates.sends keyboard aid some is) size =
-    (subst (λ (s : TermStep). All (HasThatSize app) s.sends) (sym is) (key_sized app (is_bound end) aid end.display.shape (with_aid aid end.display.screen) size), ap (λ (s : TermStep). s.end.display.model) is)
+term_left_sized : (app : Application) (cause : Option Cause) (link : Link) → IsSized app link → IsSized app (term_left_if cause link)
+term_left_sized app None link z = z
+term_left_sized app (Some cause) link z = record { model = z.model; model_is = z.model_is; up = z.up }
 
-host_up : (cause : Option Cause) (link : Link) → (host_left_if cause link).up ≡ link.up
-host_up None link = refl
-host_up (Some cause) link = refl
+-- ---- while the sizes of the ends may differ, a paint is under way, and nothing before it
 
-host_term : (cause : Option Cause) (link : Link) → (host_left_if cause link).term ≡ link.term
-host_term None link = refl
-host_term (Some cause) link = refl
+record Differs (model : Model) (wanted : Option (List ℕ)) (moment : Moment) : Type 0 where
+  paints : is_painting (pending_at moment) ≡ true
+  none : up_at model wanted moment ≡ []
 
-term_up : (cause : Option Cause) (link : Link) → (term_left_if cause link).up ≡ link.up
-term_up None link = refl
-term_up (Some cause) link = refl
+differs_at : (model : Model) (wanted : Option (List ℕ)) (moment : Moment) → may_differ_at moment ≡ true → Differs model wanted moment
+differs_at model wanted (Moment.Talks talking) is = absurd (cc)
+differs_at model wanted (Moment.Begins lu number command paints over) is = record { paints = refl; none = refl }
+differs_at model wanted (Moment.Serves lu Serving.Deciding) is = absurd (cc)
+differs_at model wanted (Moment.Serves lu (Serving.Reading number)) is = absurd (cc)
+differs_at model wanted (Moment.Serves lu (Serving.Reported number parts)) is = absurd (cc)
+differs_at model wanted (Moment.Serves lu (Serving.NotedLate number command)) is = absurd (cc)
+differs_at model wanted (Moment.Serves lu (Serving.AnsweredLate number command)) is = absurd (cc)
+differs_at model wanted (Moment.Serves lu (Serving.Painting number command paints over)) is = record { paints = refl; none = refl }
+differs_at model wanted (Moment.Serves lu (Serving.Answering kind number command)) is = absurd (cc)
+differs_at model wanted (Moment.Serves lu Serving.Operating) is = absurd (cc)
+differs_at model wanted (Moment.Serves lu (Serving.Noting number command)) is = absurd (cc)
+differs_at model wanted (Moment.Serves lu (Serving.KeyAlone parts)) is = absurd (cc)
+differs_at model wanted (Moment.Serves lu (Serving.KeyBehind kind number command parts)) is = absurd (cc)
+differs_at model wanted (Moment.Serves lu (Serving.KeyNoted number command parts)) is = absurd (cc)
+differs_at model wanted (Moment.Serves lu (Serving.KeyBefore number command parts)) is = absurd (cc)
 
-term_term : (cause : Option Cause) (link : Link) → (term_left_if cause link).term ≡ link.term
-term_term None link = refl
-term_term (Some cause) link = refl
+-- ---- moves keep it
 
-sent_sized : (app : Application) (what : Option Sent) (t : Told) → IsSized app t → IsSized app (record t { link = host_sent what t.link })
-sent_sized app None t z = z
-sent_sized app (Some sending) t z = record { one = z.one; up = z.up }
+module _ (given : Given) (app : Application) (is : IsApplication app) (sizes : HasTheSizes app) (lu : List ℕ) (t : Told) (s : Simulated app lu t) (z : IsSized app t.link) where
+  -- both screens are sizes of the model
+  same_model : s.told.term.display.model ≡ z.model
+  same_model = sym (ap (λ (d : Display). d.model) s.simulates.since.rest) ∙ z.model_is
 
-up_sized : (app : Application) (t : Told) → IsSized app t → (pool : List Entry) (up : List ToHost) → t.link.up ≡ up → IsSized app (came_up pool up t)
-up_sized app t z pool [] e = z
-up_sized app t z pool (message ∷ rest) e =
-    let step : HostStep = host_took (answer_to pool) t.link.host message in
-    let stays : Link = record t.link { up = rest; host = step.conn; down = sent t.link.lost t.link.down step.sends } in
-    record {
-      one = ap (λ (end : TermEnd). app.alternate end.display.model) (host_term step.closes stays) ∙ z.one;
-      up = subst (All (HasThatSize app)) (sym (host_up step.closes stays)) (All-tail (HasThatSize app) message rest (subst (All (HasThatSize app)) e z.up));
-    }
+  term_size : IsSizeOf app z.model t.link.term.display.shape
+  term_size =
+      subst (IsSizeOf app z.model) (sym (ap (λ (d : Display). d.shape) s.simulates.since.rest))
+      (subst (λ (m : Model). IsSizeOf app m s.told.term.display.shape) same_model s.kept.sizes.screen)
 
-module _ (given : Given) (app : Application) (is : IsApplication app) (sizes : HasTheSizes app) (lu : List ℕ) where
-  -- the terminal's screen, and the host's, have that size
-  shape_now : (t : Told) (s : Simulated app lu t) → IsSized app t → t.link.term.display.shape ≡ app.begins
-  shape_now t s z =
-      let same_model = ap (λ (d : Display). d.model) s.simulates.since.rest in
-      ap (λ (d : Display). d.shape) s.simulates.since.rest ∙ the_size app s.told.term.display.model s.told.term.display.shape (ap app.alternate (sym same_model) ∙ z.one) s.kept.sizes.screen
+  host_size : IsSizeOf app z.model t.link.host.shape
+  host_size =
+      subst (IsSizeOf app z.model) (sym (ap (λ (c : Conn). c.shape) s.simulates.host))
+      (subst (λ (m : Model). IsSizeOf app m s.told.host.shape) same_model s.kept.sizes.host)
 
-  host_shape : (t : Told) (s : Simulated app lu t) → IsSized app t → t.link.host.shape ≡ app.begins
-  host_shape t s z =
-      let same_model = ap (λ (d : Display). d.model) s.simulates.since.rest in
-      ap (λ (c : Conn). c.shape) s.simulates.host ∙ the_size app s.told.term.display.model s.told.host.shape (ap app.alternate (sym same_model) ∙ z.one) s.kept.sizes.host
+  -- where a paint is under way, second keys alone are queued
+  only_data : s.told.up ≡ [] → IsDataOnly t.link.up
+  only_data none = data_only s.told.host.turn s.told.host.pending t.link.up (subst (λ (told : List ToHost). Extras s.told.host.turn s.told.host.pending told t.link.up) none s.simulates.up)
 
-  down_sized : (t : Told) → Simulated app lu t → IsSized app t → (down : List ToTerminal) → t.link.down ≡ down → IsSized app (moved app Move.Down t)
-  down_sized t s z [] e = subst (λ (d : List ToTerminal). IsSized app (came_down d t)) (sym e) z
-  down_sized t s z (message ∷ rest) e =
+  paints_now : Differs s.told.term.display.model s.kept.wanted s.kept.moment → is_painting t.link.host.pending ≡ true
+  paints_now differs = ap (λ (c : Conn). is_painting c.pending) s.simulates.host ∙ ap is_painting s.kept.at.pending ∙ differs.paints
+
+  -- what the terminal sends is queued behind
+  queued_sized : (lost : Bool) (sends : List ToHost) → SendsSized app z.model t.link.host.shape t.link.term.display.shape sends
+      → AreSized app z.model (is_painting t.link.host.pending) t.link.host.shape (sent lost t.link.up sends)
+  queued_sized true sends sized = z.up
+  queued_sized false sends sized = by_moment (may_differ_at s.kept.moment) refl
+    where
+      by_moment : (differ : Bool) → may_differ_at s.kept.moment ≡ differ → AreSized app z.model (is_painting t.link.host.pending) t.link.host.shape (t.link.up ++ sends)
+      by_moment false same =
+          let one : t.link.term.display.shape ≡ t.link.host.shape =
+          ap (λ (d : Display). d.shape) s.simulates.since.rest ∙ s.kept.sizes.same same ∙ sym (ap (λ (c : Conn). c.shape) s.simulates.host) in
+          more_sized app z.model t.link.host.shape (is_painting t.link.host.pending) t.link.up sends host_size z.up (subst (λ (size : Shape). All (HasThatSize size) sends) one sized.all)
+      by_moment true differ =
+          let differs = differs_at s.told.term.display.model s.kept.wanted s.kept.moment differ in
+          let way = s.kept.at.goes_up in
+          let only = only_data (none_queued s.told.up way.vanished (way.whole ∙ differs.none)) in
+          let paints = paints_now differs in
+          subst (λ (painting : Bool). AreSized app z.model painting t.link.host.shape (t.link.up ++ sends)) (sym paints)
+          (more_before app z.model t.link.host.shape t.link.up sends only (subst (λ (painting : Bool). AreSized app z.model painting t.link.host.shape t.link.up) paints z.up) sized.before)
+
+  down_sized : (down : List ToTerminal) → t.link.down ≡ down → IsSized app (moved app Move.Down t).link
+  down_sized [] e = subst (λ (d : List ToTerminal). IsSized app (came_down d t).link) (sym e) z
+  down_sized (message ∷ rest) e =
       let step : TermStep = took t.link.term message in
       let none = (subst (λ (d : List ToTerminal). NoneCloses t.link.term d) e (all_may_now given app is sizes lu t.link.down t s refl).1).0 in
       let one = came_one app message rest t e (same_now given app is sizes lu t s message rest e) none in
-      let stays : Link = record t.link { down = rest; term = step.end; up = sent t.link.lost t.link.up step.sends } in
-      record {
-        one = ap (λ (end : TermEnd). app.alternate end.display.model) one.term ∙ ap app.alternate (took_model t.link.term message) ∙ z.one;
-        up = subst (All (HasThatSize app)) (sym (ap (λ (l : Link). l.up) one.link ∙ term_up step.closes stays))
-            (sent_all (HasThatSize app) t.link.lost t.link.up step.sends z.up (took_sized app t.link.term message (shape_now t s z)));
-      }
+      subst (IsSized app) (sym one.link)
+      (term_left_sized app step.closes (record t.link { down = rest; term = step.end; up = sent t.link.lost t.link.up step.sends }) (record {
+        model = z.model;
+        model_is = took_model t.link.term message ∙ z.model_is;
+        up = queued_sized t.link.lost step.sends (took_sized app z.model t.link.host.shape t.link.term.display.shape term_size t.link.term message refl);
+      }))
 
-  move_sized : (move : Move) (t : Told) → Simulated app lu t → IsSized app t → IsByTheRules move t → IsSized app (moved app move t)
-  move_sized (Move.Up pool) t s z rules = up_sized app t z pool t.link.up refl
-  move_sized Move.Down t s z rules = down_sized t s z t.link.down refl
-  move_sized Move.Act t s z rules = sent_sized app (acted app t.link.host) t z
-  move_sized (Move.Answer said) t s z rules = sent_sized app (answered_on app t.link.host said) t z
-  move_sized (Move.Note text) t s z rules = sent_sized app (noted text t.link.host) t z
-  move_sized (Move.Operate step) t s z rules =
-      let does = operates_sized app t.link.term step rules.0 (shape_now t s z) in
-      let stays : Link = record t.link { term = step.end; up = sent t.link.lost t.link.up step.sends } in
-      record {
-        one = ap (λ (end : TermEnd). app.alternate end.display.model) (term_term step.closes stays) ∙ ap app.alternate does.1 ∙ z.one;
-        up = subst (All (HasThatSize app)) (sym (term_up step.closes stays)) (sent_all (HasThatSize app) t.link.lost t.link.up step.sends z.up does.0);
-      }
-  move_sized Move.Lose t s z rules = record { one = z.one; up = z.up }
+  operated_sized : (step : TermStep) → Operates t.link.term step → IsSized app (moved app (Move.Operate step) t).link
+  operated_sized step does =
+      let operates = operates_sized app z.model t.link.host.shape t.link.term.display.shape term_size t.link.term step does refl in
+      term_left_sized app step.closes (record t.link { term = step.end; up = sent t.link.lost t.link.up step.sends }) (record {
+        model = z.model;
+        model_is = operates.1 ∙ z.model_is;
+        up = queued_sized t.link.lost step.sends operates.0;
+      })
+
+  -- ---- the host
+
+  abbrev heard : HostStep → List ToHost → Link
+  heard step rest = host_left_if step.closes (record t.link { up = rest; host = step.conn; down = sent t.link.lost t.link.down step.sends })
+
+  drops_sized : (pool : Answers) (message : ToHost) (rest : List ToHost) → is_dropping s.told.host.turn s.told.host.pending ≡ true → IsSecondKey message
+      → AreSized app z.model (is_painting t.link.host.pending) t.link.host.shape (message ∷ rest) → IsSized app (heard (host_took pool t.link.host message) rest)
+  drops_sized pool message rest drops second sized =
+      let host : t.link.host ≡ s.told.host = s.simulates.host in
+      let dropped : host_took pool t.link.host message ≡ dropping second.parts.aid t.link.host =
+      second_key_dropped pool t.link.host message second (ap (λ (c : Conn). is_agreed c.talk.state) host ∙ agrees_now s)
+      (ap (λ (c : Conn). may_have_changed c.unheard) host ∙ s.any) (ap (λ (c : Conn). is_dropping c.turn c.pending) host ∙ drops) in
+      subst (λ (step : HostStep). IsSized app (heard step rest)) (sym dropped) (record {
+        model = z.model;
+        model_is = z.model_is;
+        up = dropped_sized app z.model t.link.host.shape (is_painting t.link.host.pending) message rest second sized;
+      })
+
+  hears_sized : (pool : Answers) (message : ToHost) (rest others : List ToHost) → s.told.up ≡ message ∷ others
+      → AreSized app z.model (is_painting t.link.host.pending) t.link.host.shape (message ∷ rest) → IsSized app (heard (host_took pool t.link.host message) rest)
+  hears_sized pool message rest others first sized =
+      let step : HostStep = host_took pool s.told.host message in
+      let goes = heard_goes_on given app pool s.told message others first s.kept (agrees_now s) in
+      let shape : step.conn.shape ≡ t.link.host.shape = (just_talks pool s.told.host message).shape ∙ sym (ap (λ (c : Conn). c.shape) s.simulates.host) in
+      let pending : step.conn.pending ≡ pending_after message t.link.host.pending = goes.pending ∙ ap (λ (c : Conn). pending_after message c.pending) (sym s.simulates.host) in
+      subst (λ (host : Conn). IsSized app (heard (host_took pool host message) rest)) (sym s.simulates.host)
+      (host_left_sized app step.closes (record t.link { up = rest; host = step.conn; down = sent t.link.lost t.link.down step.sends }) (record {
+        model = z.model;
+        model_is = z.model_is;
+        up = subst (λ (size : Shape). AreSized app z.model (is_painting step.conn.pending) size rest) (sym shape)
+            (subst (λ (p : Pending). AreSized app z.model (is_painting p) t.link.host.shape rest) (sym pending) (heard_sized app z.model t.link.host.shape message t.link.host.pending rest sized));
+      }))
+
+  up_sized : (pool : List Entry) (up : List ToHost) → t.link.up ≡ up → IsSized app (came_up pool up t).link
+  up_sized pool [] e = z
+  up_sized pool (message ∷ rest) e = by_extra (subst (Extras s.told.host.turn s.told.host.pending s.told.up) e s.simulates.up)
+    where
+      sized : AreSized app z.model (is_painting t.link.host.pending) t.link.host.shape (message ∷ rest)
+      sized = subst (AreSized app z.model (is_painting t.link.host.pending) t.link.host.shape) e z.up
+
+      by_extra : Extras s.told.host.turn s.told.host.pending s.told.up (message ∷ rest) → IsSized app (came_up pool (message ∷ rest) t).link
+      by_extra (inl x) = drops_sized (answer_to pool) message rest x.0 x.1 sized
+      by_extra (inr x) = hears_sized (answer_to pool) message rest x.0 x.1 sized
+
+  abbrev sends_so : Option Sent → Type 0
+  sends_so what = IsSized app (host_sent what t.link)
+
+  abbrev may_act_now : Bool
+  may_act_now = may_act t.link.host.turn t.link.host.pending (is_agreed t.link.host.talk.state)
+
+  -- in its turn nothing is pending
+  unpainted : t.link.host.pending ≡ Pending.Nothing → AreSized app z.model false t.link.host.shape t.link.up
+  unpainted pends = subst (λ (p : Pending). AreSized app z.model (is_painting p) t.link.host.shape t.link.up) pends z.up
+
+  act_sized : (act : Act) → may_act_now ≡ true → sends_so (Some (done app t.link.host act))
+  act_sized act may = by_act act (may_act_when t.link.host.turn t.link.host.pending (is_agreed t.link.host.talk.state) may)
+    where
+      by_act : (act : Act) → (t.link.host.turn ≡ whose.Host) × (t.link.host.pending ≡ Pending.Nothing) → sends_so (Some (done app t.link.host act))
+      by_act Act.Read when = record { model = z.model; model_is = z.model_is; up = unpainted when.1 }
+      by_act (Act.Show panel message keep values) when =
+          let host = sym s.simulates.host in
+          let none = nothing_up app s.told s.kept (agrees_now s) (ap (λ (c : Conn). c.turn) host ∙ when.0) (ap (λ (c : Conn). c.pending) host ∙ when.1) in
+          record {
+            model = z.model;
+            model_is = z.model_is;
+            up = once_painting app z.model t.link.host.shape (done app t.link.host (Act.Show panel message keep values)).conn.shape t.link.up (only_data none) host_size (unpainted when.1);
+          }
+
+  acts_sized : sends_so (acted app t.link.host)
+  acts_sized = by_may may_act_now refl (decision_on app t.link.host t.link.host.turn_reason)
+    where
+      by_may : (may : Bool) → may_act_now ≡ may → (decision : Decision) → sends_so (if may then decided app t.link.host decision else None)
+      by_may true may (Decision.Do act) = act_sized act may
+      by_may true may Decision.Asks = z
+      by_may false may decision = z
+
+  answers_sized : (said : Said) → sends_so (answered_on app t.link.host said)
+  answers_sized said = by_open may_act_now refl (is_ask (decision_on app t.link.host t.link.host.turn_reason)) (has_its_panel app said)
+    where
+      act : Act
+      act = act_by app t.link.host said said.panel
+
+      by_open : (may : Bool) → may_act_now ≡ may → (asks there : Bool) → sends_so (if (may && asks) && there then Some (done app t.link.host act) else None)
+      by_open true may true true = act_sized act may
+      by_open true may true false = z
+      by_open true may false there = z
+      by_open false may asks there = z
+
+  notes_sized : (text : List ℕ) → sends_so (noted text t.link.host)
+  notes_sized text = by_may (may_note t.link.host.turn t.link.host.pending (is_agreed t.link.host.talk.state)) refl
+    where
+      by_may : (may : Bool) → may_note t.link.host.turn t.link.host.pending (is_agreed t.link.host.talk.state) ≡ may → sends_so (if may then Some (noted_as text t.link.host) else None)
+      by_may true may =
+          let when = may_note_when t.link.host.turn t.link.host.pending (is_agreed t.link.host.talk.state) may in
+          record { model = z.model; model_is = z.model_is; up = unpainted when.1 }
+      by_may false may = z
+
+  move_sized : (move : Move) → IsByTheRules move t → IsSized app (moved app move t).link
+  move_sized (Move.Up pool) rules = up_sized pool t.link.up refl
+  move_sized Move.Down rules = down_sized t.link.down refl
+  move_sized Move.Act rules = acts_sized
+  move_sized (Move.Answer said) rules = answers_sized said
+  move_sized (Move.Note text) rules = notes_sized text
+  move_sized (Move.Operate step) rules = operated_sized step rules.0
+  move_sized Move.Lose rules = record { model = z.model; model_is = z.model_is; up = z.up }
+
+-- ---- the largest size
+
+no_more : (n : ℕ) → n ≤ n
+no_more n = omega arith
+
+base_fits : (model : Model) → cells_in model_2 ≤ cells_in (alternate_of model)
+base_fits M2 = omega arith
+base_fits M3 = omega arith
+base_fits M4 = omega arith
+base_fits M5 = omega arith
+
+at_most_alternate : (app : Application) (sizes : HasTheSizes app) (model : Model) (size : Shape) → IsSizeOf app model size → cells_in size ≤ cells_in (alternate_of model)
+at_most_alternate app sizes model size (inl begins) = subst (λ (s : Shape). cells_in s ≤ cells_in (alternate_of model)) (sym (begins ∙ sizes.begins)) (base_fits model)
+at_most_alternate app sizes model size (inr alternate) =
+    subst (λ (s : Shape). cells_in s ≤ cells_in (alternate_of model)) (sym (alternate ∙ sizes.alternate model)) (no_more (cells_in (alternate_of model)))
+
+-- once both agreed the host knows the model
+knows_the_model : (app : Application) (link : Link) → Kept app (view_of link) → is_agreed link.host.talk.state ≡ true → model_in link.host ≡ link.term.display.model
+knows_the_model app link k agrees = by_moment k.moment k.at
+  where
+    by_moment : (moment : Moment) → IsAt (view_of link) k.wanted moment → model_in link.host ≡ link.term.display.model
+    by_moment (Moment.Talks talking) at =
+        let lu = agreed_there link.term.display.model talking link.host.talk at.host_talk agrees in
+        model_here link lu.0 (subst (λ (now : Talking). IsHostIn link.term.display.model now link.host.talk) lu.1 at.host_talk)
+    by_moment (Moment.Begins lu number command wanted over) at = model_here link lu at.host_talk
+    by_moment (Moment.Serves lu serving) at = model_here link lu at.host_talk
 
 -- ---- what is asked of second keys
 
@@ -222,7 +498,7 @@ pub record LeadsAreKept (app : Application) (lu : List ℕ) (Queued : Told → T
 
 module _ (given : Given) (app : Application) (is : IsApplication app) (sizes : HasTheSizes app) (lu : List ℕ) (Queued : Told → Type 0) (leads : LeadsAreKept app lu Queued) where
   pub record IsQueued (t : Told) : Type 0 where
-    pub sized : IsSized app t
+    pub sized : IsSized app t.link
     pub queued : Queued t
 
   -- a second key's data
@@ -230,27 +506,37 @@ module _ (given : Given) (app : Application) (is : IsApplication app) (sizes : H
       → (pending : Pending) → t.link.host.pending ≡ pending → IsAwaitedBy t.link.host parts ⊎ IsSecondKeyIn t.link.host parts
   second_comes t s q parts others e form pending pends = by_pending pending pends
     where
-      begins : t.link.host.shape ≡ app.begins
-      begins = host_shape given app is sizes lu t s q.sized
+      model : Model
+      model = q.sized.model
 
-      size : parts.size ≡ t.link.host.shape
-      size = All-head (HasThatSize app) (ToHost.Data parts) others (subst (All (HasThatSize app)) e q.sized.up) ∙ sym begins
+      size : (painting : Bool) → is_painting t.link.host.pending ≡ painting → IsSizedIf app model painting t.link.host.shape parts.size
+      size painting is_it =
+          (subst (λ (b : Bool). AreSized app model b t.link.host.shape (ToHost.Data parts ∷ others)) is_it
+          (subst (AreSized app model (is_painting t.link.host.pending) t.link.host.shape) e q.sized.up)).0
 
-      other : form_awaited t.link.host.pending ≡ Modified → IsAwaitedBy t.link.host parts ⊎ IsSecondKeyIn t.link.host parts
-      other awaits = inl (record { form = form ∙ sym awaits; size = size })
+      knows : model_in t.link.host ≡ model
+      knows = ap model_in s.simulates.host ∙ knows_the_model app s.told s.kept (agrees_now s) ∙ same_model given app is sizes lu t s q.sized
 
-      by_pending : (pending : Pending) → t.link.host.pending ≡ pending → IsAwaitedBy t.link.host parts ⊎ IsSecondKeyIn t.link.host parts
-      by_pending (Pending.Reading number) pends = inr (record {
-        may_be = ap (λ (p : Pending). may_have_changed t.link.host.unheard && is_read_pending p) pends
+      second : is_paint_or_read t.link.host.pending ≡ true → cells_in parts.size ≤ cells_in (second_key_size t.link.host t.link.host.pending) → IsSecondKeyIn t.link.host parts
+      second some fits = record {
+        may_be = ap (λ (b : Bool). may_have_changed t.link.host.unheard && b) some
             ∙ ap (λ (b : Bool). b && true) (ap (λ (c : Conn). may_have_changed c.unheard) s.simulates.host ∙ s.any);
         form = form;
-        size = size;
-        some = subst (λ (shape : Shape). 0 < cells_in shape) (sym begins) (some_cells app.begins is.begins);
-        no_lead = leads.no_lead t s q.queued parts others e form (ap form_awaited pends);
-      })
-      by_pending Pending.Nothing pends = other (ap form_awaited pends)
-      by_pending (Pending.Writing number command) pends = other (ap form_awaited pends)
-      by_pending (Pending.Noting number command) pends = other (ap form_awaited pends)
+        size = fits;
+        some = some_cells t.link.host.shape (shape_of_model app model t.link.host.shape is (host_size given app is sizes lu t s q.sized));
+        no_lead = leads.no_lead t s q.queued parts others e form;
+      }
+
+      by_pending : (pending : Pending) → t.link.host.pending ≡ pending → IsAwaitedBy t.link.host parts ⊎ IsSecondKeyIn t.link.host parts
+      by_pending Pending.Nothing pends = inl (record { form = form ∙ sym (ap form_awaited pends); size = size false (ap is_painting pends) })
+      by_pending (Pending.Noting number command) pends = inl (record { form = form ∙ sym (ap form_awaited pends); size = size false (ap is_painting pends) })
+      by_pending (Pending.Reading number) pends =
+          let same : second_key_size t.link.host t.link.host.pending ≡ parts.size = ap (second_key_size t.link.host) pends ∙ sym (size false (ap is_painting pends)) in
+          inr (second (ap is_paint_or_read pends) (subst (λ (large : Shape). cells_in parts.size ≤ cells_in large) (sym same) (no_more (cells_in parts.size))))
+      by_pending (Pending.Writing number command) pends =
+          let large : second_key_size t.link.host t.link.host.pending ≡ alternate_of model = ap (second_key_size t.link.host) pends ∙ ap alternate_of knows in
+          inr (second (ap is_paint_or_read pends)
+          (subst (λ (shape : Shape). cells_in parts.size ≤ cells_in shape) (sym large) (at_most_alternate app sizes model parts.size (size true (ap is_painting pends)))))
 
   comes_next : (t : Told) (s : Simulated app lu t) (q : IsQueued t) (message : ToHost) (others : List ToHost) → t.link.up ≡ message ∷ others
       → Extras s.told.host.turn s.told.host.pending s.told.up (message ∷ others) → MayComeUp t.link.host message
@@ -268,12 +554,16 @@ module _ (given : Given) (app : Application) (is : IsApplication app) (sizes : H
 
   pub queue_is_kept : QueueIsKept app lu IsQueued
   queue_is_kept = record {
-    begins = λ t b alive one. record {
-      sized = record { one = one; up = subst (All (HasThatSize app)) (sym b.nothing_up) (All-nil (HasThatSize app)) };
+    begins = λ t b alive. record {
+      sized = record {
+        model = t.link.term.display.model;
+        model_is = refl;
+        up = subst (AreSized app t.link.term.display.model (is_painting t.link.host.pending) t.link.host.shape) (sym b.nothing_up) tt;
+      };
       queued = leads.begins t b alive;
     };
     goes_on = λ move t s x q rules typed. record {
-      sized = move_sized given app is sizes lu move t s q.sized rules;
+      sized = move_sized given app is sizes lu t s q.sized move rules;
       queued = leads.goes_on move t s x q.queued rules typed;
     };
     comes_up = λ t s x q message others e.

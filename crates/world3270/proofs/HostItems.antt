@@ -1,7 +1,9 @@
 -- What a host makes of an item is what it makes of the message as which it reads the item.
-use Rattle.std.proofs.Common.{◌≡◌, ◌<◌, ◌≤◌, ◌/◌, ◌%◌, ◌^◌, ◌&&◌, inl, inr, ℕ, Bool, true, false, List, [], ◌∷◌, ◌++◌, length, Ok, refl, ap, sym, subst, ◌∙◌, arith}
+use Rattle.std.proofs.Common.{◌≡◌, ◌<◌, ◌≤◌, ◌/◌, ◌%◌, ◌^◌, ◌&&◌, inl, inr, ℕ, Bool, true, false, List, [], ◌∷◌, ◌++◌, length, Some, Ok, refl, ap, sym, subst, ◌∙◌, arith, if◌then◌else◌}
 use Rattle.codes3270.specs.Size.{Shape, cells_in}
+use Rattle.codes3270.specs.Aid.{aid_of}
 use Rattle.codes3270.specs.Storable.{is_storable}
+use Rattle.codes3270.specs.declared.attention.Aid.{Aid}
 use Rattle.datastream.specs.Grammar.{set_buffer_address, start_field}
 use Rattle.datastream.specs.InboundText.{AreParts, InboundParts, IsCellPart, IsInbound, IsNoInbound, IsWhole, stands_alone}
 use Rattle.datastream.specs.InboundText.IsInbound.{alone, long}
@@ -16,16 +18,18 @@ use Rattle.telnet_wire.specs.Items.{WireItem}
 use Rattle.tn3270e_msg.specs.Header.{Begins, negative, spelling}
 use Rattle.tn3270e_msg.specs.Laws.{OneHeader, FaultIsNoHeader}
 use Rattle.tn3270e_msg.specs.Talk.{Comes, Hears, Saying, says, item_of}
+use Rattle.tn3270e_msg.specs.declared.cause.Cause.TheVariants.{BadInbound}
 use Rattle.tn3270e_msg.specs.declared.header.DataType.TheVariants.{Data3270, Response}
 use Rattle.tn3270e_msg.specs.declared.header.Header.{Header}
 use Rattle.tn3270e_msg.proofs.Hearings.{sent_is_heard}
 use Rattle.term_core.specs.Says.{outcome_flag, outcome_code, response_header, data_header}
 use Rattle.term_core.specs.declared.outcome.Outcome.{Outcome}
 use Rattle.term_core.specs.declared.outcome.Outcome.TheVariants.{DeviceEnd, Refused}
-use Rattle.host_core.specs.Items.{TakesData, IsNoSecondKey, IsOther, TakesRecord, TakesRecordIf, Talks, TakesItem, is_read_pending, verdict_of}
+use Rattle.host_core.specs.Items.{TakesData, IsNoSecondKey, IsOther, TakesRecord, TakesRecordIf, Talks, TakesItem, is_paint_or_read, second_key_size, verdict_of}
 use Rattle.host_core.specs.Messages.{ToHost, Verdict}
 use Rattle.host_core.specs.Session.{Conn, Pending, is_agreed}
-use Rattle.host_core.specs.Takes.{Answers, HostStep, form_awaited, data_came, may_have_changed, response_came, once_agreed, talked, took}
+use Rattle.host_core.specs.declared.turn.Turn.{Turn}
+use Rattle.host_core.specs.Takes.{Answers, HostStep, buffer_came, closed_by, form_awaited, data_came, may_have_changed, out_of_turn, response_came, once_agreed, second_key, second_key_data, talked, took}
 use Rattle.world3270.specs.Forms.{IsAwaitedBy}
 use Rattle.world3270.specs.Readings.{HasNoLead, IsReadAs, IsSecondKeyIn, MayComeUp}
 use Rattle.world3270.specs.Stands.{OutcomeIs, StandsUp}
@@ -85,38 +89,97 @@ first_of_fields size (Char char ∷ parts) text byte more no_lead are is = absur
 first_of_fields size (Attr attr ∷ parts) text byte more no_lead are is = absurd no_lead
 
 -- the data of a key on a screen with fields is no whole screen
-not_whole : (size : ℕ) (parts cells : List Part) (text : List ℕ) → 0 < size → HasNoLead parts → AreParts size Modified parts text → AreParts size Buffer cells text → length cells ≡ size → ⊥
-not_whole size parts [] text some no_lead are whole sized = absurd (omega (arith, some, sized))
-not_whole size parts (cell ∷ cells) text some no_lead are whole sized =
+not_whole : (its size : ℕ) (parts cells : List Part) (text : List ℕ) → 0 < size → HasNoLead parts → AreParts its Modified parts text → AreParts size Buffer cells text → length cells ≡ size → ⊥
+not_whole its size parts [] text some no_lead are whole sized = absurd (omega (arith, some, sized))
+not_whole its size parts (cell ∷ cells) text some no_lead are whole sized =
     let first = first_of_cell cell whole.0 whole.2 in
-    first.no_address (first_of_fields size parts text first.byte (first.more ++ whole.1) no_lead are (whole.4 ∙ ap (λ (front : List ℕ). front ++ whole.1) first.is))
+    first.no_address (first_of_fields its parts text first.byte (first.more ++ whole.1) no_lead are (whole.4 ∙ ap (λ (front : List ℕ). front ++ whole.1) first.is))
 
-no_buffer : (size : Shape) (parts buffer : InboundParts) (body : List ℕ) → 0 < cells_in size → parts.form ≡ Modified → parts.size ≡ size → HasNoLead parts.parts → IsInbound parts body
+no_buffer : (size : Shape) (parts buffer : InboundParts) (body : List ℕ) → 0 < cells_in size → parts.form ≡ Modified → HasNoLead parts.parts → IsInbound parts body
     → buffer.form ≡ Buffer → buffer.size ≡ size → IsInbound buffer body → ⊥
-no_buffer size parts buffer body some form sized no_lead (alone byte is_alone aid none nothing spelt) of_form of_size (alone other alone_too aid_too none_too nothing_too spelt_too) =
+no_buffer size parts buffer body some form no_lead (alone byte is_alone aid none nothing spelt) of_form of_size (alone other alone_too aid_too none_too nothing_too spelt_too) =
     let both : false ≡ true = sym (ap (λ (f : Form). stands_alone f buffer.aid) of_form) ∙ alone_too in absurd (cc)
-no_buffer size parts buffer body some form sized no_lead (long byte high low cursor text is_long aid at address are whole spelt) of_form of_size (alone other alone_too aid_too none_too nothing_too spelt_too) =
+no_buffer size parts buffer body some form no_lead (long byte high low cursor text is_long aid at address are whole spelt) of_form of_size (alone other alone_too aid_too none_too nothing_too spelt_too) =
     let both : false ≡ true = sym (ap (λ (f : Form). stands_alone f buffer.aid) of_form) ∙ alone_too in absurd (cc)
-no_buffer size parts buffer body some form sized no_lead (alone byte is_alone aid none nothing spelt) of_form of_size (long other high low cursor text is_long aid_too at address are whole spelt_too) =
+no_buffer size parts buffer body some form no_lead (alone byte is_alone aid none nothing spelt) of_form of_size (long other high low cursor text is_long aid_too at address are whole spelt_too) =
     let both : byte ∷ [] ≡ other ∷ high ∷ low ∷ text = sym spelt ∙ spelt_too in absurd (cc)
-no_buffer size parts buffer body some form sized no_lead (long byte high low cursor text is_long aid at address are whole spelt) of_form of_size (long other high' low' cursor' text' is_long' aid' at' address' are' whole' spelt') =
+no_buffer size parts buffer body some form no_lead (long byte high low cursor text is_long aid at address are whole spelt) of_form of_size (long other high' low' cursor' text' is_long' aid' at' address' are' whole' spelt') =
     let both : byte ∷ high ∷ low ∷ text ≡ other ∷ high' ∷ low' ∷ text' = sym spelt ∙ spelt' in
     let same : text ≡ text' = cc in
-    not_whole (cells_in size) parts.parts buffer.parts text' some no_lead
-    (subst (λ (t : List ℕ). AreParts (cells_in size) Modified parts.parts t) same
-    (subst (λ (f : Form). AreParts (cells_in size) f parts.parts text) form (subst (λ (s : Shape). AreParts (cells_in s) parts.form parts.parts text) sized are)))
+    not_whole (cells_in parts.size) (cells_in size) parts.parts buffer.parts text' some no_lead
+    (subst (λ (t : List ℕ). AreParts (cells_in parts.size) Modified parts.parts t) same
+    (subst (λ (f : Form). AreParts (cells_in parts.size) f parts.parts text) form are))
     (subst (λ (f : Form). AreParts (cells_in size) f buffer.parts text') of_form (subst (λ (s : Shape). AreParts (cells_in s) buffer.form buffer.parts text') of_size are'))
     (subst (λ (f : Form). IsWhole (cells_in size) f buffer.parts) of_form (subst (λ (s : Shape). IsWhole (cells_in s) buffer.form buffer.parts) of_size whole'))
 
--- while a key's data may be a second one's a read is pending
-reads_then : (pending : Pending) (may : Bool) → (may && is_read_pending pending) ≡ true → form_awaited pending ≡ Buffer
-reads_then (Pending.Reading number) may is = refl
-reads_then Pending.Nothing true is = absurd (cc)
-reads_then Pending.Nothing false is = absurd (cc)
-reads_then (Pending.Writing number command) true is = absurd (cc)
-reads_then (Pending.Writing number command) false is = absurd (cc)
-reads_then (Pending.Noting number command) true is = absurd (cc)
-reads_then (Pending.Noting number command) false is = absurd (cc)
+-- ---- a second key's data
+
+-- a text on a screen is one on a larger screen, too
+on_larger_text : (small large : ℕ) (parts : List Part) (text : List ℕ) → small ≤ large → AreParts small Modified parts text → AreParts large Modified parts text
+on_larger_text small large [] text larger are = are
+on_larger_text small large (At address ∷ parts) text larger are =
+    let below = are.2.2.1 in
+    (are.0, are.1, (are.2.0, are.2.1, (are.2.2.0, omega (arith, larger, below)), are.2.3), on_larger_text small large parts are.1 larger are.3, are.4)
+on_larger_text small large (Char char ∷ parts) text larger are = (are.0, are.1, are.2, on_larger_text small large parts are.1 larger are.3, are.4)
+on_larger_text small large (Attr attr ∷ parts) text larger are = absurd are.2
+
+on_larger : (parts : InboundParts) (body : List ℕ) (large : Shape) → parts.form ≡ Modified → cells_in parts.size ≤ cells_in large → IsInbound parts body
+    → IsInbound (record parts { size = large }) body
+on_larger parts body large form larger (alone byte is_alone aid none nothing spelt) = alone byte is_alone aid none nothing spelt
+on_larger parts body large form larger (long byte high low cursor text is_long aid at address are whole spelt) =
+    let below = address.1 in
+    let modified = subst (λ (f : Form). AreParts (cells_in parts.size) f parts.parts text) form are in
+    long byte high low cursor text is_long aid at (address.0, omega (arith, larger, below))
+    (subst (λ (f : Form). AreParts (cells_in large) f parts.parts text) (sym form) (on_larger_text (cells_in parts.size) (cells_in large) parts.parts text larger modified))
+    (subst (λ (f : Form). IsWhole (cells_in large) f parts.parts) (sym form) tt) spelt
+
+-- the first byte says the AID, whatever else is read
+record FirstOf (parts : InboundParts) (body : List ℕ) : Type 0 where
+  byte : ℕ
+  more : List ℕ
+  is : body ≡ byte ∷ more
+  aid : aid_of byte ≡ Some parts.aid
+
+first_of : (parts : InboundParts) (body : List ℕ) → IsInbound parts body → FirstOf parts body
+first_of parts body (alone byte is_alone aid none nothing spelt) = record { byte = byte; more = []; is = spelt; aid = aid }
+first_of parts body (long byte high low cursor text is_long aid at address are whole spelt) = record { byte = byte; more = high ∷ low ∷ text; is = spelt; aid = aid }
+
+the_one : (aid other : Aid) → Some aid ≡ Some other → aid ≡ other
+the_one aid other e = cc
+
+one_aid : (parts other : InboundParts) (body : List ℕ) → IsInbound parts body → IsInbound other body → parts.aid ≡ other.aid
+one_aid parts other body is is_too =
+    let first = first_of parts body is in
+    let second = first_of other body is_too in
+    the_one parts.aid other.aid (sym first.aid ∙ ap aid_of (heads first.byte second.byte first.more second.more (sym first.is ∙ second.is)) ∙ second.aid)
+
+both_true : (one other : Bool) → (one && other) ≡ true → (one ≡ true) × (other ≡ true)
+both_true true other is = (refl, is)
+both_true false other is = absurd (cc)
+
+-- the host drops it by its AID alone
+is_dropped : (parts : InboundParts) (conn : Conn) → may_have_changed conn.unheard ≡ true → parts.form ≡ Modified → out_of_turn parts conn ≡ second_key parts.aid conn.pending conn
+is_dropped parts conn changed form =
+    ap (λ (b : Bool). if b then second_key_data parts parts.form conn else closed_by BadInbound conn) changed
+    ∙ ap (λ (f : Form). second_key_data parts f conn) form
+
+second_key_came : (parts : InboundParts) (conn : Conn) (turn : Turn) (pending : Pending) → (may_have_changed conn.unheard && is_paint_or_read pending) ≡ true → parts.form ≡ Modified
+    → data_came parts turn pending conn ≡ second_key parts.aid conn.pending conn
+second_key_came parts conn turn (Pending.Writing number command) may form = is_dropped parts conn (both_true (may_have_changed conn.unheard) true may).0 form
+second_key_came parts conn turn (Pending.Reading number) may form =
+    ap (λ (f : Form). buffer_came parts f conn) form ∙ is_dropped parts conn (both_true (may_have_changed conn.unheard) true may).0 form
+second_key_came parts conn turn Pending.Nothing may form = absurd (let none = (both_true (may_have_changed conn.unheard) false may).1 in cc)
+second_key_came parts conn turn (Pending.Noting number command) may form = absurd (let none = (both_true (may_have_changed conn.unheard) false may).1 in cc)
+
+-- where it is read in the form that is awaited, a paint is pending
+heard_as_awaited : (conn : Conn) (body : List ℕ) (parts read : InboundParts) (pending : Pending) → conn.pending ≡ pending → IsSecondKeyIn conn parts → IsInbound parts body
+    → read.form ≡ form_awaited conn.pending → read.size ≡ conn.shape → IsInbound read body → read.form ≡ Modified
+heard_as_awaited conn body parts read (Pending.Reading number) pends second is form size is_read =
+    let whole : form_awaited conn.pending ≡ Buffer = ap form_awaited pends in
+    absurd (no_buffer conn.shape parts read body second.some second.form (second.no_lead whole) is (form ∙ whole) size is_read)
+heard_as_awaited conn body parts read Pending.Nothing pends second is form size is_read = form ∙ ap form_awaited pends
+heard_as_awaited conn body parts read (Pending.Writing number command) pends second is form size is_read = form ∙ ap form_awaited pends
+heard_as_awaited conn body parts read (Pending.Noting number command) pends second is form size is_read = form ∙ ap form_awaited pends
 
 -- ---- records
 
@@ -130,15 +193,20 @@ module _ (one_header : OneHeader) (fault_or_header : FaultIsNoHeader) (one_inbou
   awaited_is_taken conn body parts step awaited is (TakesData.no_data fault bad no_key e) =
       absurd (no_fault conn.shape (form_awaited conn.pending) parts fault body awaited.form awaited.size is bad)
 
-  -- and a second key's data isn't in the form that is awaited
+  -- and a second key's data is dropped by its AID, in whatever form it is read
   second_is_taken : (conn : Conn) (body : List ℕ) (parts : InboundParts) (step : HostStep) → IsSecondKeyIn conn parts → IsInbound parts body → TakesData conn body step → step ≡ data_came parts conn.turn conn.pending conn
-  second_is_taken conn body parts step second is (TakesData.hears parts' form size is' e) =
-      absurd (no_buffer conn.shape parts parts' body second.some second.form second.size second.no_lead is (form ∙ reads_then conn.pending (may_have_changed conn.unheard) second.may_be) size is')
-  second_is_taken conn body parts step second is (TakesData.is_second_key fault parts' bad may form size is' e) =
-      e ∙ ap (λ (p : InboundParts). data_came p conn.turn conn.pending conn) (one_inbound body parts' parts (form ∙ sym second.form) (size ∙ sym second.size) is' is)
+  second_is_taken conn body parts step second is (TakesData.hears read form size is_read e) =
+      let modified = heard_as_awaited conn body parts read conn.pending refl second is form size is_read in
+      e ∙ second_key_came read conn conn.turn conn.pending second.may_be modified
+      ∙ ap (λ (aid : Aid). second_key aid conn.pending conn) (one_aid read parts body is_read is)
+      ∙ sym (second_key_came parts conn conn.turn conn.pending second.may_be second.form)
+  second_is_taken conn body parts step second is (TakesData.is_second_key fault read bad may form size is_read e) =
+      e ∙ ap (λ (aid : Aid). second_key aid conn.pending conn) (one_aid read parts body is_read is)
+      ∙ sym (second_key_came parts conn conn.turn conn.pending second.may_be second.form)
   second_is_taken conn body parts step second is (TakesData.no_data fault bad no_key e) =
-      let none = subst (λ (b : Bool). IsNoSecondKey b conn.shape body) second.may_be no_key in
-      absurd (no_fault conn.shape Modified parts none.0 body second.form second.size is none.1)
+      let large = second_key_size conn conn.pending in
+      let none = subst (λ (b : Bool). IsNoSecondKey b large body) second.may_be no_key in
+      absurd (no_fault large Modified (record parts { size = large }) none.0 body second.form refl (on_larger parts body large second.form second.size is) none.1)
 
   data_is_taken : (conn : Conn) (body : List ℕ) (parts : InboundParts) (step : HostStep) → MayComeUp conn (ToHost.Data parts) → IsInbound parts body → TakesData conn body step → step ≡ data_came parts conn.turn conn.pending conn
   data_is_taken conn body parts step (inl awaited) is takes = awaited_is_taken conn body parts step awaited is takes

@@ -31,6 +31,7 @@ use Rattle.host_core.specs.Takes.{Answers, HostStep, quiet, closed_by, replied, 
 -- its command still waits for its answer, or nothing does
 pub record JustTalks (old : Conn) (step : HostStep) : Type 0 where
   pub number : step.conn.next_seq ≡ old.next_seq
+  pub shape : step.conn.shape ≡ old.shape
   pub panel : step.conn.panel ≡ old.panel
   pub values : step.conn.values ≡ old.values
   pub message : step.conn.message ≡ old.message
@@ -42,20 +43,20 @@ pub record JustTalks (old : Conn) (step : HostStep) : Type 0 where
   pub says : step.sends ≡ map ToTerminal.TalksDown talk
 
 quietly : (conn : Conn) → JustTalks conn (quiet conn)
-quietly conn = record { number = refl; panel = refl; values = refl; message = refl; turn = λ is. is; pending = inl refl; unheard = inl refl; reason = inl refl; talk = []; says = refl }
+quietly conn = record { number = refl; shape = refl; panel = refl; values = refl; message = refl; turn = λ is. is; pending = inl refl; unheard = inl refl; reason = inl refl; talk = []; says = refl }
 
 closes : (conn : Conn) (cause : Cause) → JustTalks conn (closed_by cause conn)
-closes conn cause = record { number = refl; panel = refl; values = refl; message = refl; turn = λ is. is; pending = inl refl; unheard = inl refl; reason = inl refl; talk = []; says = refl }
+closes conn cause = record { number = refl; shape = refl; panel = refl; values = refl; message = refl; turn = λ is. is; pending = inl refl; unheard = inl refl; reason = inl refl; talk = []; says = refl }
 
 -- nothing is pending then
-settles : (conn new : Conn) → new.next_seq ≡ conn.next_seq → new.panel ≡ conn.panel → new.values ≡ conn.values → new.message ≡ conn.message → (conn.turn ≡ whose.Host → new.turn ≡ whose.Host)
+settles : (conn new : Conn) → new.next_seq ≡ conn.next_seq → new.shape ≡ conn.shape → new.panel ≡ conn.panel → new.values ≡ conn.values → new.message ≡ conn.message → (conn.turn ≡ whose.Host → new.turn ≡ whose.Host)
     → new.pending ≡ Pending.Nothing → new.unheard ≡ conn.unheard → (new.turn_reason ≡ conn.turn_reason) ⊎ (new.turn_reason ≡ turn_reasons.Agreement → ⊥) → JustTalks conn (quiet new)
-settles conn new number panel values message turn none unheard reason =
-    record { number = number; panel = panel; values = values; message = message; turn = turn; pending = inr none; unheard = inl unheard; reason = reason; talk = []; says = refl }
+settles conn new number shape panel values message turn none unheard reason =
+    record { number = number; shape = shape; panel = panel; values = values; message = message; turn = turn; pending = inr none; unheard = inl unheard; reason = reason; talk = []; says = refl }
 
 replies : (conn : Conn) (lu grants : Option (List ℕ)) (next : Talk HostState × Reply) → JustTalks conn (replied conn lu grants next)
 replies conn lu grants next =
-    record { number = refl; panel = refl; values = refl; message = refl; turn = λ is. is; pending = inl refl; unheard = inl refl; reason = inl refl; talk = sayings next.1; says = refl }
+    record { number = refl; shape = refl; panel = refl; values = refl; message = refl; turn = λ is. is; pending = inl refl; unheard = inl refl; reason = inl refl; talk = sayings next.1; says = refl }
 
 asks : (conn : Conn) (lu : Option (List ℕ)) (talk : Talk HostState) (answer : Result (List ℕ) Reason) (state : HostState) → JustTalks conn (asked conn lu talk answer state)
 asks conn lu talk answer (Asking device) = replies conn lu (granted_by answer) (follow Closed talk (answer_transition device answer))
@@ -82,7 +83,7 @@ believes : (turn_reason : TurnReason) (pending : Pending) (cursor : Option ℕ) 
     → (turn_reason ≡ conn.turn_reason) ⊎ (turn_reason ≡ turn_reasons.Agreement → ⊥)
     → JustTalks conn (believed turn_reason pending cursor conn result)
 believes turn_reason pending cursor conn (Ok shadow) waits reason =
-    record { number = refl; panel = refl; values = refl; message = refl; turn = λ is. refl; pending = waits; unheard = inl refl; reason = reason; talk = []; says = refl }
+    record { number = refl; shape = refl; panel = refl; values = refl; message = refl; turn = λ is. refl; pending = waits; unheard = inl refl; reason = reason; talk = []; says = refl }
 believes turn_reason pending cursor conn (Err fault) waits reason = closes conn _
 
 hears_key : (parts : InboundParts) (aid : Aid) (conn : Conn) → JustTalks conn (key_came parts aid conn)
@@ -97,20 +98,20 @@ hears_key_data parts Modified conn = hears_key parts parts.aid conn
 hears_key_data parts AllModified conn = closes conn _
 hears_key_data parts Buffer conn = closes conn _
 
-drops : (conn new : Conn) (aid : Aid) → new.next_seq ≡ conn.next_seq → new.panel ≡ conn.panel → new.values ≡ conn.values → new.message ≡ conn.message → new.turn ≡ conn.turn → new.pending ≡ conn.pending
+drops : (conn new : Conn) (aid : Aid) → new.next_seq ≡ conn.next_seq → new.shape ≡ conn.shape → new.panel ≡ conn.panel → new.values ≡ conn.values → new.message ≡ conn.message → new.turn ≡ conn.turn → new.pending ≡ conn.pending
     → (new.unheard ≡ conn.unheard) ⊎ (new.unheard ≡ unheards.Clear) → new.turn_reason ≡ conn.turn_reason → JustTalks conn (dropping aid new)
-drops conn new aid number panel values message turn pending unheard reason =
-    record { number = number; panel = panel; values = values; message = message; turn = λ is. turn ∙ is; pending = inl pending; unheard = unheard; reason = inl reason; talk = []; says = refl }
+drops conn new aid number shape panel values message turn pending unheard reason =
+    record { number = number; shape = shape; panel = panel; values = values; message = message; turn = λ is. turn ∙ is; pending = inl pending; unheard = unheard; reason = inl reason; talk = []; says = refl }
 
 drops_key : (aid : Aid) (pending : Pending) (conn : Conn) → JustTalks conn (second_key aid pending conn)
 drops_key NoAid pending conn = closes conn _
-drops_key Enter pending conn = drops conn conn Enter refl refl refl refl refl refl (inl refl) refl
-drops_key Clear Pending.Nothing conn = drops conn (record conn { unheard = unheards.Clear }) Clear refl refl refl refl refl refl (inr refl) refl
+drops_key Enter pending conn = drops conn conn Enter refl refl refl refl refl refl refl (inl refl) refl
+drops_key Clear Pending.Nothing conn = drops conn (record conn { unheard = unheards.Clear }) Clear refl refl refl refl refl refl refl (inr refl) refl
 drops_key Clear (Pending.Writing number command) conn = closes conn _
 drops_key Clear (Pending.Reading number) conn = closes conn _
 drops_key Clear (Pending.Noting number command) conn = closes conn _
-drops_key (Pf key) pending conn = drops conn conn (Pf key) refl refl refl refl refl refl (inl refl) refl
-drops_key (Pa key) pending conn = drops conn conn (Pa key) refl refl refl refl refl refl (inl refl) refl
+drops_key (Pf key) pending conn = drops conn conn (Pf key) refl refl refl refl refl refl refl (inl refl) refl
+drops_key (Pa key) pending conn = drops conn conn (Pa key) refl refl refl refl refl refl refl (inl refl) refl
 
 drops_key_data : (parts : InboundParts) (form : Form) (conn : Conn) → JustTalks conn (second_key_data parts form conn)
 drops_key_data parts Modified conn = drops_key parts.aid conn.pending conn
@@ -153,15 +154,15 @@ loses_a_write command conn = by_test (is_erase command.code)
   where
     by_test : (b : Bool) → JustTalks conn (if b then closed_by Negative conn else quiet (refused conn))
     by_test true = closes conn Negative
-    by_test false = settles conn (refused conn) refl refl refl refl (λ is. refl) refl refl (inr (λ e. cc))
+    by_test false = settles conn (refused conn) refl refl refl refl refl (λ is. refl) refl refl (inr (λ e. cc))
 
 judges : (command : CommandParts) (verdict : Verdict) (conn : Conn) → JustTalks conn (verdict_came command verdict conn)
-judges command Verdict.Positive conn = settles conn (answered command conn) refl refl refl refl (λ is. is) refl refl (inl refl)
+judges command Verdict.Positive conn = settles conn (answered command conn) refl refl refl refl refl (λ is. is) refl refl (inl refl)
 judges command Verdict.Negative conn = loses_a_write command conn
 
 judges_read : (answers : Bool) (verdict : Verdict) (conn : Conn) → JustTalks conn (read_verdict_came answers verdict conn)
 judges_read answers Verdict.Positive conn = closes conn _
-judges_read answers Verdict.Negative conn = if_it_answers answers _ conn (settles conn (refused conn) refl refl refl refl (λ is. refl) refl refl (inr (λ e. cc)))
+judges_read answers Verdict.Negative conn = if_it_answers answers _ conn (settles conn (refused conn) refl refl refl refl refl (λ is. refl) refl refl (inr (λ e. cc)))
 
 is_answered : (number : ℕ) (verdict : Verdict) (pending : Pending) (conn : Conn) → JustTalks conn (response_came number verdict pending conn)
 is_answered number verdict Pending.Nothing conn = closes conn _

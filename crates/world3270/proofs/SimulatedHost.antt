@@ -85,7 +85,7 @@ module _ (given : Given) (app : Application) (lu : List ℕ) (t : Told) (s : Sim
 -- ---- the host sends
 
 -- in its turn, with nothing pending, once it agreed, nothing is on the way up
-nothing_up : (app : Application) (link : Link) → Kept app (view_of link) → is_agreed link.host.talk.state ≡ true → link.host.turn ≡ whose.Host → link.host.pending ≡ Pending.Nothing → link.up ≡ []
+pub nothing_up : (app : Application) (link : Link) → Kept app (view_of link) → is_agreed link.host.talk.state ≡ true → link.host.turn ≡ whose.Host → link.host.pending ≡ Pending.Nothing → link.up ≡ []
 nothing_up app link k agrees turns pends = by_moment k.moment k.at
   where
     quiet : UnderWay link.lost link.up [] → link.up ≡ []
@@ -136,14 +136,14 @@ act_talk : (app : Application) (conn : Conn) (act : Act) → (done app conn act)
 act_talk app conn Act.Read = refl
 act_talk app conn (Act.Show panel message keep values) = refl
 
-may_act_when : (turn : Turn) (pending : Pending) (agreed : Bool) → may_act turn pending agreed ≡ true → (turn ≡ whose.Host) × (pending ≡ Pending.Nothing)
+pub may_act_when : (turn : Turn) (pending : Pending) (agreed : Bool) → may_act turn pending agreed ≡ true → (turn ≡ whose.Host) × (pending ≡ Pending.Nothing)
 may_act_when whose.Host Pending.Nothing agreed may = (refl, refl)
 may_act_when whose.Host (Pending.Writing number command) agreed may = absurd (cc)
 may_act_when whose.Host (Pending.Reading number) agreed may = absurd (cc)
 may_act_when whose.Host (Pending.Noting number command) agreed may = absurd (cc)
 may_act_when whose.Terminal pending agreed may = absurd (cc)
 
-may_note_when : (turn : Turn) (pending : Pending) (agreed : Bool) → may_note turn pending agreed ≡ true → (turn ≡ whose.Terminal) × (pending ≡ Pending.Nothing)
+pub may_note_when : (turn : Turn) (pending : Pending) (agreed : Bool) → may_note turn pending agreed ≡ true → (turn ≡ whose.Terminal) × (pending ≡ Pending.Nothing)
 may_note_when whose.Terminal Pending.Nothing agreed may = (refl, refl)
 may_note_when whose.Terminal (Pending.Writing number command) agreed may = absurd (cc)
 may_note_when whose.Terminal (Pending.Reading number) agreed may = absurd (cc)

@@ -172,8 +172,7 @@ pub record Represents (number : ℕ) (bytes : OverBytes) (told : Told) : Type 0 
   pub unnamed : told.link.term.waits ≡ false
   pub stored : CanBeSent told.link.term.display.shape told.link.term.display.screen
 
--- Both ends as they are once the host has agreed on this LU. The sizes of the terminal's model are one: where a panel of another size is on its
--- way, the host reads a second key that was pressed on the old screen by the new size.
+-- both ends as they are once the host has agreed on this LU
 pub record BeginsOverBytes (app : Application) (number : ℕ) (lu : List ℕ) (bytes : OverBytes) : Type 0 where
   pub begin : Told
   pub begins : Begins app lu begin
@@ -181,7 +180,6 @@ pub record BeginsOverBytes (app : Application) (number : ℕ) (lu : List ℕ) (b
   pub below : number < most_connections
   pub is_host : IsHost bytes.host
   pub pool : IsSoundPool bytes.host.pool
-  pub one_size : app.alternate begin.link.term.display.model ≡ app.begins
 
 -- ---- what holds
 

@@ -1,9 +1,9 @@
 -- Which items a host reads as which messages (RFC 1647, sections 8.1 and 10.4; that it reads no more of a record is our profile), and what
 -- may come to it next.
-use Rattle.std.specs.Prelude.{◌≡◌, ◌⊎◌, ◌<◌, ⊤, ℕ, true, List, [], ◌∷◌}
+use Rattle.std.specs.Prelude.{◌≡◌, ◌⊎◌, ◌<◌, ◌≤◌, ⊤, ℕ, true, List, [], ◌∷◌}
 use Rattle.codes3270.specs.Size.{cells_in}
 use Rattle.datastream.specs.InboundText.{InboundParts, IsInbound}
-use Rattle.datastream.specs.declared.inbound_part.Form.TheVariants.{Modified}
+use Rattle.datastream.specs.declared.inbound_part.Form.TheVariants.{Buffer, Modified}
 use Rattle.datastream.specs.declared.inbound_part.Part.{Part}
 use Rattle.datastream.specs.declared.inbound_part.Part.TheVariants.{At, Char, Attr}
 use Rattle.telnet_wire.specs.Items.{WireItem, Record}
@@ -12,9 +12,10 @@ use Rattle.tn3270e_msg.specs.Header.{Begins}
 use Rattle.tn3270e_msg.specs.Talk.{item_of}
 use Rattle.tn3270e_msg.specs.declared.header.DataType.TheVariants.{Data3270, Response}
 use Rattle.tn3270e_msg.specs.declared.header.Header.{Header}
-use Rattle.host_core.specs.Items.{may_be_second_key, verdict_of}
+use Rattle.host_core.specs.Items.{may_be_second_key, second_key_size, verdict_of}
 use Rattle.host_core.specs.Messages.{ToHost, Verdict}
 use Rattle.host_core.specs.Session.{Conn}
+use Rattle.host_core.specs.Takes.{form_awaited}
 use Rattle.world3270.specs.Forms.{IsAwaitedBy}
 use Rattle.world3270.specs.Stands.{BytesStand, all_items}
 use Rattle.world3270.specs.StandsEnds.{IsSaid}
@@ -61,13 +62,13 @@ HasNoLead (At address ∷ parts) = ⊤
 HasNoLead (Char char ∷ parts) = ⊥
 HasNoLead (Attr attr ∷ parts) = ⊥
 
--- A second key's data while a read is pending: the host reads it as that only where it can't be the read's answer.
+-- A second key's data while a paint or a read is pending: it fits the screen by whose size the host reads it, and can't be the read's answer.
 pub record IsSecondKeyIn (conn : Conn) (parts : InboundParts) : Type 0 where
   pub may_be : may_be_second_key conn ≡ true
   pub form : parts.form ≡ Modified
-  pub size : parts.size ≡ conn.shape
+  pub size : cells_in parts.size ≤ cells_in (second_key_size conn conn.pending)
   pub some : 0 < cells_in conn.shape
-  pub no_lead : HasNoLead parts.parts
+  pub no_lead : form_awaited conn.pending ≡ Buffer → HasNoLead parts.parts
 
 -- LUs are named; data has the form and the size that the host awaits, or is a second key's
 abbrev pub MayComeUp : Conn → ToHost → Type 0

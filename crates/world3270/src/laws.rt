@@ -397,12 +397,13 @@ pub fn terminals_keep_the_rules()
 /// unprotected cells, their MDT and the cursor, with MDT on after any change but Erase Input; and
 /// sends a key's AID with exactly the modified fields: then it is bound to that LU alone. Whenever the
 /// host decides, the headline's three parts hold of what it was told: the screen as it was when the
-/// first key since the last paint was pressed. The screen as it is by then has the attributes and the
-/// protected characters that the host believes. Each open question has the key, the cursor and the
-/// fields of what the host was told. Once a paint is answered, the screen that it left shows the panel,
-/// whatever was typed before it came. Neither end closes the connection by a cause. The terminal
-/// needn't wait for the host: meanwhile its operator may type, and press any key but Clear. That one
-/// is left out, since the host closes the connection if a command is on its way then.
+/// first key since the last paint was pressed, or as it was read since. The screen as it is by then has
+/// the attributes and the protected characters that the host believes. Each open question has the key,
+/// the cursor and the fields of what the host was told. Once a paint is answered, the screen that it
+/// left shows the panel, whatever was typed before it came. Neither end closes the connection by a
+/// cause. The terminal needn't wait for the host: meanwhile its operator may type, and press any key
+/// but Clear. That one is left out, since the host closes the connection if a command is on its way
+/// then.
 pub fn every_terminal()
     ensures { EveryTerminal }
 {
@@ -414,8 +415,7 @@ pub fn every_terminal()
 /// fed the bytes that come up, however they are cut; it hands bytes over, acts, is answered by the
 /// application, sends notes and NOPs, where memory may be refused; the terminal takes each byte as
 /// RFC 1647 and GA23-0059 say, and spells what it sends as it likes. The bytes represent a
-/// connection over messages after moves that keep the rules, of which the law above speaks. Left out
-/// is a terminal of a model that is shown panels of two sizes.
+/// connection over messages after moves that keep the rules, of which the law above speaks.
 pub fn every_terminal_over_bytes()
     ensures { EveryTerminalOverBytes }
 {
