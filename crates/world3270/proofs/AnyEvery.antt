@@ -6,7 +6,7 @@ use Rattle.std.proofs.lemmas.List.Elements.{All-cons, All-nil}
 use Rattle.datastream.specs.InboundFields.{IsSendable, SentIsRead}
 use Rattle.host_core.specs.Application.{Application, AreTexts, AsksForScreens, IsApplication}
 use Rattle.host_core.specs.Messages.{ToHost, ToTerminal}
-use Rattle.host_core.specs.Session.{Conn, agreed_lu}
+use Rattle.host_core.specs.Session.{Conn, agreed_lu, is_agreed}
 use Rattle.host_core.specs.State.{Service, lu_of, service_at}
 use Rattle.host_core.specs.Feeds.{IsOpen}
 use Rattle.panels.specs.Characters.{AreCharacters}
@@ -25,7 +25,7 @@ use Rattle.world3270.specs.Known.{Known}
 use Rattle.world3270.specs.Readings.{IsReadAs, MayComeUp}
 use Rattle.world3270.specs.Rules.{Binds}
 use Rattle.world3270.specs.Standing.{conn_of}
-use Rattle.world3270.specs.Stands.{StandsDown, all_items, without_nops}
+use Rattle.world3270.specs.Stands.{StandsDown, without_nops}
 use Rattle.world3270.specs.StandsEnds.{NopHasNoEffect, TakesKeepSendable, TermTakes, WritesAreMarked}
 use Rattle.world3270.specs.StandsLinks.{HasTheSizes, StandsCompose, StandsGoOn}
 use Rattle.world3270.specs.Terminal.{Display}
@@ -37,13 +37,14 @@ use Rattle.world3270.proofs.AnyTerminal.{IsKept, IsTypedMove, Ready, TakesLaws}
 use Rattle.world3270.proofs.EveryTerminal.{begins_simulated, move_still, right_of}
 use Rattle.world3270.proofs.Numbers.{Numbered}
 use Rattle.world3270.proofs.Sendable.{IsWritten, blank_sendable}
-use Rattle.world3270.proofs.Simulation.{Simulated}
-use Rattle.world3270.proofs.Stands.{all_piecewise, stands_go_on, stands_join}
+use Rattle.world3270.proofs.Simulation.{Simulated, agrees_now}
+use Rattle.world3270.proofs.Stands.{nops_piecewise, stands_go_on, stands_join}
 use Rattle.world3270.proofs.StandsLinks.{host_sends, nop_stands, up_stands}
 
 -- ---- what is asked of the queue
 
--- Some property of what comes up holds at agreement; all typed moves that keep the rules keep it; and by it what comes up next may come.
+-- Some property of what comes up holds at agreement; all typed moves that keep the rules keep it; and by it what comes up
+-- next may come.
 pub record QueueIsKept (app : Application) (lu : List ℕ) (Queued : Told → Type 0) : Type 0 where
   pub begins : (t : Told) → Begins app lu t → t.link.lost ≡ false → Queued t
   pub goes_on : (move : Move) (t : Told) → Simulated app lu t → IsTexts t → Queued t → IsByTheRules move t → IsTypedMove move → Queued (moved app move t)
@@ -71,12 +72,12 @@ any_laws known takes keeps nop marks taken compose items read written kept = rec
     final = known.links.wrong_is_final;
     marks = marks;
     written = items;
-    join = stands_join all_items IsReadAs all_piecewise known.links.deliveries;
+    join = stands_join without_nops IsReadAs nops_piecewise known.links.deliveries;
   };
   hears = record {
     sends = host_sends compose;
     nop = nop_stands compose;
-    up = up_stands (stands_go_on all_items IsReadAs all_piecewise known.links.delivery_goes_on);
+    up = up_stands (stands_go_on without_nops IsReadAs nops_piecewise known.links.delivery_goes_on);
     final = known.links.wrong_is_final;
     one_header = known.links.one_header;
     fault_or_header = known.links.fault_or_header;
@@ -141,6 +142,7 @@ module _ (laws : AnyLaws) (app : Application) (is : IsApplication app) (asks : A
         may = may.0;
         none = may.1;
         same = same_now given app is sizes lu t good.simulated;
+        agreed = ap (λ (c : Conn). is_agreed c.talk.state) good.simulated.simulates.host ∙ agrees_now good.simulated;
         comes_up = queue.comes_up t good.simulated good.texts good.queued;
         hears = hears_now given app is sizes lu t good.simulated;
         acts = acts_spelt paint bounded given app is asks sizes lu t good.simulated good.texts;

@@ -1,6 +1,7 @@
--- What comes up next to the host of a terminal that keeps the rules may come: it is what the waiting terminal says, or a second key, of the size
--- by which the host reads it. What is still asked for is that a second key's data can't be taken for a read's answer (`LeadsAreKept`).
-use Rattle.std.proofs.Common.{◌≡◌, ◌⊎◌, inl, inr, ◌<◌, ◌&&◌, ◌≤◌, ◌++◌, ℕ, Bool, true, false, Option, None, Some, List, [], ◌∷◌, arith, map, refl, ap, sym, subst, ◌∙◌, if◌then◌else◌}
+-- What comes up next to the host of a terminal that keeps the rules may come: it is what the waiting terminal says, or a
+-- second key, of the size by which the host reads it. What is still asked for is that a second key's data can't be taken
+-- for a read's answer (`LeadsAreKept`).
+use Rattle.std.proofs.Common.{◌≡◌, ◌⊎◌, inl, inr, ◌&&◌, ◌≤◌, ◌++◌, ℕ, Bool, true, false, Option, None, Some, List, [], ◌∷◌, arith, map, refl, ap, sym, subst, ◌∙◌, if◌then◌else◌}
 use Rattle.std.specs.Prelude.{⊤, All}
 use Rattle.std.proofs.lemmas.List.Elements.{All-cons, All-head, All-map, All-nil, All-tail}
 use Rattle.codes3270.specs.Size.{Shape, alternate_of, cells_in, model_2}
@@ -109,7 +110,8 @@ abbrev pub IsSizedIf : Application → Model → Bool → Shape → Shape → Ty
 IsSizedIf app model true now size = IsSizeOf app model size
 IsSizedIf app model false now size = size ≡ now
 
--- Data has the size that the host set last. Only while a paint waits for its answer, data before that answer may have another size of the model.
+-- Data has the size that the host set last. Only while a paint waits for its answer, data before that answer may have
+-- another size of the model.
 abbrev pub AreSized : Application → Model → Bool → Shape → List ToHost → Type 0
 AreSized app model painting now [] = ⊤
 AreSized app model painting now (ToHost.Data parts ∷ up) = IsSizedIf app model painting now parts.size × AreSized app model painting now up

@@ -1,6 +1,6 @@
 -- A terminal that keeps the rules takes bytes and is operated: the bytes on its connection then represent that over messages after moves that
 -- keep the rules.
-use Rattle.std.proofs.Common.{◌≡◌, ◌≢◌, ◌||◌, ℕ, Bool, true, false, Option, None, Some, List, [], ◌∷◌, ◌++◌, refl, ap, sym, subst, ◌∙◌, if◌then◌else◌}
+use Rattle.std.proofs.Common.{◌≡◌, ◌≢◌, ◌||◌, ℕ, Bool, true, false, Option, None, Some, List, [], ◌∷◌, ◌++◌, append-nil, refl, ap, sym, subst, ◌∙◌, if◌then◌else◌}
 use Rattle.codes3270.specs.declared.attention.Aid.TheVariants.{Clear}
 use Rattle.datastream.specs.Screen.{Screen}
 use Rattle.lu_pool.specs.Asking.{answer_to}
@@ -9,7 +9,7 @@ use Rattle.lu_pool.specs.declared.entry.Entry.{Entry}
 use Rattle.presentation.specs.Sizes.{SizedScreen}
 use Rattle.shadow.specs.Pairs.{Pairwise}
 use Rattle.std.specs.Prelude.{⊤, IfSome}
-use Rattle.telnet_wire.specs.Items.{sent_bytes}
+use Rattle.telnet_wire.specs.Items.{WireItem, sent_bytes}
 use Rattle.telnet_wire.specs.Laws.{ItemsAreRead, WrongIsFinal}
 use Rattle.telnet_wire.specs.Reading.{Rest}
 use Rattle.tn3270e_msg.specs.TermTable.{Term}
@@ -20,6 +20,7 @@ use Rattle.host_core.specs.Application.{Application, AreTexts}
 use Rattle.host_core.specs.Messages.{ToHost, ToTerminal}
 use Rattle.host_core.specs.Notes.{IsNoteText, noted}
 use Rattle.host_core.specs.Questions.{answered_on}
+use Rattle.host_core.specs.Session.{is_agreed}
 use Rattle.host_core.specs.State.{connection_at}
 use Rattle.host_core.specs.Takes.{took as host_took}
 use Rattle.host_core.specs.declared.question.Answer.{Answer as Said}
@@ -32,14 +33,14 @@ use Rattle.world3270.specs.Readings.{AreReadAs, IsReadAs, MayComeUp}
 use Rattle.world3270.specs.Rules.{Operates}
 use Rattle.world3270.specs.Sendable.{CanBeSent}
 use Rattle.world3270.specs.Standing.{with_out}
-use Rattle.world3270.specs.Stands.{BytesDown, BytesStand, Holds, LinkStandsBy, StandsDown, StandsUp, all_items, without_nops}
+use Rattle.world3270.specs.Stands.{BytesDown, BytesStand, Holds, LinkStandsBy, StandsDown, StandsUp, without_nops}
 use Rattle.world3270.specs.StandsEnds.{NopHasNoEffect, TakesKeepSendable, TermTakes, WritesAreMarked, is_painted}
 use Rattle.world3270.specs.StandsLinks.{MayComeAll, NoneCloses, StandsGoOn, StandsJoin, any_painted, took_down}
 use Rattle.world3270.specs.Terminal.{Display, TermEnd, TermStep, is_bound, once_bound, took}
 use Rattle.world3270.specs.TrackedTerminals.{TrackedTerminal}
 use Rattle.world3270.proofs.HostItems.{stands_read}
 use Rattle.world3270.proofs.ItemsSpelt.{Spells}
-use Rattle.world3270.proofs.Stands.{written_stand}
+use Rattle.world3270.proofs.Stands.{all_heard, written_stand}
 use Rattle.world3270.proofs.StandsLinks.{Ran, byte_came, ran_stands}
 
 -- ---- what is known of a connection over messages after moves that keep the rules
@@ -51,6 +52,7 @@ pub record Ready (app : Application) (t : Told) : Type 0 where
   pub none : NoneCloses t.link.term t.link.down
   pub same : (message : ToTerminal) (others : List ToTerminal) → t.link.down ≡ message ∷ others → executed t.link.term message ≡ took t.link.term message
   pub comes_up : (message : ToHost) (others : List ToHost) → t.link.up ≡ message ∷ others → MayComeUp t.link.host message
+  pub agreed : is_agreed t.link.host.talk.state ≡ true
   pub hears : (pool : List Entry) → IsSoundPool pool → (message : ToHost) (others : List ToHost) → t.link.up ≡ message ∷ others
       → (host_took (answer_to pool) t.link.host message).closes ≡ None
   pub acts : IfSome (acted app t.link.host) (λ sending. Spells sending.message)
@@ -119,7 +121,9 @@ pairs_become R S becomes (x ∷ xs) (y ∷ ys) h = (becomes x y h.0, pairs_becom
 ours_read : ItemsAreRead → (link now : Link) (old new : TrackedTerminal) (behind : List ℕ) → old.terminal.out ≡ [] → (ran : Ran link now old new behind) → AreReadAs new.terminal.out ran.sends
 ours_read written link now old new behind silent ran =
     subst (λ (b : List ℕ). AreReadAs b ran.sends) (sym (ran.out ∙ ap (λ (b : List ℕ). b ++ sent_bytes ran.says) silent))
-    (written_stand all_items IsReadAs written ran.says ran.sends ran.fit (pairs_become StandsUp IsReadAs stands_read ran.says ran.sends ran.said))
+    (written_stand without_nops IsReadAs written ran.says ran.sends ran.fit
+    (subst (λ (items : List WireItem). Pairwise IsReadAs items ran.sends) (sym (all_heard ran.says ran.sends ran.said))
+    (pairs_become StandsUp IsReadAs stands_read ran.says ran.sends ran.said)))
 
 -- ---- messages come down
 
@@ -233,7 +237,7 @@ pub record TakesLaws : Type 0 where
   pub final : WrongIsFinal
   pub marks : WritesAreMarked
   pub written : ItemsAreRead
-  pub join : StandsJoin all_items IsReadAs
+  pub join : StandsJoin without_nops IsReadAs
 
 module _ (laws : TakesLaws) (app : Application) (Good : Told → Type 0) (kept : IsKept app Good) where
   pub takes_goes : (number : ℕ) (old new : OverBytes) (t : Told) → Good t → Represents number old t → Takes old new → Goes app Good number new t
@@ -252,7 +256,7 @@ module _ (laws : TakesLaws) (app : Application) (Good : Told → Type 0) (kept :
       let said : AreReadAs comes.bytes ran.sends = comes.alike ran.sends (ours_read laws.written link (took_down taken others link) old.tracked comes.ours (comes.behind ++ out) term.silent ran) in
       let lost : false ≡ link.lost = is.stands.lost in
       let stands = ran_stands (link_over number old) link (took_down taken others link) (comes.behind ++ out) comes.bytes comes.ours is.stands ran
-      (subst (λ (l : Bool). BytesStand all_items IsReadAs is.stands.read (sent l old.up comes.bytes) (sent l link.up ran.sends)) lost
+      (subst (λ (l : Bool). BytesStand without_nops IsReadAs is.stands.read (sent l old.up comes.bytes) (sent l link.up ran.sends)) lost
       (laws.join is.stands.read old.up comes.bytes link.up ran.sends is.stands.up said)) in
       let down = all_came app Good kept taken others t good one.came.whole in
       let bytes : OverBytes = record {
@@ -265,7 +269,7 @@ module _ (laws : TakesLaws) (app : Application) (Good : Told → Type 0) (kept :
       let back = sym down.link_is in
       let represents : Represents number bytes (after_moves app down.moves t) = record {
         is_open = is.is_open;
-        stands = subst (λ (l : Link). LinkStandsBy IsReadAs (link_over number bytes) l) back stands;
+        stands = subst (λ (l : Link). LinkStandsBy without_nops IsReadAs (link_over number bytes) l) back stands;
         waits = ap (λ (b : Bool). if b then false else old.waits) one.marked ∙ ap (λ (w : Bool). if any_painted link.term taken then false else w) is.waits ∙ sym down.waits_is;
         unnamed = ap (λ (l : Link). l.term.waits) down.link_is ∙ all_waits taken others link ∙ is.unnamed;
         stored = subst (λ (l : Link). CanBeSent l.term.display.shape l.term.display.screen) back ran.can;
@@ -327,12 +331,12 @@ module _ (laws : TakesLaws) (app : Application) (Good : Told → Type 0) (kept :
         waits = old.waits || is_queued step.sends;
       } in
       let lost : false ≡ link.lost = is.stands.lost in
-      let stands : LinkStandsBy IsReadAs (link_over number bytes) now = record {
+      let stands : LinkStandsBy without_nops IsReadAs (link_over number bytes) now = record {
         lost = is.stands.lost;
         host_here = is.stands.host_here;
         term_here = is.stands.term_here;
         read = is.stands.read;
-        up = subst (λ (l : Bool). BytesStand all_items IsReadAs is.stands.read (sent false old.up does.bytes) (sent l link.up step.sends)) lost
+        up = subst (λ (l : Bool). BytesStand without_nops IsReadAs is.stands.read (sent false old.up does.bytes) (sent l link.up step.sends)) lost
             (laws.join is.stands.read old.up does.bytes link.up step.sends is.stands.up does.spelt);
         host = λ there. let host = is.stands.host there in record { host = host.host; rest_is = host.rest_is };
         term = λ which its. record {
@@ -358,8 +362,33 @@ module _ (laws : TakesLaws) (app : Application) (Good : Told → Type 0) (kept :
       (subst (λ (b : OverBytes). Represents number b (operated step t)) (sym does.leaves)
       (record {
         is_open = is.is_open;
-        stands = subst (λ (l : Link). LinkStandsBy IsReadAs (link_over number bytes) l) back stands;
+        stands = subst (λ (l : Link). LinkStandsBy without_nops IsReadAs (link_over number bytes) l) back stands;
         waits = ap (λ (w : Bool). w || is_queued step.sends) is.waits;
         unnamed = ap (λ (l : Link). l.term.waits) link_is ∙ left.waits ∙ is.unnamed;
         stored = subst (λ (l : Link). CanBeSent l.term.display.shape l.term.display.screen) back does.stored;
       }))
+
+  -- ---- it sends NOPs
+
+  pub nops_goes : (number : ℕ) (bytes : List ℕ) (old : OverBytes) (t : Told) → Good t → Represents number old t → AreReadAs bytes [] → Goes app Good number (record old { up = old.up ++ bytes }) t
+  nops_goes number bytes old t good is nops = stays app Good number (record old { up = old.up ++ bytes }) t good (record {
+    is_open = is.is_open;
+    stands = record {
+      lost = is.stands.lost;
+      host_here = is.stands.host_here;
+      term_here = is.stands.term_here;
+      read = is.stands.read;
+      up = subst (λ (messages : List ToHost). BytesStand without_nops IsReadAs is.stands.read (old.up ++ bytes) messages) (append-nil t.link.up)
+          (laws.join is.stands.read old.up bytes t.link.up [] is.stands.up nops);
+      host = λ there. let host = is.stands.host there in record { host = host.host; rest_is = host.rest_is };
+      term = λ which its. let term = is.stands.term which its in record {
+        rest = term.rest;
+        holds = record { talk = term.holds.talk; attached = term.holds.attached; is_end = term.holds.is_end };
+        silent = term.silent;
+        down = term.down;
+      };
+    };
+    waits = is.waits;
+    unnamed = is.unnamed;
+    stored = is.stored;
+  })

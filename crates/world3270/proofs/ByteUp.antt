@@ -8,7 +8,7 @@ use Rattle.lu_pool.specs.Asking.{answer_to}
 use Rattle.lu_pool.specs.Holders.{granted_if}
 use Rattle.lu_pool.specs.declared.entry.Entry.{Entry}
 use Rattle.telnet_wire.specs.Items.{WireItem, sent_bytes}
-use Rattle.telnet_wire.specs.Reading.{Rest, nothing, Delivers, GoesWrong}
+use Rattle.telnet_wire.specs.Reading.{Rest, Delivers, GoesWrong}
 use Rattle.tn3270e_msg.specs.Header.{record_limit}
 use Rattle.tn3270e_msg.specs.declared.cause.Cause.{Cause}
 use Rattle.tn3270e_msg.specs.declared.cause.Stop.{Stop}
@@ -150,7 +150,7 @@ module _ (known : Known) (begin : Begin) (is : IsBegin begin) (events : List Mes
         stands = subst (λ (d : List ℕ). LinkStands (record (link_of number old) { host_rest = to; up = drop 1 (up_of number old); down = d }) link)
             (sym (nothing_sent (link_of number old).lost (down_of number old)))
             (subst (λ (u : List ℕ). LinkStands (record (link_of number old) { host_rest = to; up = u }) link) bytes_behind
-            (none_first known.links.up (link_of number old) link byte behind to (stands.links number) host_here queue read));
+            (none_first known.links.up (link_of number old) link byte behind to (stands.links number) host_here queue [] refl read));
       } in
       let stood = one_stood number counter old world world taken known_here.agree known_here.agree stands in
       record {
@@ -271,7 +271,7 @@ module _ (known : Known) (begin : Begin) (is : IsBegin begin) (events : List Mes
       → OneByte begin events number byte counter old
   something_completes byte behind counter rest to conn item done queue held delivers item_taken is_counter =
       let read = subst (λ (r : Rest). Delivers record_limit r (byte ∷ []) (item ∷ []) to) (sym (ap rest_of held)) delivers in
-      let first = one_first known.links.up (link_of number old) link byte behind to (stands.links number) host_here queue item read in
+      let first = one_first known.links.up (link_of number old) link byte behind to (stands.links number) host_here queue item refl read in
       item_completes first.message first.others first.whole item done byte behind to counter queue read first.is
       (subst (λ (c : Conn). TakesItem (answer_to old.host.pool) c item done) (sym (ap conn_of held)) item_taken) first.stands is_counter
 

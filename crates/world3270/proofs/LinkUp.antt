@@ -14,7 +14,7 @@ use Rattle.host_core.specs.Says.{item_sent}
 use Rattle.host_core.specs.Session.{Conn}
 use Rattle.host_core.specs.Takes.{HostStep}
 use Rattle.world3270.specs.Link.{Link, sent}
-use Rattle.world3270.specs.Stands.{BytesStand, ByteLink, LinkStandsBy, StandsDown, all_items}
+use Rattle.world3270.specs.Stands.{BytesStand, ByteLink, LinkStandsBy, StandsDown}
 use Rattle.world3270.specs.StandsEnds.{IsSaid}
 use Rattle.world3270.specs.StandsLinks.{HostSendsBy, MayComeAll, UpStandsBy, said_down, sent_down}
 use Rattle.world3270.specs.Terminal.{TermEnd, took as term_took}
@@ -43,9 +43,9 @@ may_behind : (front back : List ToTerminal) (end : TermEnd) → MayComeAll end (
 may_behind [] back end may = (end, may)
 may_behind (message ∷ front) back end may = may_behind front back (term_took end message).end may.2
 
-module _ {Up : WireItem → ToHost → Type 0} (host_sends : HostSendsBy Up) (bytes : ByteLink) (link : Link) (conn : Conn) (sends : List ToTerminal) (talk : List Saying) (says : sends ≡ map ToTerminal.TalksDown talk)
-    (stands : LinkStandsBy Up bytes link) where
-  said_if : (lost : Bool) → link.lost ≡ lost → MayComeAll link.term (sent link.lost link.down sends) → LinkStandsBy Up (said_down conn (map item_sent sends) bytes) (sent_down conn sends link)
+module _ {heard : List WireItem → List WireItem} {Up : WireItem → ToHost → Type 0} (host_sends : HostSendsBy heard Up) (bytes : ByteLink) (link : Link) (conn : Conn) (sends : List ToTerminal) (talk : List Saying) (says : sends ≡ map ToTerminal.TalksDown talk)
+    (stands : LinkStandsBy heard Up bytes link) where
+  said_if : (lost : Bool) → link.lost ≡ lost → MayComeAll link.term (sent link.lost link.down sends) → LinkStandsBy heard Up (said_down conn (map item_sent sends) bytes) (sent_down conn sends link)
   said_if true e may = lost_says host_sends bytes link conn (map item_sent sends) sends stands e
   said_if false e may =
       let all = may_behind link.down sends link.term (subst (λ (l : Bool). MayComeAll link.term (sent l link.down sends)) e may) in
@@ -55,7 +55,7 @@ module _ {Up : WireItem → ToHost → Type 0} (host_sends : HostSendsBy Up) (by
       (subst (λ (m : List ToTerminal). Pairwise StandsDown (map item_sent m) m) (sym says) (talk_stands talk))
 
   -- The connection then represents the one on which the host said so.
-  pub sends_stand : MayComeAll link.term (sent link.lost link.down sends) → LinkStandsBy Up (said_down conn (map item_sent sends) bytes) (sent_down conn sends link)
+  pub sends_stand : MayComeAll link.term (sent link.lost link.down sends) → LinkStandsBy heard Up (said_down conn (map item_sent sends) bytes) (sent_down conn sends link)
   sends_stand may = said_if link.lost refl may
 
 -- ---- the connection behind a message
@@ -67,40 +67,41 @@ link_behind step others link = record link { up = others; host = step.conn; down
 -- ---- the first byte
 
 -- the item that it completes represents the first message, and the bytes behind it the others
-pub record FirstMessage (Up : WireItem → ToHost → Type 0) (bytes : ByteLink) (link : Link) (item : WireItem) : Type 0 where
+pub record FirstMessage (heard : List WireItem → List WireItem) (Up : WireItem → ToHost → Type 0) (bytes : ByteLink) (link : Link) (item : WireItem) : Type 0 where
   pub message : ToHost
   pub others : List ToHost
   pub whole : link.up ≡ message ∷ others
   pub is : Up item message
-  pub stands : LinkStandsBy Up bytes (record link { up = others })
+  pub stands : LinkStandsBy heard Up bytes (record link { up = others })
 
-module _ {Up : WireItem → ToHost → Type 0} (up_stands : UpStandsBy Up) (bytes : ByteLink) (link : Link) (byte : ℕ) (behind : List ℕ) (to : Rest)
-    (stands : LinkStandsBy Up bytes link) (here : link.host_here ≡ true) (queue : bytes.up ≡ byte ∷ behind) where
+module _ {heard : List WireItem → List WireItem} {Up : WireItem → ToHost → Type 0} (up_stands : UpStandsBy heard Up) (bytes : ByteLink) (link : Link) (byte : ℕ) (behind : List ℕ) (to : Rest)
+    (stands : LinkStandsBy heard Up bytes link) (here : link.host_here ≡ true) (queue : bytes.up ≡ byte ∷ behind) where
   abbrev now : ByteLink
   now = record bytes { host_rest = to; up = behind }
 
-  -- no item is complete with it
-  pub none_first : Delivers record_limit bytes.host_rest (byte ∷ []) [] to → LinkStandsBy Up now link
-  none_first delivers =
-      let came = up_stands bytes link (byte ∷ []) behind [] to stands here queue delivers in
-      let others : came.others ≡ link.up = sym (came.whole ∙ ap (λ (m : List ToHost). m ++ came.others) (none_for_none Up came.taken came.each)) in
-      subst (λ (m : List ToHost). LinkStandsBy Up now (record link { up = m })) others came.stands
+  -- it completes no item that is heard
+  pub none_first : (items : List WireItem) → heard items ≡ [] → Delivers record_limit bytes.host_rest (byte ∷ []) items to → LinkStandsBy heard Up now link
+  none_first items unheard delivers =
+      let came = up_stands bytes link (byte ∷ []) behind items to stands here queue delivers in
+      let none = subst (λ (some : List WireItem). Pairwise Up some came.taken) unheard came.each in
+      let others : came.others ≡ link.up = sym (came.whole ∙ ap (λ (m : List ToHost). m ++ came.others) (none_for_none Up came.taken none)) in
+      subst (λ (m : List ToHost). LinkStandsBy heard Up now (record link { up = m })) others came.stands
 
-  just_one : (item : WireItem) (taken others : List ToHost) → link.up ≡ taken ++ others → Pairwise Up (item ∷ []) taken → LinkStandsBy Up now (record link { up = others })
-      → FirstMessage Up now link item
+  just_one : (item : WireItem) (taken others : List ToHost) → link.up ≡ taken ++ others → Pairwise Up (item ∷ []) taken → LinkStandsBy heard Up now (record link { up = others })
+      → FirstMessage heard Up now link item
   just_one item [] others whole each stood = absurd each
   just_one item (message ∷ []) others whole each stood = record { message = message; others = others; whole = whole; is = each.0; stands = stood }
   just_one item (message ∷ other ∷ more) others whole each stood = absurd each.1
 
-  -- it completes an item
-  pub one_first : (item : WireItem) → Delivers record_limit bytes.host_rest (byte ∷ []) (item ∷ []) to → FirstMessage Up now link item
-  one_first item delivers =
+  -- it completes an item that is heard
+  pub one_first : (item : WireItem) → heard (item ∷ []) ≡ item ∷ [] → Delivers record_limit bytes.host_rest (byte ∷ []) (item ∷ []) to → FirstMessage heard Up now link item
+  one_first item is_heard delivers =
       let came = up_stands bytes link (byte ∷ []) behind (item ∷ []) to stands here queue delivers in
-      just_one item came.taken came.others came.whole came.each came.stands
+      just_one item came.taken came.others came.whole (subst (λ (some : List WireItem). Pairwise Up some came.taken) is_heard came.each) came.stands
 
 -- bytes under way are read without fault
-pub never_wrong : {Up : WireItem → ToHost → Type 0} → WrongIsFinal → (bytes : ByteLink) (link : Link) (byte : ℕ) (behind : List ℕ) (fault : WireFault) → LinkStandsBy Up bytes link
+pub never_wrong : {heard : List WireItem → List WireItem} {Up : WireItem → ToHost → Type 0} → WrongIsFinal → (bytes : ByteLink) (link : Link) (byte : ℕ) (behind : List ℕ) (fault : WireFault) → LinkStandsBy heard Up bytes link
     → link.host_here ≡ true → bytes.up ≡ byte ∷ behind → GoesWrong record_limit bytes.host_rest (byte ∷ []) fault → ⊥
-never_wrong {Up} final bytes link byte behind fault stands here queue wrong =
+never_wrong {heard} {Up} final bytes link byte behind fault stands here queue wrong =
     not_wrong final bytes.host_rest byte behind fault link.up
-    (subst (λ (b : List ℕ). BytesStand all_items Up bytes.host_rest b link.up) queue (up_behind_rest bytes link stands here)) wrong
+    (subst (λ (b : List ℕ). BytesStand heard Up bytes.host_rest b link.up) queue (up_behind_rest bytes link stands here)) wrong

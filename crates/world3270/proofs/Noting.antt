@@ -8,11 +8,9 @@ use Rattle.host_core.specs.NoteLaws.{IsNoteOf}
 use Rattle.host_core.specs.Notes.{IsNoteText, note_command, may_note, noted_as, noted}
 use Rattle.host_core.specs.declared.turn.Turn.{Turn}
 use Rattle.host_core.specs.declared.turn.Turn.TheVariants as whose
-use Rattle.host_core.specs.declared.turn_reason.TurnReason.TheVariants as turn_reasons
 use Rattle.host_core.specs.Session.{Pending, is_agreed}
 use Rattle.world3270.specs.Link.{Link, host_sent}
 use Rattle.world3270.specs.Moments.{Kind, Serving, Moment, IsAt, turn_at, pending_at, served_down, served_up}
-use Rattle.host_core.specs.declared.unheard.Unheard.TheVariants as unheards
 use Rattle.world3270.specs.Stages.{scene_of, Fact, Kept, Sizes, ShownAt, ShownIn}
 use Rattle.world3270.specs.View.{view_of}
 use Rattle.world3270.proofs.Acting.{Sends, kept_sent, sent_at, sent_view}

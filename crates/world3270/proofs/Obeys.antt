@@ -19,10 +19,9 @@ use Rattle.tn3270e_msg.specs.declared.term_talk.TermState.TheVariants.{Waiting, 
 use Rattle.host_core.specs.Application.{Application, IsApplication}
 use Rattle.host_core.specs.Messages.{ToTerminal, ToHost}
 use Rattle.host_core.specs.NoteLaws.{TakesNotes}
-use Rattle.host_core.specs.declared.turn_reason.TurnReason.TheVariants as turn_reasons
 use Rattle.world3270.specs.Given.{Given}
 use Rattle.world3270.specs.Headline.{SentFields}
-use Rattle.world3270.specs.Link.{Link, sent}
+use Rattle.world3270.specs.Link.{Link}
 use Rattle.world3270.specs.Moments.{Kind, Talking, Serving, Moment, UnderWay, IsAt, talk_in}
 use Rattle.world3270.specs.TurnReasons.{IsOccasion, IsCursorFor, IsOpenBy, IsOpenFor}
 use Rattle.world3270.specs.Stages.{Scene, IsNew, Decides, scene_of, once_taken, FactsAreExact, Sees, Fact, Kept, Sizes, IsKnownIfRead, ShownAt}

@@ -1,5 +1,5 @@
 -- The runs of the example with terminals that don't wait, and with terminals that break a rule, computed.
-use Rattle.std.proofs.Common.{◌≡◌, ◌==◌, ℕ, Bool, true, false, List, [], ◌∷◌, ◌++◌, Some, None, refl, ap, sym, lit≤, lit<}
+use Rattle.std.proofs.Common.{◌≡◌, ◌==◌, ℕ, true, false, List, [], ◌∷◌, ◌++◌, refl, ap, sym, lit≤, lit<}
 use Rattle.std.specs.Prelude.{slice_index_or}
 use Rattle.codes3270.specs.declared.attention.Aid.TheVariants.{Clear, Enter, NoAid}
 use Rattle.codes3270.specs.declared.attribute.Cell.{Cell}

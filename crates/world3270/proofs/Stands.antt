@@ -631,6 +631,20 @@ all_spoken (item ∷ items) (message ∷ messages) pairs =
     ap (λ (b : Bool). cond (not b) (item ∷ without_nops items) (without_nops items)) (is_spoken item message pairs.0)
     ∙ ap (λ (l : List WireItem). item ∷ l) (all_spoken items messages pairs.1)
 
+-- nor is one to the host
+is_heard : (item : WireItem) (message : ToHost) → StandsUp item message → is_nop item ≡ false
+is_heard item (ToHost.TalksUp (Saying.Opt verb code)) stands = ap is_nop stands
+is_heard item (ToHost.TalksUp (Saying.Sub sending)) stands = ap is_nop stands
+is_heard item (ToHost.Data parts) stands = ap is_nop stands.2
+is_heard item (ToHost.Response number verdict) stands = ap is_nop stands.1
+
+pub all_heard : (items : List WireItem) (messages : List ToHost) → Pairwise StandsUp items messages → without_nops items ≡ items
+all_heard [] messages pairs = refl
+all_heard (item ∷ items) [] pairs = absurd pairs
+all_heard (item ∷ items) (message ∷ messages) pairs =
+    ap (λ (b : Bool). cond (not b) (item ∷ without_nops items) (without_nops items)) (is_heard item message pairs.0)
+    ∙ ap (λ (l : List WireItem). item ∷ l) (all_heard items messages pairs.1)
+
 -- of two lists, one behind the other
 abbrev pub IsPiecewise : (List WireItem → List WireItem) → Type 0
 IsPiecewise spoken = (front back : List WireItem) → spoken (front ++ back) ≡ spoken front ++ spoken back

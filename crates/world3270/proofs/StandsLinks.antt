@@ -396,16 +396,16 @@ module _ (takes : TermTakes) (keeps : TakesKeepSendable) (nop : NopHasNoEffect) 
       absurd (not_wrong final rest byte behind fault link.down down (subst (λ (r : Rest). GoesWrong record_limit r (byte ∷ []) fault) (sym parts.0) wrong))
 
 -- what both ends have once the terminal took what came, and said this
-pub ran_stands : {Up : WireItem → ToHost → Type 0} (bytes : ByteLink) (link now : Link) (behind said : List ℕ) (new : TrackedTerminal) (stands : LinkStandsBy Up bytes link)
-    (ran : Ran link now bytes.tracked new behind) → BytesStand all_items Up stands.read (sent link.lost bytes.up said) (sent link.lost link.up ran.sends)
-    → LinkStandsBy Up (fed (with_out said new) behind bytes) now
-ran_stands {Up} bytes link now behind said new stands ran queue = record {
+pub ran_stands : {heard : List WireItem → List WireItem} {Up : WireItem → ToHost → Type 0} (bytes : ByteLink) (link now : Link) (behind said : List ℕ) (new : TrackedTerminal) (stands : LinkStandsBy heard Up bytes link)
+    (ran : Ran link now bytes.tracked new behind) → BytesStand heard Up stands.read (sent link.lost bytes.up said) (sent link.lost link.up ran.sends)
+    → LinkStandsBy heard Up (fed (with_out said new) behind bytes) now
+ran_stands {heard} {Up} bytes link now behind said new stands ran queue = record {
   lost = stands.lost ∙ sym ran.lost;
   host_here = stands.host_here ∙ sym ran.host_here;
   term_here = stands.term_here ∙ sym ran.term_here;
   read = stands.read;
-  up = subst (λ (m : List ToHost). BytesStand all_items Up stands.read (sent bytes.lost bytes.up said) m) (sym ran.up)
-      (subst (λ (l : Bool). BytesStand all_items Up stands.read (sent l bytes.up said) (sent link.lost link.up ran.sends)) (sym stands.lost) queue);
+  up = subst (λ (m : List ToHost). BytesStand heard Up stands.read (sent bytes.lost bytes.up said) m) (sym ran.up)
+      (subst (λ (l : Bool). BytesStand heard Up stands.read (sent l bytes.up said) (sent link.lost link.up ran.sends)) (sym stands.lost) queue);
   host = λ there. let host = stands.host (sym ran.host_here ∙ there) in record { host = host.host ∙ sym ran.host; rest_is = host.rest_is };
   term = λ which is. record { rest = ran.rest; holds = silenced ran.rest (with_out said new) now.term (record { talk = ran.holds.talk; attached = ran.holds.attached; is_end = ran.holds.is_end }); silent = refl; down = ran.down };
 }
@@ -472,7 +472,7 @@ goes_down : StandsCompose without_nops StandsDown → (lost : Bool) (rest : Rest
 goes_down compose true rest bytes messages more items stands fit said = stands
 goes_down compose false rest bytes messages more items stands fit said = compose rest bytes messages more items stands fit said
 
-pub host_sends : {Up : WireItem → ToHost → Type 0} → StandsCompose without_nops StandsDown → HostSendsBy Up
+pub host_sends : {heard : List WireItem → List WireItem} {Up : WireItem → ToHost → Type 0} → StandsCompose without_nops StandsDown → HostSendsBy heard Up
 host_sends compose bytes link conn items messages stands fit said = record {
   lost = stands.lost;
   host_here = stands.host_here;
@@ -493,7 +493,7 @@ host_sends compose bytes link conn items messages stands fit said = record {
 nop_can_come : CanCome record_limit no_operation
 nop_can_come = (λ e. absurd (omega (arith, e)), omega arith)
 
-pub nop_stands : {Up : WireItem → ToHost → Type 0} → StandsCompose without_nops StandsDown → NopStandsBy Up
+pub nop_stands : {heard : List WireItem → List WireItem} {Up : WireItem → ToHost → Type 0} → StandsCompose without_nops StandsDown → NopStandsBy heard Up
 nop_stands compose bytes link stands = record {
   lost = stands.lost;
   host_here = stands.host_here;
@@ -521,15 +521,15 @@ same_term bytes with_bytes link with_link term a b c d = record {
 }
 
 -- Where the host is there, its decoder holds what was read.
-pub up_behind_rest : {Up : WireItem → ToHost → Type 0} (bytes : ByteLink) (link : Link) → LinkStandsBy Up bytes link → link.host_here ≡ true
-    → BytesStand all_items Up bytes.host_rest bytes.up link.up
-up_behind_rest {Up} bytes link stands here = subst (λ (r : Rest). BytesStand all_items Up r bytes.up link.up) (sym (stands.host here).rest_is) stands.up
+pub up_behind_rest : {heard : List WireItem → List WireItem} {Up : WireItem → ToHost → Type 0} (bytes : ByteLink) (link : Link) → LinkStandsBy heard Up bytes link → link.host_here ≡ true
+    → BytesStand heard Up bytes.host_rest bytes.up link.up
+up_behind_rest {heard} {Up} bytes link stands here = subst (λ (r : Rest). BytesStand heard Up r bytes.up link.up) (sym (stands.host here).rest_is) stands.up
 
-pub up_stands : {Up : WireItem → ToHost → Type 0} → StandsGoOn all_items Up → UpStandsBy Up
-up_stands {Up} goes_on bytes link front behind items to stands here queue delivers =
+pub up_stands : {heard : List WireItem → List WireItem} {Up : WireItem → ToHost → Type 0} → StandsGoOn heard Up → UpStandsBy heard Up
+up_stands {heard} {Up} goes_on bytes link front behind items to stands here queue delivers =
     let host = stands.host here in
     let some = goes_on bytes.host_rest to front behind items link.up
-    (subst (λ (b : List ℕ). BytesStand all_items Up bytes.host_rest b link.up) queue (up_behind_rest bytes link stands here)) delivers in
+    (subst (λ (b : List ℕ). BytesStand heard Up bytes.host_rest b link.up) queue (up_behind_rest bytes link stands here)) delivers in
     record {
       taken = some.taken;
       others = some.others;

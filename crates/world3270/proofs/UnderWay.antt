@@ -28,12 +28,12 @@ vanishes : {X : Type 0} (lost : Bool) (queue some others : List X) → lost ≡ 
 vanishes true queue some others is = refl
 vanishes false queue some others is = absurd (cc)
 
-pub lost_says : {Up : WireItem → ToHost → Type 0} → HostSendsBy Up → (bytes : ByteLink) (link : Link) (conn : Conn) (items : List WireItem) (messages : List ToTerminal)
-    → LinkStandsBy Up bytes link → link.lost ≡ true → LinkStandsBy Up (said_down conn items bytes) (sent_down conn messages link)
-lost_says {Up} sends bytes link conn items messages stands is =
-    subst (λ (down : List ℕ). LinkStandsBy Up (record bytes { host = conn; down = down }) (sent_down conn messages link))
+pub lost_says : {heard : List WireItem → List WireItem} {Up : WireItem → ToHost → Type 0} → HostSendsBy heard Up → (bytes : ByteLink) (link : Link) (conn : Conn) (items : List WireItem) (messages : List ToTerminal)
+    → LinkStandsBy heard Up bytes link → link.lost ≡ true → LinkStandsBy heard Up (said_down conn items bytes) (sent_down conn messages link)
+lost_says {heard} {Up} sends bytes link conn items messages stands is =
+    subst (λ (down : List ℕ). LinkStandsBy heard Up (record bytes { host = conn; down = down }) (sent_down conn messages link))
     (vanishes bytes.lost bytes.down (sent_bytes []) (sent_bytes items) (stands.lost ∙ is))
-    (subst (λ (down : List ToTerminal). LinkStandsBy Up (said_down conn [] bytes) (record link { host = conn; down = down }))
+    (subst (λ (down : List ToTerminal). LinkStandsBy heard Up (said_down conn [] bytes) (record link { host = conn; down = down }))
     (vanishes link.lost link.down [] messages is)
     (sends bytes link conn [] [] stands tt tt))
 

@@ -20,7 +20,6 @@ use Rattle.tn3270e_msg.specs.declared.term_talk.TermState.TheVariants.{Waiting, 
 use Rattle.host_core.specs.Messages.{ToTerminal, ToHost, Verdict}
 use Rattle.host_core.specs.declared.turn.Turn.{Turn}
 use Rattle.host_core.specs.declared.turn.Turn.TheVariants as whose
-use Rattle.host_core.specs.declared.unheard.Unheard.TheVariants as unheards
 use Rattle.host_core.specs.Session.{Pending}
 use Rattle.world3270.specs.View.{View}
 

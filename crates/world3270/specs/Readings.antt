@@ -17,7 +17,7 @@ use Rattle.host_core.specs.Messages.{ToHost, Verdict}
 use Rattle.host_core.specs.Session.{Conn}
 use Rattle.host_core.specs.Takes.{form_awaited}
 use Rattle.world3270.specs.Forms.{IsAwaitedBy}
-use Rattle.world3270.specs.Stands.{BytesStand, all_items}
+use Rattle.world3270.specs.Stands.{BytesStand, without_nops}
 use Rattle.world3270.specs.StandsEnds.{IsSaid}
 
 -- ---- which items
@@ -49,9 +49,9 @@ IsReadAs item (ToHost.TalksUp saying) = item ≡ item_of saying
 IsReadAs item (ToHost.Data parts) = IsData item parts
 IsReadAs item (ToHost.Response number verdict) = IsResponse item number verdict
 
--- the bytes are whole items, which it reads as these messages
+-- the bytes are whole items, which it reads as these messages, and NOPs among them as nothing
 abbrev pub AreReadAs : List ℕ → List ToHost → Type 0
-AreReadAs bytes messages = BytesStand all_items IsReadAs nothing bytes messages
+AreReadAs bytes messages = BytesStand without_nops IsReadAs nothing bytes messages
 
 -- ---- what may come next
 
@@ -62,7 +62,8 @@ HasNoLead (At address ∷ parts) = ⊤
 HasNoLead (Char char ∷ parts) = ⊥
 HasNoLead (Attr attr ∷ parts) = ⊥
 
--- A second key's data while a paint or a read is pending: it fits the screen by whose size the host reads it, and can't be the read's answer.
+-- A second key's data while a paint or a read is pending: it fits the screen by whose size the host reads it, and
+-- can't be the read's answer.
 pub record IsSecondKeyIn (conn : Conn) (parts : InboundParts) : Type 0 where
   pub may_be : may_be_second_key conn ≡ true
   pub form : parts.form ≡ Modified

@@ -1,6 +1,6 @@
 -- When bytes represent messages: what is under way in each direction spells them, one item each,
--- and nothing else but NOPs to the terminal (RFC 854; RFC 1647, sections 8.1 and 10.4; what is sent
--- when is our profile).
+-- and nothing else but NOPs (RFC 854; RFC 1647, sections 8.1 and 10.4; what is sent when is our
+-- profile).
 use Rattle.std.specs.Prelude.{◌≡◌, ◌≢◌, ◌<◌, ◌^◌, ◌==◌, not, ℕ, Bool, true, false, List, [], filter, Option, Some}
 use Rattle.datastream.specs.declared.command_code.CommandCode.TheVariants.{Write}
 use Rattle.presentation.specs.Sizes.{SizedScreen}
@@ -97,11 +97,11 @@ is_nop (Record bytes) = false
 is_nop (Opt verb code) = false
 is_nop (Sub bytes) = false
 
--- to the terminal each item but NOP does
+-- each item but NOP does: to a terminal, and to the host of any terminal
 abbrev pub without_nops : List WireItem → List WireItem
 without_nops items = filter (λ item. not (is_nop item)) items
 
--- to the host each does
+-- to the host of our terminal each does
 abbrev pub all_items : List WireItem → List WireItem
 all_items items = items
 
@@ -168,18 +168,19 @@ pub record TermStands (bytes : ByteLink) (link : Link) : Type 0 where
   pub down : BytesDown rest bytes.down link.down
 
 -- After `read`, the bytes under way up to the host spell the messages under way there, also if the
--- host has left: each item represents one as `Up` says. While the host is there, `read` is what its
--- decoder holds. Nothing else is said of an end that has left, nor of what is under way to a
--- terminal that has: no step reads these.
-pub record LinkStandsBy (Up : WireItem → ToHost → Type 0) (bytes : ByteLink) (link : Link) : Type 0 where
+-- host has left: each item that the host hears, of those that come, represents one as `Up` says. While
+-- the host is there, `read` is what its decoder holds. Nothing else is said of an end that has left,
+-- nor of what is under way to a terminal that has: no step reads these.
+pub record LinkStandsBy (heard : List WireItem → List WireItem) (Up : WireItem → ToHost → Type 0)
+    (bytes : ByteLink) (link : Link) : Type 0 where
   pub lost : bytes.lost ≡ link.lost
   pub host_here : bytes.host_here ≡ link.host_here
   pub term_here : bytes.term_here ≡ link.term_here
   pub read : Rest
-  pub up : BytesStand all_items Up read bytes.up link.up
+  pub up : BytesStand heard Up read bytes.up link.up
   pub host : link.host_here ≡ true → HostStands bytes link read
   pub term : (terminal : ℕ) → link.term_here ≡ Some terminal → TermStands bytes link
 
 -- our terminal's items
 abbrev pub LinkStands : ByteLink → Link → Type 0
-LinkStands bytes link = LinkStandsBy StandsUp bytes link
+LinkStands bytes link = LinkStandsBy all_items StandsUp bytes link

@@ -20,7 +20,7 @@ use Rattle.host_core.specs.Session.{Conn, new_conn}
 use Rattle.world3270.specs.Always.{is_refusal}
 use Rattle.world3270.specs.Link.{Link, begun, sent, host_left, term_left, term_stepped}
 use Rattle.world3270.specs.TrackedTerminals.{TrackedTerminal, TrackedTakesByte, TrackedTakes, newly_tracked, tracked_after_key}
-use Rattle.world3270.specs.Stands.{StandsDown, StandsUp, BytesStand, ByteLink, LinkStands, LinkStandsBy}
+use Rattle.world3270.specs.Stands.{StandsDown, StandsUp, BytesStand, ByteLink, LinkStands, LinkStandsBy, all_items}
 use Rattle.world3270.specs.StandsEnds.{IsOpen, MayCome, is_painted}
 use Rattle.world3270.specs.Terminal.{TermEnd, took, key_came}
 use Rattle.world3270.specs.World.{World}
@@ -180,38 +180,40 @@ abbrev pub sent_down : Conn → List ToTerminal → Link → Link
 sent_down conn messages link = record link { host = conn; down = sent link.lost link.down messages }
 
 -- A connection represents one over messages after the host says items that represent what it sends.
-abbrev pub HostSendsBy : (WireItem → ToHost → Type 0) → Type 0
-HostSendsBy Up = (bytes : ByteLink) (link : Link) (conn : Conn) (items : List WireItem) (messages : List ToTerminal)
-    → LinkStandsBy Up bytes link → AllByRecursion (CanCome record_limit) items → Pairwise StandsDown items messages
-    → LinkStandsBy Up (said_down conn items bytes) (sent_down conn messages link)
+abbrev pub HostSendsBy : (List WireItem → List WireItem) → (WireItem → ToHost → Type 0) → Type 0
+HostSendsBy heard Up = (bytes : ByteLink) (link : Link) (conn : Conn) (items : List WireItem) (messages : List ToTerminal)
+    → LinkStandsBy heard Up bytes link → AllByRecursion (CanCome record_limit) items → Pairwise StandsDown items messages
+    → LinkStandsBy heard Up (said_down conn items bytes) (sent_down conn messages link)
 
 abbrev pub HostSends : Type 0
-HostSends = HostSendsBy StandsUp
+HostSends = HostSendsBy all_items StandsUp
 
 -- It still represents the same one after the host says NOP.
-abbrev pub NopStandsBy : (WireItem → ToHost → Type 0) → Type 0
-NopStandsBy Up = (bytes : ByteLink) (link : Link) → LinkStandsBy Up bytes link → LinkStandsBy Up (said_down bytes.host (no_operation ∷ []) bytes) link
+abbrev pub NopStandsBy : (List WireItem → List WireItem) → (WireItem → ToHost → Type 0) → Type 0
+NopStandsBy heard Up = (bytes : ByteLink) (link : Link) → LinkStandsBy heard Up bytes link
+    → LinkStandsBy heard Up (said_down bytes.host (no_operation ∷ []) bytes) link
 
 abbrev pub NopStands : Type 0
-NopStands = NopStandsBy StandsUp
+NopStands = NopStandsBy all_items StandsUp
 
 -- the first of the messages were delivered up, and the others are still under way
-pub record CameUp (Up : WireItem → ToHost → Type 0) (bytes : ByteLink) (link : Link) (items : List WireItem) : Type 0 where
+pub record CameUp (heard : List WireItem → List WireItem) (Up : WireItem → ToHost → Type 0)
+    (bytes : ByteLink) (link : Link) (items : List WireItem) : Type 0 where
   pub taken : List ToHost
   pub others : List ToHost
   pub whole : link.up ≡ taken ++ others
-  pub each : Pairwise Up items taken
-  pub stands : LinkStandsBy Up bytes (record link { up = others })
+  pub each : Pairwise Up (heard items) taken
+  pub stands : LinkStandsBy heard Up bytes (record link { up = others })
 
 -- The items that arrive at the host represent the first messages, and the connection represents one
 -- with the others.
-abbrev pub UpStandsBy : (WireItem → ToHost → Type 0) → Type 0
-UpStandsBy Up = (bytes : ByteLink) (link : Link) (front behind : List ℕ) (items : List WireItem) (to : Rest)
-    → LinkStandsBy Up bytes link → link.host_here ≡ true → bytes.up ≡ front ++ behind → Delivers record_limit bytes.host_rest front items to
-    → CameUp Up (record bytes { host_rest = to; up = behind }) link items
+abbrev pub UpStandsBy : (List WireItem → List WireItem) → (WireItem → ToHost → Type 0) → Type 0
+UpStandsBy heard Up = (bytes : ByteLink) (link : Link) (front behind : List ℕ) (items : List WireItem) (to : Rest)
+    → LinkStandsBy heard Up bytes link → link.host_here ≡ true → bytes.up ≡ front ++ behind → Delivers record_limit bytes.host_rest front items to
+    → CameUp heard Up (record bytes { host_rest = to; up = behind }) link items
 
 abbrev pub UpStands : Type 0
-UpStands = UpStandsBy StandsUp
+UpStands = UpStandsBy all_items StandsUp
 
 -- It represents one after it is lost, and after an end leaves it.
 abbrev pub LossStands : Type 0
