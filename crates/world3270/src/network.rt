@@ -157,6 +157,13 @@ impl Network {
         &self.host
     }
 
+    /// How many terminals there are.
+    pub(crate) fn terminals(&self) -> usize
+        ensures { result ≡ length self.now.slots }
+    {
+        self.slots.len()
+    }
+
     /// A terminal, by its number.
     pub(crate) fn terminal(&self, terminal: usize) -> &Terminal
         requires { terminal < length self.now.slots }

@@ -110,6 +110,13 @@ impl World {
         self.network.host()
     }
 
+    /// How many terminals there are.
+    pub fn terminals(&self) -> usize
+        ensures { result ≡ length self.now.slots }
+    {
+        self.network.terminals()
+    }
+
     /// A terminal, by its number.
     pub fn terminal(&self, terminal: usize) -> &Terminal
         requires { terminal < length self.now.slots }
