@@ -11,7 +11,7 @@ use std::marker;
 use tn3270e_msg::Lu;
 
 /// A port number, 1024 to 65535: those that need no privilege. Contracts see it as a number.
-#[derive(Clone, Copy)]
+#[derive(Clone, Copy, Debug)]
 pub struct Port {
     number: u16,
 }
@@ -58,7 +58,7 @@ impl Port {
 }
 
 /// A port number of a service, 1 to 65535. Contracts see it as a number.
-#[derive(Clone, Copy)]
+#[derive(Clone, Copy, Debug)]
 pub struct ServicePort {
     number: u16,
 }
@@ -105,7 +105,7 @@ impl ServicePort {
 }
 
 /// A time limit in seconds, 0 to 1,000,000; 0 is no limit. Contracts see it as a number.
-#[derive(Clone, Copy)]
+#[derive(Clone, Copy, Debug)]
 pub struct Seconds {
     number: u32,
 }
@@ -173,7 +173,7 @@ impl Seconds {
 }
 
 /// A number of turns, 1 to 1,000,000. Contracts see it as a number.
-#[derive(Clone, Copy)]
+#[derive(Clone, Copy, Debug)]
 pub struct Turns {
     number: u32,
 }
@@ -247,7 +247,7 @@ pub(crate) fn model_of(word: &str) -> Option<Model>
 }
 
 /// How long an application may take for a reply, in seconds, 1 to 3,600. Contracts see it as a number.
-#[derive(Clone, Copy)]
+#[derive(Clone, Copy, Debug)]
 pub struct ReplyTime {
     number: u32,
 }
@@ -301,7 +301,7 @@ impl ReplyTime {
 }
 
 /// The name of a file, as a word of the command line. Contracts see it as that text.
-#[derive(Drop)]
+#[derive(Debug, Drop)]
 pub struct FileName<'a> {
     name: &'a str,
 }
@@ -331,7 +331,7 @@ impl<'a> FileName<'a> {
 }
 
 /// A URL, as a word of the command line. Contracts see it as that text.
-#[derive(Drop)]
+#[derive(Debug, Drop)]
 pub struct UrlText<'a> {
     text: &'a str,
 }
@@ -361,7 +361,7 @@ impl<'a> UrlText<'a> {
 }
 
 /// A topic of the program's help.
-#[derive(Clone, Copy)]
+#[derive(Clone, Copy, Debug)]
 pub enum Topic {
     /// The whole program.
     Program,
@@ -388,7 +388,7 @@ pub enum Topic {
 }
 
 /// What a live terminal connects to, and its tty.
-#[derive(Clone, Copy)]
+#[derive(Clone, Copy, Debug)]
 pub struct LiveOptions {
     /// The port of the host.
     pub port: Port,
@@ -401,7 +401,7 @@ pub struct LiveOptions {
 }
 
 /// A job of the program.
-#[derive(Drop)]
+#[derive(Debug, Drop)]
 pub enum Job<'a> {
     /// Serves panels to the terminals of a script; the host serves such terminals.
     Script {
@@ -445,7 +445,7 @@ pub enum Job<'a> {
 }
 
 /// Why the words give no job.
-#[derive(Clone, Copy)]
+#[derive(Clone, Copy, Debug)]
 pub enum WordFault {
     /// The command line doesn't take them.
     Refused,

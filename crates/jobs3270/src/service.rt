@@ -7,7 +7,7 @@ use host_core::Terminals;
 use std::net::{IpAddr, Ipv4Addr};
 
 /// How long a connection may be silent. 0 seconds: without limit.
-#[derive(Clone, Copy)]
+#[derive(Clone, Copy, Debug)]
 pub struct TimeLimits {
     /// A connection that has not agreed on a session this long after it began is dropped.
     pub negotiate: Seconds,
@@ -18,7 +18,7 @@ pub struct TimeLimits {
 }
 
 /// How `serve` serves.
-#[derive(Clone, Copy)]
+#[derive(Clone, Copy, Debug)]
 pub struct Service {
     /// The address that it listens on.
     pub listen: IpAddr,
@@ -35,7 +35,7 @@ pub struct Service {
 }
 
 /// Which application decides for `serve`.
-#[derive(Drop)]
+#[derive(Debug, Drop)]
 pub struct ApplicationChoice<'a> {
     /// The application's URL, if there is an application.
     pub url: Option<UrlText<'a>>,

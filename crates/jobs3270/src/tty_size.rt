@@ -6,7 +6,7 @@ ghost use Rattle.jobs3270.specs.OptionValues.{is_x, tty_side_numbered, tty_side_
 use crate::script_line::number_of;
 
 /// The size of a tty: its rows and its columns, each 1 to 9,999.
-#[derive(Clone, Copy)]
+#[derive(Clone, Copy, Debug)]
 pub struct TtySize {
     /// The number of rows.
     pub rows: u16,
