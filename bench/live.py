@@ -1,9 +1,11 @@
 #!/usr/bin/env python3
-"""Measures the operator's live terminal on a tty of its own: bytes written, the time from a key to its cell, and an idle one's processor.
+"""Measures the operator's live terminal on a tty of its own: bytes written, the time from a key to
+its cell, and an idle one's processor.
 
     bench/live.py PROGRAM
 
-starts a host with the bank's panels and bin/operate, types, and prints a line for each figure. docs/PERFORMANCE.md has them.
+starts a host with the bank's panels and bin/operate, types, and prints a line for each figure.
+docs/PERFORMANCE.md has them.
 """
 import fcntl
 import os
@@ -84,7 +86,10 @@ def measure(tty, script):
     typed(tty, b"\x1b[H")
     times = sorted(delays(tty))
     least, median = times[0] * 1000, statistics.median(times) * 1000
-    print(f"from a key to its cell: {least:.2f} ms at least, {median:.2f} ms in the median, of {len(times)} keys")
+    print(
+        f"from a key to its cell: {least:.2f} ms at least, {median:.2f} ms in the median, "
+        f"of {len(times)} keys"
+    )
     program = child_of(script)
     before = spent(program)
     time.sleep(IDLE)
@@ -93,12 +98,25 @@ def measure(tty, script):
 
 def main():
     program, port = sys.argv[1], free_port()
-    words = [program, "serve", "--quiet", "--port", str(port), "--panels", str(HERE.parent / "examples/bank.toml")]
+    words = [
+        program,
+        "serve",
+        "--quiet",
+        "--port",
+        str(port),
+        "--panels",
+        str(HERE.parent / "examples/bank.toml"),
+    ]
     host = subprocess.Popen(words, stdin=subprocess.DEVNULL)
     time.sleep(0.5)
     tty, slave = pty.openpty()
     fcntl.ioctl(slave, termios.TIOCSWINSZ, struct.pack("HHHH", 25, 80, 0, 0))
-    begun = subprocess.Popen([HERE.parent / "bin/operate", str(port)], stdin=slave, stdout=slave, env={**os.environ, "PANEL3270": program})
+    begun = subprocess.Popen(
+        [HERE.parent / "bin/operate", str(port)],
+        stdin=slave,
+        stdout=slave,
+        env={**os.environ, "PANEL3270": program},
+    )
     try:
         measure(tty, begun.pid)
         os.write(tty, b"\x1d")

@@ -1,17 +1,25 @@
 #!/usr/bin/env python3
-"""Prints turns a second of `panel3270 serve`: of a key that an application decides, beside those of a key that leads by itself.
+"""Prints turns a second of `panel3270 serve`: of a key that an application decides, beside those of
+a key that leads by itself.
 
-usage: turns.py [--seconds S] PROGRAM. It starts the program and an application, works as 1 and as 64 terminals, and ends both. Linux, for
-/proc. Both keys show the same panel again, so only who decides differs. The application answers at once, in a process of its own; host,
-application and terminals have a processor each if the machine has three that are free.
+usage: turns.py [--seconds S] PROGRAM. It starts the program and an application, works as 1 and as
+64 terminals, and ends both. Linux, for /proc. Both keys show the same panel again, so only who
+decides differs. The application answers at once, in a process of its own; host, application and
+terminals have a processor each if the machine has three that are free.
 """
 import argparse, multiprocessing, os, re, selectors, socket, subprocess, sys, time
 
 SESSIONS = (1, 64)
-KEYS = (("a key that leads by itself", b"\x7d"), ("a key that asks the application", b"\xf1"))  # Enter and PF1
+# Enter and PF1.
+KEYS = (
+    ("a key that leads by itself", b"\x7d"),
+    ("a key that asks the application", b"\xf1"),
+)
 PANELS = """start = "WORD"
 lus = [{}]
-panel = [{{name = "WORD", field = [{{name = "word", row = 3, col = 8, length = 8}}], keys = {{enter = "WORD"}}, asks = ["pf1"]}}]
+panel = [{{name = "WORD", field = [
+    {{name = "word", row = 3, col = 8, length = 8}},
+], keys = {{enter = "WORD"}}, asks = ["pf1"]}}]
 """.format(", ".join(f'"LOAD{number:02}"' for number in range(max(SESSIONS))))
 CONTENT = b'{"panel":"WORD"}'
 REPLY = b"HTTP/1.1 200 OK\r\nContent-Length: %d\r\n\r\n%s" % (len(CONTENT), CONTENT)
@@ -19,7 +27,11 @@ LENGTH = re.compile(rb"Content-Length: (\d+)\r\n")
 END, SE = b"\xff\xef", b"\xff\xf0"  # IAC EOR, IAC SE
 RECORD = re.compile(rb"((?:[^\xff]|\xff[^\xef])*)\xff\xef", re.DOTALL)
 ESCAPED = re.compile(rb"\xff(.)", re.DOTALL)  # of IAC IAC one byte is data, of IAC NOP none
-TALK = [(b"\xff\xfd\x28", b"\xff\xfb\x28"), (SE, b"\xff\xfa\x28\x02\x07IBM-3278-2\xff\xf0"), (SE, b"\xff\xfa\x28\x03\x07\x02\xff\xf0")]
+TALK = [
+    (b"\xff\xfd\x28", b"\xff\xfb\x28"),
+    (SE, b"\xff\xfa\x28\x02\x07IBM-3278-2\xff\xf0"),
+    (SE, b"\xff\xfa\x28\x03\x07\x02\xff\xf0"),
+]
 
 
 def application(listener):
@@ -72,7 +84,8 @@ class Terminal:  # does what this panel needs, and no more
 
 
 def turns(terminals, key, seconds):
-    """How many turns terminals have that press a key as soon as they may, and how many seconds these take."""
+    """How many turns terminals have that press a key as soon as they may, and how many seconds
+    these take."""
     with selectors.DefaultSelector() as selector:
         begun, done, waiting = time.monotonic(), 0, len(terminals)
         for it in terminals:
@@ -100,12 +113,15 @@ def processor_time(pid):
 
 
 def measure(processes, terminals, key, seconds):
-    """A row of the table: turns a second; microseconds of processor time a turn, of each process; the application's part of the time."""
+    """A row of the table: turns a second; microseconds of processor time a turn, of each process;
+    the application's part of the time."""
     turns(terminals, key, min(1, seconds))
     before = [processor_time(pid) for pid in processes]
     done, took = turns(terminals, key, seconds)
     used = [processor_time(pid) - it for pid, it in zip(processes, before)]
-    return [f"{done / took:.0f}", *(f"{it * 1e6 / done:.0f}" for it in used), f"{used[1] / took:.0%}"]
+    return [
+        f"{done / took:.0f}", *(f"{it * 1e6 / done:.0f}" for it in used), f"{used[1] / took:.0%}"
+    ]
 
 
 def is_connected(port):
@@ -113,37 +129,65 @@ def is_connected(port):
         return it.connect_ex(("127.0.0.1", port)) == 0
 
 
-def main():
-    words = argparse.ArgumentParser(description="Prints turns a second of a host, with an application and without one.")
+def arguments():
+    words = argparse.ArgumentParser(
+        description="Prints turns a second of a host, with an application and without one."
+    )
     words.add_argument("program", help="the path of panel3270")
-    words.add_argument("--seconds", type=float, default=10, help="how long each row is measured [default: 10]")
-    given = words.parse_args()
+    words.add_argument(
+        "--seconds", type=float, default=10, help="how long each row is measured [default: 10]"
+    )
+    return words.parse_args()
+
+
+def begin(host, port):
+    """Gives a host its panels, and waits until it serves."""
+    host.stdin.write(PANELS.encode())
+    host.stdin.close()
+    while not is_connected(port):
+        if host.poll() is not None:
+            sys.exit("the host doesn't run")
+        time.sleep(0.1)
+    time.sleep(1)  # until the host has seen that this connection is over
+
+
+def measure_all(pids, port, seconds):
+    """The rows of the table, the titles first."""
+    figures = ["turns a second", "host", "application", "terminals", "application's part"]
+    rows, terminals = [["sessions", "", *figures]], []
+    for sessions in SESSIONS:
+        terminals += [Terminal(port) for _ in range(sessions - len(terminals))]
+        for name, key in KEYS:
+            rows.append([str(sessions), name, *measure(pids, terminals, key, seconds)])
+    return rows
+
+
+def print_table(rows):
+    widths = [max(map(len, column)) for column in zip(*rows)]
+    for row in rows:
+        cells = enumerate(zip(row, widths))
+        print("  ".join(it.ljust(n) if at == 1 else it.rjust(n) for at, (it, n) in cells))
+
+
+def main():
+    given = arguments()
     listener = socket.create_server(("127.0.0.1", 0), backlog=max(SESSIONS))
     url = f"http://127.0.0.1:{listener.getsockname()[1]}/"
-    asked = multiprocessing.get_context("fork").Process(target=application, args=(listener,), daemon=True)
+    asked = multiprocessing.get_context("fork").Process(
+        target=application, args=(listener,), daemon=True
+    )
     asked.start()
     with socket.create_server(("127.0.0.1", 0)) as it:
         port = it.getsockname()[1]
     serve = [given.program, "serve", "--port", str(port), "--quiet", "--application", url]
     host = subprocess.Popen(serve, stdin=subprocess.PIPE)
     try:
-        host.stdin.write(PANELS.encode())
-        host.stdin.close()
-        while not is_connected(port):
-            if host.poll() is not None:
-                sys.exit("the host doesn't run")
-            time.sleep(0.1)
-        time.sleep(1)  # until the host has seen that this connection is over
-        rows = [["sessions", "", "turns a second", "host", "application", "terminals", "application's part"]]
-        terminals = []
-        for sessions in SESSIONS:
-            terminals += [Terminal(port) for _ in range(sessions - len(terminals))]
-            for name, key in KEYS:
-                rows.append([str(sessions), name, *measure((host.pid, asked.pid, os.getpid()), terminals, key, given.seconds)])
-        widths = [max(map(len, column)) for column in zip(*rows)]
-        for row in rows:
-            print("  ".join(it.ljust(width) if at == 1 else it.rjust(width) for at, (it, width) in enumerate(zip(row, widths))))
-        print("host, application, terminals: microseconds of processor time a turn. application's part: its processor time of the whole time.")
+        begin(host, port)
+        print_table(measure_all((host.pid, asked.pid, os.getpid()), port, given.seconds))
+        print(
+            "host, application, terminals: microseconds of processor time a turn. "
+            "application's part: its processor time of the whole time."
+        )
     finally:
         host.kill()
         host.wait()

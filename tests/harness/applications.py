@@ -67,7 +67,8 @@ WORD, SECRET = bytes.fromhex("C2 E7"), bytes.fromhex("C5 C7")
 KEYS = {"enter": b"\x7d", "pf1": b"\xf1", "pf3": b"\xf3"}
 # The time limit of most checks, in seconds.
 LIMIT = 1
-# With this a host knows what is in a field that it kept and that isn't returned; else it reads the screen (`any-terminal`).
+# With this a host knows what is in a field that it kept and that isn't returned; else it reads the
+# screen (`any-terminal`).
 OWN = "--own-terminals"
 
 
@@ -104,11 +105,15 @@ class Operator(hosts.Client):
 
     def presses(self, key, word="", secret=""):
         """Presses a key, with what is in the fields."""
-        fields = b"".join(b"\x11" + at + text.encode("cp037") for at, text in ((WORD, word), (SECRET, secret)) if text)
+        fields = b"".join(
+            b"\x11" + at + text.encode("cp037")
+            for at, text in ((WORD, word), (SECRET, secret)) if text
+        )
         self.says(b"\x00\x00\x00\x00\x00", KEYS[key], bytes.fromhex("C2 E8"), fields, b"\xff\xef")
 
     def works(self):
-        """Goes to the other panel and back, without an application, in less than the application's time."""
+        """Goes to the other panel and back, without an application, in less than the application's
+        time."""
         begun = time.monotonic()
         self.presses("pf3")
         self.sees("SECOND PANEL")
@@ -179,7 +184,16 @@ class Host(hosts.Server):
     """A host with an application and two operators."""
 
     def __init__(self, url, *words, seconds=LIMIT, **how):
-        super().__init__("serve", "--application", url, "--application-timeout", str(seconds), *words, text=PANELS, **how)
+        super().__init__(
+            "serve",
+            "--application",
+            url,
+            "--application-timeout",
+            str(seconds),
+            *words,
+            text=PANELS,
+            **how,
+        )
 
     def operators(self):
         self.first, self.second = (Operator(self.port).signs_on(lu) for lu in ("PNL01", "PNL02"))

@@ -1,7 +1,7 @@
 """The bank of examples/bank.py behind a host, and the screens of its panels.
 
-The application has a database of its own, and the operator is `panel3270 term`. The expected screens are what examples/bank-asks.toml has
-at its rows and columns."""
+The application has a database of its own, and the operator is `panel3270 term`. The expected
+screens are what examples/bank-asks.toml has at its rows and columns."""
 import contextlib
 import json
 import os
@@ -18,7 +18,8 @@ from harness.case import TOP, Difference, expect
 
 BANK = TOP / "examples/bank.py"
 PANELS = (TOP / "examples/bank-asks.toml").read_bytes()
-# What an operator does beside typing: a command of `term`, and after a key that sends a wait for the host.
+# What an operator does beside typing: a command of `term`, and after a key that sends a wait for
+# the host.
 DOES = {it: f"key {it.lower()}\nwait" for it in ("ENTER", "PF3", "PF9", "CLEAR")}
 DOES |= {it: f"key {it.lower()}" for it in ("TAB", "HOME", "ERASEEOF")}
 DOES["SHOW"] = "show"
@@ -35,7 +36,9 @@ class Application:
 
     def __init__(self, database):
         words = [sys.executable, BANK, "--database", database, "--port", "0"]
-        self.process = subprocess.Popen(words, stdout=subprocess.PIPE, stderr=subprocess.PIPE, text=True)
+        self.process = subprocess.Popen(
+            words, stdout=subprocess.PIPE, stderr=subprocess.PIPE, text=True
+        )
         ready, _, _ = select.select([self.process.stdout], [], [], hosts.PATIENCE)
         line = self.process.stdout.readline() if ready else ""
         if not line.startswith("listening on http://127.0.0.1:"):
@@ -64,7 +67,11 @@ def a_bank(panels=PANELS):
         with Application(database) as application:
             with hosts.Server("serve", "--application", application.url, text=panels) as host:
                 yield database, application, host
-                expect("faults of the application in the host's log", "event=application" in host.logged(), False)
+                expect(
+                    "faults of the application in the host's log",
+                    "event=application" in host.logged(),
+                    False,
+                )
 
 
 def works(host, *does):
@@ -107,7 +114,8 @@ FIRST_BALANCES = [("1000200030", 125000), ("1000200044", 9900), ("1000200058", 0
 
 
 def screen(cursor, *texts):
-    """What `show` prints of a screen of texts, each with its row and column, and of the cursor's row and column."""
+    """What `show` prints of a screen of texts, each with its row and column, and of the cursor's
+    row and column."""
     rows = [""] * 24
     for row, column, text in texts:
         rows[row - 1] = (rows[row - 1].ljust(column - 1) + text).rstrip()
@@ -115,25 +123,55 @@ def screen(cursor, *texts):
 
 
 def sign_on(message="", teller="", cursor=(5, 30)):
-    rows = [(1, 30, "FIRST NATIONAL BANK"), (5, 10, "TELLER NUMBER"), (5, 30, teller), (7, 10, "PASSWORD")]
+    rows = [
+        (1, 30, "FIRST NATIONAL BANK"),
+        (5, 10, "TELLER NUMBER"),
+        (5, 30, teller),
+        (7, 10, "PASSWORD"),
+    ]
     return screen(cursor, *rows, (23, 2, "ENTER SIGN ON   CLEAR START OVER"), (24, 2, message))
 
 
 def menu(message="", name="ANN MILLER", choice=""):
     rows = [(1, 30, "MENU"), (2, 50, "TELLER"), (2, 58, name), (9, 10, "CHOICE"), (9, 30, choice)]
-    rows += [(5, 10, "1  BALANCE OF AN ACCOUNT"), (6, 10, "2  TRANSFER OF FUNDS"), (7, 10, "3  YOUR LAST BOOKINGS")]
+    rows += [
+        (5, 10, "1  BALANCE OF AN ACCOUNT"),
+        (6, 10, "2  TRANSFER OF FUNDS"),
+        (7, 10, "3  YOUR LAST BOOKINGS"),
+    ]
     return screen((9, 30), *rows, (23, 2, "ENTER CHOOSE   PF3 SIGN OFF"), (24, 2, message))
 
 
 def balance(account="", holder="", amount="", message="", name="ANN MILLER"):
-    rows = [(1, 30, "BALANCE OF AN ACCOUNT"), (2, 50, "TELLER"), (2, 58, name), (5, 10, "ACCOUNT"), (5, 30, account)]
+    rows = [
+        (1, 30, "BALANCE OF AN ACCOUNT"),
+        (2, 50, "TELLER"),
+        (2, 58, name),
+        (5, 10, "ACCOUNT"),
+        (5, 30, account),
+    ]
     rows += [(7, 10, "HOLDER"), (7, 30, holder), (9, 10, "BALANCE"), (9, 30, amount)]
     return screen((5, 30), *rows, (23, 2, "ENTER LOOK UP   PF3 MENU"), (24, 2, message))
 
 
-def transfer(debit="", credit="", amount="", reference="", message="", cursor=(5, 30), name="ANN MILLER"):
-    rows = [(1, 30, "TRANSFER OF FUNDS"), (2, 50, "TELLER"), (2, 58, name), (5, 10, "FROM ACCOUNT"), (5, 30, debit)]
-    rows += [(7, 10, "TO ACCOUNT"), (7, 30, credit), (9, 10, "AMOUNT"), (9, 30, amount), (11, 10, "REFERENCE"), (11, 30, reference)]
+def transfer(
+    debit="", credit="", amount="", reference="", message="", cursor=(5, 30), name="ANN MILLER"
+):
+    rows = [
+        (1, 30, "TRANSFER OF FUNDS"),
+        (2, 50, "TELLER"),
+        (2, 58, name),
+        (5, 10, "FROM ACCOUNT"),
+        (5, 30, debit),
+    ]
+    rows += [
+        (7, 10, "TO ACCOUNT"),
+        (7, 30, credit),
+        (9, 10, "AMOUNT"),
+        (9, 30, amount),
+        (11, 10, "REFERENCE"),
+        (11, 30, reference),
+    ]
     return screen(cursor, *rows, (23, 2, "ENTER TRANSFER   PF3 MENU"), (24, 2, message))
 
 

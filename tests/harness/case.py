@@ -26,7 +26,8 @@ def relative(path: str | pathlib.Path) -> str:
 
 
 class Difference(Exception):
-    """A result isn't the wanted one. `at` is the line that says what is wanted, if it isn't the case's own."""
+    """A result isn't the wanted one. `at` is the line that says what is wanted, if it isn't the
+    case's own."""
 
     def __init__(self, wanted: object, came: object, at: Place | None = None) -> None:
         super().__init__(wanted, came)
@@ -34,7 +35,8 @@ class Difference(Exception):
 
 
 class BadCase(Exception):
-    """The test's own data is wrong: an unknown command, an odd digit, a missing file. Such a case fails."""
+    """The test's own data is wrong: an unknown command, an odd digit, a missing file. Such a case
+    fails."""
 
     def __init__(self, reason: str, at: Place | None = None) -> None:
         super().__init__(reason)
@@ -42,12 +44,14 @@ class BadCase(Exception):
 
 
 class NotHere(Exception):
-    """A whole suite can't run, since a program that isn't part of the kit isn't installed. The runner says so."""
+    """A whole suite can't run, since a program that isn't part of the kit isn't installed. The
+    runner says so."""
 
 
 @dataclasses.dataclass(frozen=True)
 class Case:
-    """A check with a name, the line at which it is written, and the call that raises a `Difference` or `BadCase` if it fails."""
+    """A check with a name, the line at which it is written, and the call that raises a `Difference`
+    or `BadCase` if it fails."""
 
     name: str
     at: Place
@@ -69,7 +73,11 @@ def expect(what: str, came: object, wanted: object) -> None:
 def of_function(check: Callable[[], object], name: str = "") -> Case:
     """The case that a function makes. Its name is the function's, with spaces."""
     file = relative(inspect.getsourcefile(inspect.unwrap(check)) or __file__)
-    return Case(name or check.__name__.replace("_", " "), Place(file, inspect.unwrap(check).__code__.co_firstlineno), check)
+    return Case(
+        name or check.__name__.replace("_", " "),
+        Place(file, inspect.unwrap(check).__code__.co_firstlineno),
+        check,
+    )
 
 
 def of_functions(checks: Iterable[Callable[[], object]]) -> Iterator[Case]:
@@ -78,7 +86,8 @@ def of_functions(checks: Iterable[Callable[[], object]]) -> Iterator[Case]:
 
 
 class Checks(list[Callable[[], object]]):
-    """The checks of a suite: a decorator of its functions, each of which is a case. The first line of its text says what holds."""
+    """The checks of a suite: a decorator of its functions, each of which is a case. The first line
+    of its text says what holds."""
 
     def __call__(self, check: Callable[[], object]) -> Callable[[], object]:
         self.append(check)

@@ -1,4 +1,5 @@
-"""The answers of the probe's subjects that speak of cells: their lines have tokens, `C1` a character, `sf:60` an attribute."""
+"""The answers of the probe's subjects that speak of cells: their lines have tokens, `C1` a
+character, `sf:60` an attribute."""
 import functools
 import pathlib
 from collections.abc import Callable, Iterator
@@ -42,10 +43,13 @@ def line_of(answer: list[str], word: str) -> list[str]:
 
 
 def check_part(wanted: list[str], answer: list[str], line: Line) -> None:
-    """Looks for wanted lines in an answer: each is the line that begins with its word, or else the first one."""
+    """Looks for wanted lines in an answer: each is the line that begins with its word, or else the
+    first one."""
     for text in wanted:
         first = text.split(" ", 1)[0]
-        came = next((it for it in answer if it.split(" ", 1)[0] == first), answer[0] if answer else "")
+        came = next(
+            (it for it in answer if it.split(" ", 1)[0] == first), answer[0] if answer else ""
+        )
         same(" ".join(tokens(text)), came.rstrip(), line.at)
 
 
@@ -57,18 +61,24 @@ def check_row(probe: Callable[[], Probe], line: Line) -> None:
     check_part(wanted.split("; "), answer, line)
     for single in ("orders", "cells"):
         if any(it.split(" ", 1)[0] == single for it in answer):
-            same(" ".join(in_runs(line_of(answer, single))), " ".join(line_of(answer, "runs")), line.at)
+            same(
+                " ".join(in_runs(line_of(answer, single))),
+                " ".join(line_of(answer, "runs")),
+                line.at,
+            )
     parts = ["?" if it.startswith("at:") else it for it in line_of(answer, "parts")]
     same(" ".join(parts), " ".join(line_of(answer, "as-cells")), line.at)
 
 
 def rows_in_part(path: pathlib.Path, subject: str) -> Iterator[Case]:
-    """The cases of a file of lines `COMMAND = LINE; LINE`, where the answer may have other lines too. What an answer has as runs or as cells
-    follows from what it has one by one."""
+    """The cases of a file of lines `COMMAND = LINE; LINE`, where the answer may have other lines
+    too. What an answer has as runs or as cells follows from what it has one by one."""
     probe = functools.cache(lambda: Probe(subject))
     for line in lines_of(path):
         if line.text.strip() and not line.text.startswith("#"):
-            yield Case(line.text.partition(" = ")[0], line.at, functools.partial(check_row, probe, line))
+            yield Case(
+                line.text.partition(" = ")[0], line.at, functools.partial(check_row, probe, line)
+            )
 
 
 def take_step(steps: dict[str, Step], subject: object, line: Line) -> None:
@@ -84,11 +94,15 @@ def take_step(steps: dict[str, Step], subject: object, line: Line) -> None:
 
 def steps_of(cls: type) -> dict[str, Step]:
     """The steps that a class has as methods, `do_` and the word."""
-    return {name[3:].replace("_", "-"): step for name, step in vars(cls).items() if name.startswith("do_")}
+    return {
+        name[3:].replace("_", "-"): step
+        for name, step in vars(cls).items() if name.startswith("do_")
+    }
 
 
 def cases_of(path: pathlib.Path, make: Callable[[], object]) -> Iterator[Case]:
-    """The cases of a file of blocks `case NAME`, whose lines are steps of what `make` makes, which is closed at the end."""
+    """The cases of a file of blocks `case NAME`, whose lines are steps of what `make` makes, which
+    is closed at the end."""
     for head, name, lines in blocks_of(path, "case"):
         yield Case(name, head.at, functools.partial(check_steps, make, lines, head))
 

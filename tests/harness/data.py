@@ -24,7 +24,8 @@ class Line:
         return int(word)
 
     def data(self, words: str) -> bytes:
-        """The bytes that words of the line spell, as the probe reads them: pairs of hexadecimal digits, PAIRS*N, "TEXT", - for none."""
+        """The bytes that words of the line spell, as the probe reads them: pairs of hexadecimal
+        digits, PAIRS*N, "TEXT", - for none."""
         try:
             return b"".join(map(word_bytes, words.split()))
         except ValueError as error:
@@ -38,13 +39,16 @@ def word_bytes(word: str) -> bytes:
     if len(word) >= 2 and word[0] == word[-1] == '"':
         return word[1:-1].encode()
     pairs, star, times = word.partition("*")
-    if star and not (times.isascii() and times.isdigit()) or len(pairs) % 2 or not all(it in "0123456789abcdefABCDEF" for it in pairs):
+    if star and not (times.isascii() and times.isdigit()) or len(pairs) % 2 or not all(
+        it in "0123456789abcdefABCDEF" for it in pairs
+    ):
         raise ValueError(f"{word} spells no bytes")
     return bytes.fromhex(pairs) * int(times or 1)
 
 
 def lines_of(path: pathlib.Path) -> list[Line]:
-    """The lines of a file of cases, with their places. It ends with a newline, and a carriage return is part of a line."""
+    """The lines of a file of cases, with their places. It ends with a newline, and a carriage
+    return is part of a line."""
     file = relative(path)
     try:
         text = path.read_bytes().decode()
@@ -58,7 +62,8 @@ def lines_of(path: pathlib.Path) -> list[Line]:
 
 
 def blocks_of(path: pathlib.Path, head: str) -> Iterator[tuple[Line, str, list[Line]]]:
-    """The blocks of a file: the line `HEAD NAME`, the name, and the lines up to the next. Empty lines and comments (`#`) are left out."""
+    """The blocks of a file: the line `HEAD NAME`, the name, and the lines up to the next. Empty
+    lines and comments (`#`) are left out."""
     found: list[tuple[Line, str, list[Line]]] = []
     for line in lines_of(path):
         if not line.text.strip() or line.text.startswith("#"):

@@ -1,7 +1,8 @@
 """What the documents print: runs of the program, and other indented blocks.
 
-A document shows a run as an indented block: a line `$ COMMAND`, and then what it prints on both of its outputs. A line `.. N empty lines ..`
-means N empty lines. A block's last line may be `(status N)`; without one the status is 0.
+A document shows a run as an indented block: a line `$ COMMAND`, and then what it prints on both of
+its outputs. A line `.. N empty lines ..` means N empty lines. A block's last line may be `(status
+N)`; without one the status is 0.
 """
 import re
 import subprocess
@@ -11,7 +12,11 @@ from harness import programs
 from harness.case import TOP, BadCase, Difference, Place
 
 PROGRAM = "crates/panel3270/out/panel3270"
-DOCUMENTS = ["README.md", "examples/README.md", *sorted(f"docs/{it.name}" for it in (TOP / "docs").glob("*.md"))]
+DOCUMENTS = [
+    "README.md",
+    "examples/README.md",
+    *sorted(f"docs/{it.name}" for it in (TOP / "docs").glob("*.md")),
+]
 
 
 def read(name: str) -> str:
@@ -20,9 +25,17 @@ def read(name: str) -> str:
 
 
 def ran(command: str) -> tuple[str, int]:
-    """What a command prints that sh runs at the top of the repository, and its status. The program that is tested takes PROGRAM's place."""
+    """What a command prints that sh runs at the top of the repository, and its status. The program
+    that is tested takes PROGRAM's place."""
     words = ["sh", "-c", command.replace(PROGRAM, str(programs.panel3270()))]
-    done = subprocess.run(words, cwd=TOP, stdin=subprocess.DEVNULL, stdout=subprocess.PIPE, stderr=subprocess.STDOUT, check=False)
+    done = subprocess.run(
+        words,
+        cwd=TOP,
+        stdin=subprocess.DEVNULL,
+        stdout=subprocess.PIPE,
+        stderr=subprocess.STDOUT,
+        check=False,
+    )
     return done.stdout.decode("utf-8"), done.returncode
 
 
@@ -30,7 +43,9 @@ def printed(lines: list[str]) -> tuple[str, int]:
     """The text that a document's lines mean, and the status."""
     status, text = 0, []
     for line in lines:
-        empty, told = re.fullmatch(r"\.\. (\d+) empty lines \.\.", line), re.fullmatch(r"\(status (\d+)\)", line)
+        empty, told = re.fullmatch(r"\.\. (\d+) empty lines \.\.", line), re.fullmatch(
+            r"\(status (\d+)\)", line
+        )
         if empty:
             text += [""] * int(empty[1])
         elif told:
@@ -64,13 +79,18 @@ def same_output(at: Place, wanted: tuple[str, int], came: tuple[str, int]) -> No
 
 def block(document: str, before: str) -> str:
     """The first indented block after the line of a document that has this text."""
-    found = re.search(rf"{re.escape(before)}.*\n(?:(?!    ).*\n)*((?:    .*\n|\n)+)", read(document))
+    found = re.search(
+        rf"{re.escape(before)}.*\n(?:(?!    ).*\n)*((?:    .*\n|\n)+)", read(document)
+    )
     if not found:
         raise BadCase(f"no block after {before!r}", Place(document, 1))
     return re.sub("^    ", "", found[1].rstrip("\n"), flags=re.M)
 
 
 def same(text: str) -> str:
-    """A text without the times and ports of its run, and without what the host drew when it started."""
-    text = re.sub(r"\b(session\W+)[0-9a-f]{16}-", r"\1BOOT-", re.sub(r"\btime=\S+", "time=TIME", text))
+    """A text without the times and ports of its run, and without what the host drew when it
+    started."""
+    text = re.sub(
+        r"\b(session\W+)[0-9a-f]{16}-", r"\1BOOT-", re.sub(r"\btime=\S+", "time=TIME", text)
+    )
     return re.sub(r"((?:127|0)\.0\.0\.[01]:)\d+", r"\1PORT", text)

@@ -18,16 +18,27 @@ def library() -> pathlib.Path:
     """refuse.c as a library, which is compiled once in a process."""
     path = pathlib.Path(FOLDER.name) / "refuse.so"
     try:
-        subprocess.run(["cc", "-O2", "-shared", "-fPIC", "-o", path, SOURCE], check=True, capture_output=True, text=True)
+        subprocess.run(
+            ["cc", "-O2", "-shared", "-fPIC", "-o", path, SOURCE],
+            check=True,
+            capture_output=True,
+            text=True,
+        )
     except (OSError, subprocess.CalledProcessError) as error:
         raise BadCase(f"refuse.c isn't compiled: {getattr(error, 'stderr', error)}") from None
     return path
 
 
 def settings(growth: int, whole: bool = True) -> dict[str, str]:
-    """The environment of a run whose allocation with this number fails, from 1 on; 0 is none's. `whole` counts those of the whole run,
-    else those between the lines `begin` and `end` that the program writes to standard error."""
-    return {**os.environ, "LD_PRELOAD": str(library()), "GROWTH": str(growth), **({"WHOLE": "1"} if whole else {})}
+    """The environment of a run whose allocation with this number fails, from 1 on; 0 is none's.
+    `whole` counts those of the whole run, else those between the lines `begin` and `end` that the
+    program writes to standard error."""
+    return {
+        **os.environ,
+        "LD_PRELOAD": str(library()),
+        "GROWTH": str(growth),
+        **({"WHOLE": "1"} if whole else {}),
+    }
 
 
 def met(told: str) -> int:

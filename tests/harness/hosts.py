@@ -1,4 +1,5 @@
-"""Runs of the program, and the ends of connections that a suite has itself. What they say and hear is spelt by RFC 1647 and GA23-0059."""
+"""Runs of the program, and the ends of connections that a suite has itself. What they say and hear
+is spelt by RFC 1647 and GA23-0059."""
 import contextlib
 import itertools
 import os
@@ -21,8 +22,8 @@ LOCALHOST = "127.0.0.1"
 # The longest time that a check waits for what has to happen, in seconds.
 PATIENCE = 20
 MOST_CONNECTIONS = 64
-# The ports of this process, which no other process that `tests/run` starts uses. They are below those that the system gives to connections
-# which go out.
+# The ports of this process, which no other process that `tests/run` starts uses. They are below
+# those that the system gives to connections which go out.
 FIRST_PORT, PORTS = 16384 + 1000 * (int(os.environ.get("TESTS_SLOT", 0)) % 16), 1000
 TAKEN = itertools.count(random.randrange(PORTS))
 
@@ -30,10 +31,16 @@ TAKEN = itertools.count(random.randrange(PORTS))
 
 DO, WILL, WONT = (bytes.fromhex(f"FF {it} 28") for it in ("FD", "FB", "FC"))
 SEND_TYPE = bytes.fromhex("FF FA 28 08 02 FF F0")
-FUNCTIONS_REQUEST, FUNCTIONS_IS = (bytes.fromhex(f"FF FA 28 03 {it} 02 FF F0") for it in ("07", "04"))
-DEVICE_IN_USE, INV_DEVICE_TYPE = (bytes.fromhex(f"FF FA 28 02 06 05 {it} FF F0") for it in ("01", "04"))
+FUNCTIONS_REQUEST, FUNCTIONS_IS = (
+    bytes.fromhex(f"FF FA 28 03 {it} 02 FF F0") for it in ("07", "04")
+)
+DEVICE_IN_USE, INV_DEVICE_TYPE = (
+    bytes.fromhex(f"FF FA 28 02 06 05 {it} FF F0") for it in ("01", "04")
+)
 # DO TERMINAL-TYPE, which a host answers by WON'T; and NOP, which it doesn't answer.
-DO_OTHER, WONT_OTHER, NOP = bytes.fromhex("FF FD 18"), bytes.fromhex("FF FC 18"), bytes.fromhex("FF F1")
+DO_OTHER, WONT_OTHER, NOP = bytes.fromhex("FF FD 18"), bytes.fromhex("FF FC 18"), bytes.fromhex(
+    "FF F1"
+)
 
 
 def device_type(word, lu, name="IBM-3278-2"):
@@ -45,12 +52,16 @@ def device_type(word, lu, name="IBM-3278-2"):
 def panels(*lus):
     """A panel of one field, eight cells from 167 on, which Enter shows again."""
     field = "{name = 'word', row = 3, col = 8, length = 8}"
-    return f"start = 'WORD'\nlus = {list(lus)}\npanel = [{{name = 'WORD', field = [{field}], keys = {{enter = 'WORD'}}}}]\n".encode()
+    panel = f"{{name = 'WORD', field = [{field}], keys = {{enter = 'WORD'}}}}"
+    return f"start = 'WORD'\nlus = {list(lus)}\npanel = [{panel}]\n".encode()
 
 
 # Erase/Write, number 0: attributes at 166, 175 and 1840, the cursor at 167.
-FIRST_WRITE = bytes.fromhex("00 00 02 00 00 F5 C3 11 C2 E6 1D 40 11 C2 6F 1D F0 11 5C F0 1D F8 11 C2 E7 13 FF EF")
-# Write, behind its number: the field's eight cells, of which the returned text is known and no place, become null.
+FIRST_WRITE = bytes.fromhex(
+    "00 00 02 00 00 F5 C3 11 C2 E6 1D 40 11 C2 6F 1D F0 11 5C F0 1D F8 11 C2 E7 13 FF EF"
+)
+# Write, behind its number: the field's eight cells, of which the returned text is known and no
+# place, become null.
 NEXT_WRITE = bytes.fromhex("F1 C3 11 C2 E7 00 00 00 00 00 00 00 00 11 C2 E7 13 FF EF")
 # Enter, behind its number: an A in the field, the cursor behind it.
 ENTER = bytes.fromhex("7D C2 E8 11 C2 E7 C1 FF EF")
@@ -183,7 +194,8 @@ class TerminalHeard(Client):
         self.says(FUNCTIONS_IS)
 
     def writes_with(self, command, status):
-        """Sends a command, and hears its response: 0 for one that was taken, 1 and a reason for one that was refused."""
+        """Sends a command, and hears its response: 0 for one that was taken, 1 and a reason for one
+        that was refused."""
         self.says(b"\x00\x00\x02\x00\x00", command, b"\xff\xef")
         self.hears(b"\x02\x00", bytes([status[0]]), b"\x00\x00", bytes([status[1]]), b"\xff\xef")
 
@@ -204,8 +216,12 @@ def run(words, given, limit=None, **how):
     how = {"stdout": subprocess.PIPE, "stderr": subprocess.PIPE, **how}
     if limit:
         how["preexec_fn"] = lambda: resource.setrlimit(resource.RLIMIT_NOFILE, (limit, limit))
-    done = subprocess.run([programs.panel3270(), *map(str, words)], input=given, timeout=PATIENCE, check=False, **how)
-    return done.returncode, *((it or b"").decode(errors="replace") for it in (done.stdout, done.stderr))
+    done = subprocess.run(
+        [programs.panel3270(), *map(str, words)], input=given, timeout=PATIENCE, check=False, **how
+    )
+    return done.returncode, *(
+        (it or b"").decode(errors="replace") for it in (done.stdout, done.stderr)
+    )
 
 
 # What the log says of a session that depends on the time and on how often IAC NOP was sent.
@@ -216,8 +232,11 @@ SESSION_NAME = re.compile(r"\bsession=([0-9a-f]{16})-(\d+) ")
 
 
 def plain(line):
-    """A line of the log without its time, its session's name, and the figures of a session but for the turns."""
-    return FIGURES.sub(r" turns=\1", SESSION_NAME.sub("session=BOOT-N ", TIME.sub("", line, count=1), count=1))
+    """A line of the log without its time, its session's name, and the figures of a session but for
+    the turns."""
+    return FIGURES.sub(
+        r" turns=\1", SESSION_NAME.sub("session=BOOT-N ", TIME.sub("", line, count=1), count=1)
+    )
 
 
 class Server:
@@ -232,9 +251,16 @@ class Server:
         until("a host listens", lambda: self.listens() or self.process.poll() is not None)
 
     def listens(self):
-        """Whether the system has a listener at its port: in proc(5), its addresses in hexadecimal, and the state 0A."""
-        lines = [line for table in ("tcp", "tcp6") for line in pathlib.Path(f"/proc/net/{table}").read_text().splitlines()[1:]]
-        return any(it.split()[1].endswith(f":{self.port:04X}") and it.split()[3] == "0A" for it in lines)
+        """Whether the system has a listener at its port: in proc(5), its addresses in hexadecimal,
+        and the state 0A."""
+        lines = [
+            line
+            for table in ("tcp", "tcp6")
+            for line in pathlib.Path(f"/proc/net/{table}").read_text().splitlines()[1:]
+        ]
+        return any(
+            it.split()[1].endswith(f":{self.port:04X}") and it.split()[3] == "0A" for it in lines
+        )
 
     def __enter__(self):
         return self
@@ -257,7 +283,10 @@ class Server:
         """Waits until its log has these lines behind the one that it listens, and no other."""
         wanted = [f"listening on {LOCALHOST}:{self.port}", *events]
         with contextlib.suppress(Difference):
-            until("its log", lambda: self.events() == wanted or wanted[: len(self.events())] != self.events())
+            until(
+                "its log",
+                lambda: self.events() == wanted or wanted[: len(self.events())] != self.events(),
+            )
         expect("its log", self.events(), wanted)
 
     def ends(self):

@@ -14,7 +14,11 @@ class Probe:
 
     def __init__(self, subject: str, environment: Mapping[str, str] | None = None) -> None:
         self.process = subprocess.Popen(
-            [programs.probe(), subject], stdin=subprocess.PIPE, stdout=subprocess.PIPE, stderr=subprocess.PIPE, env=environment
+            [programs.probe(), subject],
+            stdin=subprocess.PIPE,
+            stdout=subprocess.PIPE,
+            stderr=subprocess.PIPE,
+            env=environment,
         )
 
     def __enter__(self) -> "Probe":
@@ -24,11 +28,13 @@ class Probe:
         self.close()
 
     def ask(self, command: str, at: Place | None = None) -> list[str]:
-        """The lines of the answer to a command. One that the probe doesn't understand is an error of the test's data, `at` a line."""
+        """The lines of the answer to a command. One that the probe doesn't understand is an error
+        of the test's data, `at` a line."""
         return self.ask_each([command], at)[0]
 
     def ask_each(self, commands: list[str], at: Place | None = None) -> list[list[str]]:
-        """The answers to some commands, which are written at once: no more than the pipe takes (64 KiB) unless they are few."""
+        """The answers to some commands, which are written at once: no more than the pipe takes (64
+        KiB) unless they are few."""
         for command in commands:
             if "\n" in command:
                 raise BadCase(f"a command is one line: {command!r}", at)
@@ -42,7 +48,11 @@ class Probe:
 
     def ask_all(self, commands: list[str], at: Place | None = None) -> list[list[str]]:
         """The answers to any number of commands that are short, as their answers are."""
-        return [answer for start in range(0, len(commands), MOST_COMMANDS) for answer in self.ask_each(commands[start : start + MOST_COMMANDS], at)]
+        return [
+            answer
+            for start in range(0, len(commands), MOST_COMMANDS)
+            for answer in self.ask_each(commands[start : start + MOST_COMMANDS], at)
+        ]
 
     def read_answer(self, command: str, at: Place | None) -> list[str]:
         assert self.process.stdout is not None
@@ -61,7 +71,9 @@ class Probe:
         text = said.decode(errors="replace").strip()
         if text.startswith("Error: no subject"):
             return BadCase(text)
-        return Difference("an answer of the probe", f"it ended with status {self.process.returncode}: {text}")
+        return Difference(
+            "an answer of the probe", f"it ended with status {self.process.returncode}: {text}"
+        )
 
     def close(self) -> None:
         """Ends the probe."""

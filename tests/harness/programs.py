@@ -19,7 +19,8 @@ def quick() -> types.ModuleType:
 
 
 def built(crate: str, variable: str) -> pathlib.Path:
-    """The program of a crate: the file that the environment names, the one without a proof for `tests/run --quick`, or the proved one."""
+    """The program of a crate: the file that the environment names, the one without a proof for
+    `tests/run --quick`, or the proved one."""
     named = os.environ.get(variable)
     if named:
         return pathlib.Path(named).resolve()
@@ -27,7 +28,10 @@ def built(crate: str, variable: str) -> pathlib.Path:
         return quick().found(getattr(quick(), crate.upper()))[0]
     path = TOP / f"crates/{crate}/out/{crate}"
     if not path.is_file():
-        raise BadCase(f"{crate} isn't built: `rt ci` builds it, and `tests/run --quick` runs it without a proof")
+        raise BadCase(
+            f"{crate} isn't built: `rt ci` builds it, and `tests/run --quick` runs it "
+            "without a proof"
+        )
     return path
 
 

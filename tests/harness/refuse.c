@@ -1,5 +1,7 @@
-/* Refuses one growth of memory to a program that is run with this library preloaded: that with the number GROWTH, from 1 on, of those
-   between the lines `begin` and `end` that the program writes to standard error. At each `end` it says how many there were so far. */
+/* Fails one allocation of a program that is run with this library preloaded: the one with the
+   number GROWTH, from 1 on, of those between the lines `begin` and `end` that the program writes to
+   standard error; if WHOLE is set, of all. At each `end`, or at the program's end, it prints their
+   number so far. */
 #include <errno.h>
 #include <stdio.h>
 #include <stdlib.h>
@@ -15,7 +17,7 @@ extern void *__libc_memalign(size_t, size_t);
 static int is_counting;
 static long growths, refused;
 
-/* Whether the growth that is asked for is the one to refuse. */
+/* Whether this is the allocation to fail. */
 static int is_refused(void)
 {
     if (!is_counting || ++growths != refused)
@@ -24,13 +26,25 @@ static int is_refused(void)
     return 1;
 }
 
-void *malloc(size_t size) { return is_refused() ? NULL : __libc_malloc(size); }
+void *malloc(size_t size)
+{
+    return is_refused() ? NULL : __libc_malloc(size);
+}
 
-void *calloc(size_t count, size_t size) { return is_refused() ? NULL : __libc_calloc(count, size); }
+void *calloc(size_t count, size_t size)
+{
+    return is_refused() ? NULL : __libc_calloc(count, size);
+}
 
-void *realloc(void *block, size_t size) { return is_refused() ? NULL : __libc_realloc(block, size); }
+void *realloc(void *block, size_t size)
+{
+    return is_refused() ? NULL : __libc_realloc(block, size);
+}
 
-void *aligned_alloc(size_t alignment, size_t size) { return is_refused() ? NULL : __libc_memalign(alignment, size); }
+void *aligned_alloc(size_t alignment, size_t size)
+{
+    return is_refused() ? NULL : __libc_memalign(alignment, size);
+}
 
 int posix_memalign(void **block, size_t alignment, size_t size)
 {
@@ -42,13 +56,35 @@ int posix_memalign(void **block, size_t alignment, size_t size)
 static void say_growths(void)
 {
     char line[32];
-    syscall(SYS_write, 2, line, (size_t)snprintf(line, sizeof line, "growths %ld\n", growths));
+    int length = snprintf(line, sizeof line, "growths %ld\n", growths);
+    syscall(SYS_write, 2, line, (size_t)length);
+}
+
+static long wanted_growth(void)
+{
+    return getenv("GROWTH") ? atol(getenv("GROWTH")) : 0;
+}
+
+__attribute__((constructor)) static void begin_whole(void)
+{
+    if (getenv("WHOLE")) {
+        refused = wanted_growth();
+        is_counting = 1;
+    }
+}
+
+__attribute__((destructor)) static void end_whole(void)
+{
+    if (getenv("WHOLE")) {
+        is_counting = 0;
+        say_growths();
+    }
 }
 
 ssize_t write(int file, const void *bytes, size_t size)
 {
     if (file == 2 && size == 6 && !memcmp(bytes, "begin\n", 6)) {
-        refused = getenv("GROWTH") ? atol(getenv("GROWTH")) : 0;
+        refused = wanted_growth();
         is_counting = 1;
     } else if (file == 2 && size == 4 && !memcmp(bytes, "end\n", 4)) {
         is_counting = 0;
@@ -57,4 +93,7 @@ ssize_t write(int file, const void *bytes, size_t size)
     return syscall(SYS_write, file, bytes, size);
 }
 
-ssize_t __write(int file, const void *bytes, size_t size) { return write(file, bytes, size); }
+ssize_t __write(int file, const void *bytes, size_t size)
+{
+    return write(file, bytes, size);
+}

@@ -78,14 +78,18 @@ def own_cases(part: Part) -> Iterator[Case]:
     module = module_of(part.suite)
     files: dict[str, int] = {}
     for place, case in enumerate(module.cases()):
-        number = files.setdefault(case.at.file, len(files)) if getattr(module, "BY_FILE", False) else place
+        is_by_file = getattr(module, "BY_FILE", False)
+        number = files.setdefault(case.at.file, len(files)) if is_by_file else place
         if number % part.of == part.index:
             yield case
 
 
 def place_of(at: Place, error: BaseException) -> Place:
     """The place of a case that raised this: for a function the line at which it was left."""
-    lines = [it.lineno for it in traceback.extract_tb(error.__traceback__) if relative(it.filename) == at.file]
+    lines = [
+        it.lineno
+        for it in traceback.extract_tb(error.__traceback__) if relative(it.filename) == at.file
+    ]
     return Place(at.file, lines[-1] or at.line) if lines else at
 
 
@@ -98,7 +102,13 @@ def failure_of(suite: str, name: str, at: Place, error: BaseException) -> Failur
         case BadCase(reason=reason):
             return Failure(suite, name, str(error.at or at), "a case that can be run", reason)
         case _:
-            return Failure(suite, name, str(at), "no exception", "".join(traceback.format_exception(error)).rstrip())
+            return Failure(
+                suite,
+                name,
+                str(at),
+                "no exception",
+                "".join(traceback.format_exception(error)).rstrip(),
+            )
 
 
 def run_case(suite: str, case: Case) -> Failure | None:
@@ -111,12 +121,15 @@ def run_case(suite: str, case: Case) -> Failure | None:
 
 
 def run_part(part: Part, words: list[str]) -> Outcome:
-    """Runs the cases of a part. A suite without any case fails, unless it says what isn't installed."""
+    """Runs the cases of a part. A suite without any case fails, unless it says what isn't
+    installed."""
     outcome = Outcome()
     try:
         cases = list(chosen(part, words))
         getattr(module_of(part.suite), "prepare", lambda _: None)(cases)
-        with concurrent.futures.ThreadPoolExecutor(getattr(module_of(part.suite), "THREADS", 1)) as pool:
+        with concurrent.futures.ThreadPoolExecutor(
+            getattr(module_of(part.suite), "THREADS", 1)
+        ) as pool:
             results = list(pool.map(lambda it: run_case(part.suite, it), cases))
         outcome.failures = [it for it in results if it]
         outcome.passed = len(results) - len(outcome.failures)
@@ -137,40 +150,68 @@ def list_part(part: Part, words: list[str]) -> None:
     except NotHere as missing:
         print(f"{part.suite}: not run, since {missing}")
     except Exception as error:
-        show(failure_of(part.suite, "reading its cases", Place(f"tests/suites/{part.suite}.py", 1), error))
+        show(
+            failure_of(
+                part.suite, "reading its cases", Place(f"tests/suites/{part.suite}.py", 1), error
+            )
+        )
 
 
 def parts_of(suite: str) -> Iterator[Part]:
-    """A suite says by `PARTS` into how many processes its cases are divided, or by `BY_FILE` that each file of cases has one."""
+    """A suite says by `PARTS` into how many processes its cases are divided, or by `BY_FILE` that
+    each file of cases has one."""
     module = module_of(suite)
-    parts = len({it.at.file for it in module.cases()}) if getattr(module, "BY_FILE", False) else getattr(module, "PARTS", 1)
+    parts = getattr(module, "PARTS", 1)
+    if getattr(module, "BY_FILE", False):
+        parts = len({it.at.file for it in module.cases()})
     return (Part(suite, index, parts) for index in range(parts))
 
 
 def all_parts() -> tuple[list[Part], list[Failure]]:
-    """The parts of all suites, those first that say they are `LONG`, and the suites that can't be loaded."""
+    """The parts of all suites, those first that say they are `LONG`, and the suites that can't be
+    loaded."""
     found, failures = [], []
     for suite in suite_names():
         try:
             found.append((not getattr(module_of(suite), "LONG", False), list(parts_of(suite))))
         except Exception as error:
-            failures.append(failure_of(suite, "loading it", Place(f"tests/suites/{suite}.py", 1), error))
+            failures.append(
+                failure_of(suite, "loading it", Place(f"tests/suites/{suite}.py", 1), error)
+            )
     return [part for _, parts in sorted(found, key=lambda it: it[0]) for part in parts], failures
 
 
 def run_apart(part: Part, words: list[str], slots: queue.SimpleQueue[int]) -> Outcome:
-    """Runs a part in a process of its own. What it starts uses the ports of a slot, which no other part has meanwhile."""
-    command = [sys.executable, str(RUN), "--part", part.suite, str(part.index), str(part.of), "-k", " ".join(words)]
+    """Runs a part in a process of its own. What it starts uses the ports of a slot, which no other
+    part has meanwhile."""
+    command = [
+        sys.executable,
+        str(RUN),
+        "--part",
+        part.suite,
+        str(part.index),
+        str(part.of),
+        "-k",
+        " ".join(words),
+    ]
     slot = slots.get()
     try:
-        return read_outcome(*run_process(command, slot, getattr(module_of(part.suite), "SECONDS", MOST_SECONDS)))
+        return read_outcome(
+            *run_process(command, slot, getattr(module_of(part.suite), "SECONDS", MOST_SECONDS))
+        )
     except subprocess.TimeoutExpired as late:
         came = f"it isn't done in {late.timeout:.0f} seconds"
     except Difference as difference:
         came = difference.came
     finally:
         slots.put(slot)
-    return Outcome(failures=[Failure(part.suite, "running it", f"tests/suites/{part.suite}.py:1", "its outcome", came)])
+    return Outcome(
+        failures=[
+            Failure(
+                part.suite, "running it", f"tests/suites/{part.suite}.py:1", "its outcome", came
+            )
+        ]
+    )
 
 
 def end_group(run: subprocess.Popen[str]) -> None:
@@ -191,7 +232,15 @@ def run_process(command: list[str], slot: int, seconds: float) -> tuple[int, str
     """The status of a process, and what it wrote. What it leaves behind is ended."""
     environment = {**os.environ, "TESTS_SLOT": str(slot)}
     with tempfile.TemporaryFile("w+") as said, tempfile.TemporaryFile("w+") as out:
-        run = subprocess.Popen(command, stdin=subprocess.DEVNULL, stdout=out, stderr=said, text=True, env=environment, start_new_session=True)
+        run = subprocess.Popen(
+            command,
+            stdin=subprocess.DEVNULL,
+            stdout=out,
+            stderr=said,
+            text=True,
+            env=environment,
+            start_new_session=True,
+        )
         RUNNING.add(run)
         try:
             run.wait(seconds)
@@ -212,7 +261,10 @@ def read_outcome(status: int, out: str, said: str) -> Outcome:
 
 
 def first_difference(wanted: str, came: str) -> int:
-    return next((place for place, (one, other) in enumerate(zip(wanted, came)) if one != other), min(len(wanted), len(came)))
+    return next(
+        (place for place, (one, other) in enumerate(zip(wanted, came)) if one != other),
+        min(len(wanted), len(came)),
+    )
 
 
 def shortened(text: str, place: int) -> str:
@@ -220,12 +272,15 @@ def shortened(text: str, place: int) -> str:
     if "\n" in text or len(text) <= MOST_SHOWN:
         return text
     start = max(0, place - MOST_SHOWN // 4)
-    return f"{'.. ' if start else ''}{text[start : start + MOST_SHOWN]} .. (differs at character {place} of {len(text)})"
+    shown = f"{'.. ' if start else ''}{text[start : start + MOST_SHOWN]} .."
+    return f"{shown} (differs at character {place} of {len(text)})"
 
 
 def indented(label: str, text: str) -> str:
     lines = text.split("\n")
-    return f"    {label}: {text}" if len(lines) == 1 else "\n".join([f"    {label}:", *(f"        {line}" for line in lines)])
+    return f"    {label}: {text}" if len(lines) == 1 else "\n".join(
+        [f"    {label}:", *(f"        {line}" for line in lines)]
+    )
 
 
 def show(failure: Failure) -> None:
@@ -245,7 +300,9 @@ def run_all(words: list[str], jobs: int) -> int:
     for slot in range(jobs):
         slots.put(slot)
     with concurrent.futures.ThreadPoolExecutor(jobs) as pool:
-        for done in concurrent.futures.as_completed([pool.submit(run_apart, part, words, slots) for part in parts]):
+        for done in concurrent.futures.as_completed(
+            [pool.submit(run_apart, part, words, slots) for part in parts]
+        ):
             outcome = done.result()
             passed, failed = passed + outcome.passed, failed + len(outcome.failures)
             for note in outcome.notes:
@@ -266,11 +323,29 @@ def write_part(part: Part, words: list[str]) -> int:
 
 
 def main() -> int:
-    parser = argparse.ArgumentParser(prog="tests/run", description="Runs the suites of tests/ side by side.")
-    parser.add_argument("-k", metavar="WORDS", default="", help="only cases whose suite, name and file together have each of these words, and none that begins with !")
-    parser.add_argument("--list", action="store_true", help="print the cases and where they are, and run none")
-    parser.add_argument("--jobs", type=int, default=len(os.sched_getaffinity(0)), metavar="N", help="processes side by side")
-    parser.add_argument("--quick", action="store_true", help="compile the programs without a proof, and keep them")
+    parser = argparse.ArgumentParser(
+        prog="tests/run", description="Runs the suites of tests/ side by side."
+    )
+    parser.add_argument(
+        "-k",
+        metavar="WORDS",
+        default="",
+        help="only cases whose suite, name and file together have each of these words, and none "
+        "that begins with !",
+    )
+    parser.add_argument(
+        "--list", action="store_true", help="print the cases and where they are, and run none"
+    )
+    parser.add_argument(
+        "--jobs",
+        type=int,
+        default=len(os.sched_getaffinity(0)),
+        metavar="N",
+        help="processes side by side",
+    )
+    parser.add_argument(
+        "--quick", action="store_true", help="compile the programs without a proof, and keep them"
+    )
     parser.add_argument("--part", nargs=3, help=argparse.SUPPRESS)
     given = parser.parse_args()
     words = given.k.split()

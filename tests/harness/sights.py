@@ -1,10 +1,21 @@
-"""What the probe prints of screens, terminals and hosts, and whether a screen is as a belief says."""
+"""What the probe prints of screens, terminals and hosts, and whether a screen is as a belief
+says."""
 import dataclasses
 import functools
 import re
 
 CELL = re.compile(r"1D..|..")
-ENTER_AND_PF = {"7D", *(f"F{it}" for it in range(1, 10)), *(f"C{it}" for it in range(1, 10)), "7A", "7B", "7C", "4A", "4B", "4C"}
+ENTER_AND_PF = {
+    "7D",
+    *(f"F{it}" for it in range(1, 10)),
+    *(f"C{it}" for it in range(1, 10)),
+    "7A",
+    "7B",
+    "7C",
+    "4A",
+    "4B",
+    "4C",
+}
 
 REFUSALS = {"Locked": 1, "Protected": 2, "NotNumeric": 3, "NoRoom": 4, "NoCode": 5}
 BY_DEBUG = {"phase", "model", "turn", "pending", "inserting", "took-write", "erased"}
@@ -31,7 +42,8 @@ def plain(text: str) -> str:
 
 
 def parts_of(answer: list[str]) -> dict[str, str]:
-    """The lines of an answer by their first words. A belief's fields have the word and the address."""
+    """The lines of an answer by their first words. A belief's fields have the word and the
+    address."""
     found = {}
     for line in answer:
         word, _, rest = line.partition(" ")
@@ -43,13 +55,15 @@ def parts_of(answer: list[str]) -> dict[str, str]:
 
 
 def cells_of(text: str) -> list[str]:
-    """The cells of a screen, or those that are known: two digits of a character, 1D and an attribute's code, or ??."""
+    """The cells of a screen, or those that are known: two digits of a character, 1D and an
+    attribute's code, or ??."""
     return CELL.findall(text)
 
 
 @dataclasses.dataclass(frozen=True)
 class Belief:
-    """What a host believes of a screen: each cell that is known, and of each field a fact and a text."""
+    """What a host believes of a screen: each cell that is known, and of each field a fact and a
+    text."""
 
     known: list[str]
     fields: dict[int, tuple[str, list[str]]]
@@ -83,11 +97,14 @@ def attributes_of(cells: list[str]) -> list[int]:
 
 
 def fields_of(cells: list[str]) -> dict[int, list[int]]:
-    """The places of each field's characters, in order, by the place of its attribute. Behind the last cell comes the first."""
+    """The places of each field's characters, in order, by the place of its attribute. Behind the
+    last cell comes the first."""
     starts = attributes_of(cells)
     found = {}
     for start, end in zip(starts, [*starts[1:], *starts[:1]]):
-        found[start] = [*range(start + 1, end)] if end > start else [*range(start + 1, len(cells)), *range(end)]
+        found[start] = [*range(start + 1, end)] if end > start else [
+            *range(start + 1, len(cells)), *range(end)
+        ]
     return found
 
 
@@ -111,8 +128,9 @@ def has_text(belief: Belief, cells: list[str], at: int, places: list[int]) -> bo
 
 
 def what_differs(belief: Belief, cells: list[str]) -> str:
-    """How the screen isn't as the host believes it to be, if it isn't: its size; just the fields that the host believes in, each with
-    the attribute and the text that it believes; or no fields, and what is known of each cell."""
+    """How the screen isn't as the host believes it to be, if it isn't: its size; just the fields
+    that the host believes in, each with the attribute and the text that it believes; or no fields,
+    and what is known of each cell."""
     if belief.known and len(belief.known) != len(cells):
         return f"{len(belief.known)} cells are believed, {len(cells)} are there"
     fields = fields_of(cells)
@@ -120,21 +138,24 @@ def what_differs(belief: Belief, cells: list[str]) -> str:
         return f"fields are believed at {sorted(belief.fields)}, and are at {sorted(fields)}"
     for at, places in fields.items():
         if not is_there(belief.known[at], cells[at]) or not has_text(belief, cells, at, places):
-            return f"the field at {at} isn't as believed: {belief.fields[at]}, {[cells[place] for place in places]}"
+            came = [cells[place] for place in places]
+            return f"the field at {at} isn't as believed: {belief.fields[at]}, {came}"
     if not fields and not all(map(is_there, belief.known, cells)):
         return "a cell of a screen without fields isn't as known"
     return ""
 
 
 def what_was_lost(aid: str, cells: list[str], left: list[str], erased: bool) -> str:
-    """After Enter or a PF key, an unmodified input field in which isn't what the host's last write with restore left there, or nulls if
-    Erase Input was done since, if there is one."""
+    """After Enter or a PF key, an unmodified input field in which isn't what the host's last write
+    with restore left there, or nulls if Erase Input was done since, if there is one."""
     if aid not in ENTER_AND_PF:
         return ""
     for at, places in fields_of(cells).items():
         bits = int(cells[at][2:], 16)
         if not bits & 0x21:
-            wanted = ["00" if erased else left[place] if place < len(left) else "" for place in places]
+            wanted = [
+                "00" if erased else left[place] if place < len(left) else "" for place in places
+            ]
             if [cells[place] for place in places] != wanted:
                 return f"the unmodified field at {at} isn't as it was left"
     return ""
@@ -142,7 +163,8 @@ def what_was_lost(aid: str, cells: list[str], left: list[str], erased: bool) -> 
 
 @functools.lru_cache(maxsize=64)
 def headline_fault(host: tuple[str, ...], terminal: tuple[str, ...], left: tuple[str, ...]) -> str:
-    """Why the headline doesn't hold of a connection whose host decides: answers of the probe to host, terminal and left."""
+    """Why the headline doesn't hold of a connection whose host decides: answers of the probe to
+    host, terminal and left."""
     screen, behind = parts_of(list(terminal)), parts_of(list(left))
     cells = cells_of(screen["cells"])
     return what_differs(Belief.of(parts_of(list(host))), cells) or what_was_lost(

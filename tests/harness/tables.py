@@ -1,9 +1,9 @@
 """Tables of commands of the probe and their answers, `COMMAND = ANSWER` a line.
 
-The lines of an answer are joined by `; `; an answer without lines is `()`. On both sides a word with a quote, `*` or
-`+` stands for bytes: the pieces between `+`, each pairs of hexadecimal digits, PAIRS*N, or "TEXT". In a file of rows
-each line is a case. In a file of blocks a case is a line `case NAME` and the rows below it, which one probe answers in
-order.
+The lines of an answer are joined by `; `; an answer without lines is `()`. On both sides a word
+with a quote, `*` or `+` stands for bytes: the pieces between `+`, each pairs of hexadecimal digits,
+PAIRS*N, or "TEXT". In a file of rows each line is a case. In a file of blocks a case is a line
+`case NAME` and the rows below it, which one probe answers in order.
 """
 import functools
 import pathlib
@@ -28,13 +28,16 @@ def hexadecimal(data: bytes) -> str:
 def spelt(line: Line, text: str) -> str:
     """Words of a line, with those that stand for bytes in hexadecimal digits."""
     try:
-        return re.sub(r'[^\s(),;]*["*+][^\s(),;]*', lambda word: hexadecimal(bytes_of(word[0])), text)
+        return re.sub(
+            r'[^\s(),;]*["*+][^\s(),;]*', lambda word: hexadecimal(bytes_of(word[0])), text
+        )
     except ValueError as error:
         raise line.bad(str(error)) from None
 
 
 def named(answer: str) -> str:
-    """An answer with the names of LUs in place of their letters, and other lists of bytes in hexadecimal digits."""
+    """An answer with the names of LUs in place of their letters, and other lists of bytes in
+    hexadecimal digits."""
     def listed(numbers: str) -> bytes:
         return bytes(map(int, numbers.split(", "))) if numbers else b""
 

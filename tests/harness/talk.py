@@ -17,7 +17,8 @@ from harness.probe import Probe
 
 
 def rows(path: pathlib.Path, subject: str) -> Iterator[Case]:
-    """The cases of a file of rows, for a subject that keeps nothing from one command to the next."""
+    """The cases of a file of rows, for a subject that keeps nothing from one command to the
+    next."""
     probe = functools.cache(lambda: Probe(subject))
     for line in lines_of(path):
         if line.text.strip() and not line.text.startswith("#"):

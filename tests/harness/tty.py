@@ -1,4 +1,5 @@
-"""Operators on ttys of their own: bin/operate, and a small model of what a tty makes of the bytes that come."""
+"""Operators on ttys of their own: bin/operate, and a small model of what a tty makes of the bytes
+that come."""
 import contextlib
 import fcntl
 import os
@@ -15,28 +16,43 @@ import time
 
 from harness import programs
 from harness.case import TOP, Difference, expect
-from harness.hosts import DO, FUNCTIONS_IS, FUNCTIONS_REQUEST, LOCALHOST, PATIENCE, SEND_TYPE, Server, WILL, device_type
+from harness.hosts import (
+    DO,
+    FUNCTIONS_IS,
+    FUNCTIONS_REQUEST,
+    LOCALHOST,
+    PATIENCE,
+    SEND_TYPE,
+    Server,
+    WILL,
+    device_type,
+)
 
 SCRIPT = TOP / "bin/operate"
 BANK = TOP / "examples/bank.toml"
 
 # ---- what an operator types
 
-ENTER, TAB, HOME, LEFT, RESET, ERASE_EOF, REDRAW, QUIT = b"\r", b"\t", b"\x1b[H", b"\x1b[D", b"\x12", b"\x05", b"\x0c", b"\x1d"
+ENTER, TAB, HOME, LEFT = b"\r", b"\t", b"\x1b[H", b"\x1b[D"
+RESET, ERASE_EOF, REDRAW, QUIT = b"\x12", b"\x05", b"\x0c", b"\x1d"
 BACK_TAB, INSERT, PF3, CLEAR = b"\x1b[Z", b"\x1b[2~", b"\x1bOR", b"\x03"
 
 # ---- what a host says: RFC 1647, and GA23-0059 for the commands
 
-# Erase/Write, number 0, which restores the keyboard: `HI` protected from 0 on, an unprotected field from 4 on, which ends at 10, a
-# numeric one from 11 on, which ends at 15, and the cursor at 4.
-FORM = bytes.fromhex("00 00 02 00 00 F5 C3 11 40 40 1D F0 C8 C9 1D 40 13 11 40 4A 1D 50 11 40 4F 1D F0 FF EF")
+# Erase/Write, number 0, which restores the keyboard: `HI` protected from 0 on, an unprotected field
+# from 4 on, which ends at 10, a numeric one from 11 on, which ends at 15, and the cursor at 4.
+FORM = bytes.fromhex(
+    "00 00 02 00 00 F5 C3 11 40 40 1D F0 C8 C9 1D 40 13 11 40 4A 1D 50 11 40 4F 1D F0 FF EF"
+)
 RESPONSE = bytes.fromhex("02 00 00 00 00 00 FF EF")
 
 
 # ---- a tty
 
 # A control sequence (ECMA-48), or one character.
-TOKEN = re.compile(rb"\x1b\[(\?)?([0-9;]*)([A-Za-z])|[\xc2-\xdf].|[\xe0-\xef]..|[\xf0-\xf4]...|.", re.DOTALL)
+TOKEN = re.compile(
+    rb"\x1b\[(\?)?([0-9;]*)([A-Za-z])|[\xc2-\xdf].|[\xe0-\xef]..|[\xf0-\xf4]...|.", re.DOTALL
+)
 
 
 class Screen:
@@ -82,8 +98,11 @@ class Screen:
                 self.cells = self.cells[1:] + [[" "] * self.columns]
         else:
             if not (self.row < self.rows and self.column < self.columns):
-                raise Difference("a character on the tty", f"row {self.row} and column {self.column}")
-            self.cells[self.row][self.column], self.looks[self.row][self.column] = token.decode(), self.look
+                raise Difference(
+                    "a character on the tty", f"row {self.row} and column {self.column}"
+                )
+            self.cells[self.row][self.column] = token.decode()
+            self.looks[self.row][self.column] = self.look
             self.column += 1
 
     def controls(self, private, numbers, final):
@@ -128,12 +147,15 @@ class Operator:
         def begin():
             os.setsid()
             fcntl.ioctl(0, termios.TIOCSCTTY, 0)
-            # A shell that runs this script in the background has it ignore signals, which an operator's shell doesn't.
+            # A shell that runs this script in the background has it ignore signals, which an
+            # operator's shell doesn't.
             for number in SIGNALS:
                 signal.signal(number, signal.SIG_DFL)
             signal.pthread_sigmask(signal.SIG_SETMASK, ())
 
-        self.process = subprocess.Popen(words, stdin=slave, stdout=slave, stderr=slave, preexec_fn=begin, env=env)
+        self.process = subprocess.Popen(
+            words, stdin=slave, stdout=slave, stderr=slave, preexec_fn=begin, env=env
+        )
 
     def __enter__(self):
         return self
@@ -165,7 +187,9 @@ class Operator:
         end = time.monotonic() + PATIENCE
         while not holds(self.screen):
             if time.monotonic() > end:
-                raise Difference(what, f"not in {PATIENCE} seconds; the screen is\n{self.screen.text()}")
+                raise Difference(
+                    what, f"not in {PATIENCE} seconds; the screen is\n{self.screen.text()}"
+                )
             self.looks(0.01)
 
     def sees(self, text):
@@ -174,10 +198,14 @@ class Operator:
     def has_status(self, *words):
         """The status row has these words alone, in this order."""
         wanted = " ".join(words)
-        self.until(f"a status row has {wanted!r}", lambda screen: " ".join(screen.line(screen.rows - 1).split()) == wanted)
+        self.until(
+            f"a status row has {wanted!r}",
+            lambda screen: " ".join(screen.line(screen.rows - 1).split()) == wanted,
+        )
 
     def ends(self, status, *lines):
-        """The program has ended with this status, the tty is as before, and these are the lines on it."""
+        """The program has ended with this status, the tty is as before, and these are the lines on
+        it."""
         end = time.monotonic() + PATIENCE
         while self.process.poll() is None and time.monotonic() < end:
             self.looks(0.01)
@@ -190,9 +218,12 @@ class Operator:
 
     def program(self):
         """The process of the program, a child of the script's."""
-        children = pathlib.Path(f"/proc/{self.process.pid}/task/{self.process.pid}/children").read_text().split()
+        process = self.process.pid
+        children = pathlib.Path(f"/proc/{process}/task/{process}/children").read_text().split()
         for child in children:
-            if "operate" in pathlib.Path(f"/proc/{child}/cmdline").read_bytes().decode().split("\0"):
+            if "operate" in pathlib.Path(f"/proc/{child}/cmdline").read_bytes().decode().split(
+                "\0"
+            ):
                 return int(child)
         raise Difference("the script runs the program", "it has no such child")
 

@@ -1,8 +1,10 @@
 """Clients that say the bytes that a terminal sends which doesn't wait for the host.
 
-After a key that sends, a 3278 refuses all keys until the host has written. x3270 and its like have a Reset that ends this wait: then fields
-can be changed, and keys be pressed, before the host's write is there. The host must show its panels all the same: of an input field a paint
-takes nothing for granted, and a key that comes while the host works is dropped. The bytes are spelt by GA23-0059 and RFC 1647."""
+After a key that sends, a 3278 refuses all keys until the host has written. x3270 and its like have
+a Reset that ends this wait: then fields can be changed, and keys be pressed, before the host's
+write is there. The host must show its panels all the same: of an input field a paint takes nothing
+for granted, and a key that comes while the host works is dropped. The bytes are spelt by GA23-0059
+and RFC 1647."""
 import contextlib
 import re
 
@@ -16,13 +18,21 @@ cases = check.cases
 SOON = 5
 
 EOR = b"\xff\xef"
-# Attributes are at 0, 160, 166, 175, 240, 246, 251 and 1840: USER has its field at 167 to 174, DEPT at 247 to 250.
+# Attributes are at 0, 160, 166, 175, 240, 246, 251 and 1840: USER has its field at 167 to 174, DEPT
+# at 247 to 250.
 SIGN_ON = b"""start = "SIGNON"
 lus = ["PNL01"]
 [[panel]]
 name = "SIGNON"
-text = [{row = 1, col = 2, text = "SIGN ON"}, {row = 3, col = 2, text = "USER"}, {row = 4, col = 2, text = "DEPT"}]
-field = [{name = "user", row = 3, col = 8, length = 8, required = true}, {name = "dept", row = 4, col = 8, length = 4}]
+text = [
+    {row = 1, col = 2, text = "SIGN ON"},
+    {row = 3, col = 2, text = "USER"},
+    {row = 4, col = 2, text = "DEPT"},
+]
+field = [
+    {name = "user", row = 3, col = 8, length = 8, required = true},
+    {name = "dept", row = 4, col = 8, length = 4},
+]
 keys = {enter = "HELLO"}
 [[panel]]
 name = "HELLO"
@@ -35,7 +45,9 @@ ASKING = SIGN_ON.replace(b'keys = {enter = "HELLO"}', b'asks = ["enter", "pa1"]'
 
 def spelt(text):
     """Bytes in hexadecimal; 00*5 are five of them."""
-    return b"".join(bytes.fromhex(it.partition("*")[0]) * int(it.partition("*")[2] or 1) for it in text.split())
+    return b"".join(
+        bytes.fromhex(it.partition("*")[0]) * int(it.partition("*")[2] or 1) for it in text.split()
+    )
 
 
 # SIGN ON behind an Erase/Write.
@@ -43,24 +55,36 @@ SIGN_ON_CELLS = (
     "11 40 40 1D F0 E2 C9 C7 D5 40 D6 D5 11 C2 60 1D F0 E4 E2 C5 D9 11 C2 E6 1D 40 11 C2 6F 1D F0"
     " 11 C3 F0 1D F0 C4 C5 D7 E3 11 C3 F6 1D 40 11 C3 7B 1D F0 11 5C F0 1D F8 11 C2 E7 13"
 )
-# HELLO written over SIGN ON after Enter with an A in `user`. From 1 on HELLO, a null and an attribute, and the A; nulls where texts and
-# their attributes were; and nulls in each cell of the input fields, at 166 to 175 and 246 to 251: none of these is taken for granted.
-HELLO_OVER_SIGN_ON = "F1 C3 11 40 C1 C8 C5 D3 D3 D6 00 1D F0 C1 11 C2 60 00*5 11 C2 E6 00*10 11 C3 F0 00*5 11 C3 F6 00*6"
-# The same of a host that relies on the wait: nothing was returned for `dept`, so that its cells are known to be null.
-RELYING = "F1 C3 11 40 C1 C8 C5 D3 D3 D6 00 1D F0 C1 11 C2 60 00*5 11 C2 E6 00*10 11 C3 F0 00*5 11 C3 F6 00 11 C3 7B 00"
+# HELLO written over SIGN ON after Enter with an A in `user`. From 1 on HELLO, a null and an
+# attribute, and the A; nulls where texts and their attributes were; and nulls in each cell of the
+# input fields, at 166 to 175 and 246 to 251: none of these is taken for granted.
+HELLO_OVER_SIGN_ON = (
+    "F1 C3 11 40 C1 C8 C5 D3 D3 D6 00 1D F0 C1 11 C2 60 00*5"
+    " 11 C2 E6 00*10 11 C3 F0 00*5 11 C3 F6 00*6"
+)
+# The same of a host that relies on the wait: nothing was returned for `dept`, so that its cells are
+# known to be null.
+RELYING = (
+    "F1 C3 11 40 C1 C8 C5 D3 D3 D6 00 1D F0 C1 11 C2 60 00*5"
+    " 11 C2 E6 00*10 11 C3 F0 00*5 11 C3 F6 00 11 C3 7B 00"
+)
 TO_ORIGIN, NO_MESSAGE = " 11 40 40 13", " 11 5C F1 00*14"
 # SIGN ON over HELLO, which has no input field: what differs.
 SIGN_ON_OVER_HELLO = (
-    "F1 C3 11 40 C1 E2 C9 C7 D5 40 D6 D5 00 11 C2 60 1D F0 E4 E2 C5 D9 11 C2 E6 1D 40 11 C2 6F 1D F0"
+    "F1 C3 11 40 C1 E2 C9 C7 D5 40 D6 D5 00"
+    " 11 C2 60 1D F0 E4 E2 C5 D9 11 C2 E6 1D 40 11 C2 6F 1D F0"
     " 11 C3 F0 1D F0 C4 C5 D7 E3 11 C3 F6 1D 40 11 C3 7B 1D F0 11 C2 E7 13"
 )
-# The messages of 14 characters, and the write that shows one on SIGN ON, whose fields are kept: the cursor is at 167.
-REQUIRED_USER, KEY_NOT_ACTIVE = "D9 C5 D8 E4 C9 D9 C5 C4 7A 40 A4 A2 85 99", "D2 C5 E8 40 D5 D6 E3 40 C1 C3 E3 C9 E5 C5"
+# The messages of 14 characters, and the write that shows one on SIGN ON, whose fields are kept: the
+# cursor is at 167.
+REQUIRED_USER = "D9 C5 D8 E4 C9 D9 C5 C4 7A 40 A4 A2 85 99"
+KEY_NOT_ACTIVE = "D2 C5 E8 40 D5 D6 E3 40 C1 C3 E3 C9 E5 C5"
 TOLD = "F1 C2 11 5C F1 {} 11 C2 E7 13"
 READ_BUFFER = "F2"
 # What keys send: the AID and, but for PA1 and Clear, the cursor, and each field with MDT on.
 ENTER, ENTER_A, PF3, PA1, CLEAR = "7D C2 E7", "7D C2 E8 11 C2 E7 C1", "F3 40 40", "6C", "6D"
-# Keys that may be pressed in the wait, when a B has been typed behind the A, by the names that the log has for them.
+# Keys that may be pressed in the wait, when a B has been typed behind the A, by the names that the
+# log has for them.
 SECOND_KEYS = {"enter": "7D C2 E9 11 C2 E7 C1 C2", "pf3": "F3 C2 E9 11 C2 E7 C1 C2", "pa1": PA1}
 
 
@@ -87,7 +111,8 @@ class Waitless(hosts.Client):
     def record(self, text):
         """3270-DATA with this behind its number, which the next record follows."""
         self.data += 1
-        return b"\x00\x00\x00" + (self.data - 1).to_bytes(2, "big") + spelt(text).replace(b"\xff", b"\xff\xff") + EOR
+        header = b"\x00\x00\x00" + (self.data - 1).to_bytes(2, "big")
+        return header + spelt(text).replace(b"\xff", b"\xff\xff") + EOR
 
     def sends(self, *texts):
         """All records in one piece."""
@@ -109,7 +134,8 @@ class Waitless(hosts.Client):
 
 @contextlib.contextmanager
 def at_the_sign_on(*words, text=SIGN_ON, closed=(), dropped=()):
-    """A client that was shown SIGN ON by `serve` with these words. At the end the log has its LU, this cause of a close, and these dropped keys."""
+    """A client that was shown SIGN ON by `serve` with these words. At the end the log has its LU,
+    this cause of a close, and these dropped keys."""
     with hosts.Server("serve", *words, text=text) as host:
         client = Waitless(host.port)
         client.is_asked()
@@ -119,7 +145,12 @@ def at_the_sign_on(*words, text=SIGN_ON, closed=(), dropped=()):
         client.hears(hosts.FUNCTIONS_IS)
         client.is_shown("F5 C3 " + SIGN_ON_CELLS)
         yield client
-        events = ["connected", "bound lu=PNL01", *(f"key-dropped key={it}" for it in dropped), *(f"closed cause={it}" for it in closed)]
+        events = [
+            "connected",
+            "bound lu=PNL01",
+            *(f"key-dropped key={it}" for it in dropped),
+            *(f"closed cause={it}" for it in closed),
+        ]
         with contextlib.suppress(Difference):
             hosts.until("its log", lambda: len(logged(host)) >= len(events))
         expect("what the host logs", logged(host), events)
@@ -138,15 +169,23 @@ def goes_on(client, shown=HELLO_OVER_SIGN_ON + TO_ORIGIN):
 
 
 def screen_read(aid, user, dept="00*4", message="00*14"):
-    """What answers Read Buffer while SIGN ON is shown, with the cursor at 168: each cell, a field's attribute with MDT if it has a text."""
-    user, dept = (f"1D {'C1' if spelt(it).strip(bytes(1)) else '40'} {it} 1D F0" for it in (user, dept))
-    texts = "1D F0 E2 C9 C7 D5 40 D6 D5 00*152 1D F0 E4 E2 C5 D9 00", "00*64 1D F0 C4 C5 D7 E3 00", f"00*1588 1D F8 {message} 00*65"
+    """What answers Read Buffer while SIGN ON is shown, with the cursor at 168: each cell, a field's
+    attribute with MDT if it has a text."""
+    user, dept = (
+        f"1D {'C1' if spelt(it).strip(bytes(1)) else '40'} {it} 1D F0" for it in (user, dept)
+    )
+    texts = (
+        "1D F0 E2 C9 C7 D5 40 D6 D5 00*152 1D F0 E4 E2 C5 D9 00",
+        "00*64 1D F0 C4 C5 D7 E3 00",
+        f"00*1588 1D F8 {message} 00*65",
+    )
     return f"{aid} C2 E8 {texts[0]} {user} {texts[1]} {dept} {texts[2]}"
 
 
 @check
 def what_is_typed_in_the_wait_is_written_over():
-    """Of a field that wasn't returned each cell is written too, since something may have been typed there in the wait."""
+    """Of a field that wasn't returned each cell is written too, since something may have been typed
+    there in the wait."""
     with at_the_sign_on() as client:
         client.sends(ENTER_A)
         goes_on(client)
@@ -199,7 +238,8 @@ def a_key_while_a_write_is_pending_is_dropped():
 
 @check
 def a_key_while_a_read_is_pending_is_dropped():
-    """The read's answer is still awaited. It has the second key's AID, but the host answers the first key, PA1."""
+    """The read's answer is still awaited. It has the second key's AID, but the host answers the
+    first key, PA1."""
     for name, second in SECOND_KEYS.items():
         with at_the_sign_on(dropped=[name]) as client:
             client.sends(PA1)
@@ -233,7 +273,11 @@ def dropped_keys_are_counted():
         client.sends(ENTER_A, *SECOND_KEYS.values())
         goes_on(client)
         page = hosts.scraped(port, hosts.GET).decode().splitlines()
-        expect("the metric", [it for it in page if it.startswith("panel3270_dropped_keys")], ["panel3270_dropped_keys_total 3"])
+        expect(
+            "the metric",
+            [it for it in page if it.startswith("panel3270_dropped_keys")],
+            ["panel3270_dropped_keys_total 3"],
+        )
 
 
 def an_application():
@@ -244,7 +288,8 @@ def an_application():
 
 @check
 def a_question_has_the_first_key_and_what_was_read():
-    """Behind PA1 a second key is dropped, whose AID the screen has that is read: asked is PA1, with the texts and the cursor of that screen."""
+    """Behind PA1 a second key is dropped, whose AID the screen has that is read: asked is PA1, with
+    the texts and the cursor of that screen."""
     application = an_application()
     with at_the_sign_on("--application", application.url, text=ASKING, dropped=["enter"]) as client:
         client.sends(PA1)
@@ -252,15 +297,23 @@ def a_question_has_the_first_key_and_what_was_read():
         client.sends(SECOND_KEYS["enter"], screen_read("7D", "C1 C2 00*6", dept="E7 00*3"))
         exchange = application.takes()
         asked = {it: exchange.asked[it] for it in ("key", "cursor", "fields")}
-        expect("the question", asked, {"key": "pa1", "cursor": {"row": 3, "col": 9}, "fields": {"user": "AB", "dept": "X"}})
+        expect(
+            "the question",
+            asked,
+            {"key": "pa1", "cursor": {"row": 3, "col": 9}, "fields": {"user": "AB", "dept": "X"}},
+        )
         exchange.sends({"panel": "HELLO"})
         # Without a reset of MDT, as each answer is shown, and with AB.
-        client.is_shown(HELLO_OVER_SIGN_ON.replace("F1 C3", "F1 C2").replace("1D F0 C1", "1D F0 C1 C2") + TO_ORIGIN)
+        client.is_shown(
+            HELLO_OVER_SIGN_ON.replace("F1 C3", "F1 C2").replace("1D F0 C1", "1D F0 C1 C2")
+            + TO_ORIGIN
+        )
 
 
 @check
 def a_field_is_written_with_its_mdt():
-    """An answer that fills `user` has the panel written without a reset: each field's attribute is written too, as MDT may be on or off."""
+    """An answer that fills `user` has the panel written without a reset: each field's attribute is
+    written too, as MDT may be on or off."""
     application = an_application()
     with at_the_sign_on("--application", application.url, text=ASKING) as client:
         client.sends(ENTER_A)
@@ -270,17 +323,24 @@ def a_field_is_written_with_its_mdt():
 
 @check
 def clear_in_the_hosts_turn_erases():
-    """The host answers the key before it, and takes nothing of the screen for granted: HELLO behind an Erase/Write, which leaves nulls."""
+    """The host answers the key before it, and takes nothing of the screen for granted: HELLO behind
+    an Erase/Write, which leaves nulls."""
     with at_the_sign_on(dropped=["clear"]) as client:
         client.sends(ENTER_A, CLEAR)
-        goes_on(client, "F5 C3 11 40 40 1D F0 C8 C5 D3 D3 D6 11 40 C7 1D F0 C1 11 5C F0 1D F8" + TO_ORIGIN)
+        goes_on(
+            client,
+            "F5 C3 11 40 40 1D F0 C8 C5 D3 D3 D6 11 40 C7 1D F0 C1 11 5C F0 1D F8" + TO_ORIGIN,
+        )
 
 
 @check
 def what_no_key_in_the_wait_sends_still_closes():
-    """Clear leaves no attributes, and AID 60 is no key's: with a write or a read pending the host closes, by cause 7."""
+    """Clear leaves no attributes, and AID 60 is no key's: with a write or a read pending the host
+    closes, by cause 7."""
     for text in (CLEAR, "60 C2 E8 11 C2 E7 C1"):
-        for first, command, response in ((ENTER_A, HELLO_OVER_SIGN_ON + TO_ORIGIN, 2), (PA1, READ_BUFFER, 1)):
+        for first, command, response in (
+            (ENTER_A, HELLO_OVER_SIGN_ON + TO_ORIGIN, 2), (PA1, READ_BUFFER, 1)
+        ):
             with at_the_sign_on(closed=["BadInbound number=7"]) as client:
                 client.sends(first)
                 client.is_sent(command, response)
@@ -290,7 +350,8 @@ def what_no_key_in_the_wait_sends_still_closes():
 
 @check
 def own_terminals_are_relied_on():
-    """With --own-terminals the host writes what it doesn't know alone, and a second key closes, as before."""
+    """With --own-terminals the host writes what it doesn't know alone, and a second key closes, as
+    before."""
     with at_the_sign_on("--own-terminals") as client:
         client.sends(ENTER_A)
         goes_on(client, RELYING + TO_ORIGIN)

@@ -20,24 +20,44 @@ NOT_AVAILABLE, ERROR = "APPLICATION NOT AVAILABLE", "APPLICATION ERROR"
 
 @check
 def an_application_is_told_what_is_seen_and_decides():
-    """The request has each key; the answer's panel, texts, message and cursor are shown; and another key leads by itself."""
+    """The request has each key; the answer's panel, texts, message and cursor are shown; and
+    another key leads by itself."""
     with a_host() as (host, application, first, second):
         first.presses("enter", "LOGAN", "KEY")
         second.works()
         exchange = application.takes()
         expect("its first line", exchange.head.split(b"\r\n")[0], b"POST /bank?branch=7 HTTP/1.1")
-        asked = {"session": host.session(0), "turn": 1, "lu": "PNL01", "panel": "WORD", "key": "enter", "cursor": {"row": 3, "col": 9}}
-        expect("its request", exchange.asked, {**asked, "fields": {"word": "LOGAN", "secret": "KEY"}})
-        exchange.sends({"panel": "MENU", "fields": {"choice": "42"}, "message": "WELCOME", "cursor": "choice"})
+        asked = {
+            "session": host.session(0),
+            "turn": 1,
+            "lu": "PNL01",
+            "panel": "WORD",
+            "key": "enter",
+            "cursor": {"row": 3, "col": 9},
+        }
+        expect(
+            "its request", exchange.asked, {**asked, "fields": {"word": "LOGAN", "secret": "KEY"}}
+        )
+        exchange.sends(
+            {"panel": "MENU", "fields": {"choice": "42"}, "message": "WELCOME", "cursor": "choice"}
+        )
         answered = first.sees("SECOND PANEL", "42", "WELCOME")
         exchange.is_closed()
         first.presses("pf3")
         fresh = first.sees("FIRST PANEL")
         # Behind the header: Write, and a WCC that restores; that of a fresh panel resets MDT, too.
-        expect("two commands", [it.encode("cp037")[5:7].hex(" ") for it in (answered, fresh)], ["f1 c2", "f1 c3"])
+        expect(
+            "two commands",
+            [it.encode("cp037")[5:7].hex(" ") for it in (answered, fresh)],
+            ["f1 c2", "f1 c3"],
+        )
         second.presses("pf1")
         exchange = application.takes()
-        expect("who asks", [exchange.asked[it] for it in ("session", "lu", "key")], [host.session(1), "PNL02", "pf1"])
+        expect(
+            "who asks",
+            [exchange.asked[it] for it in ("session", "lu", "key")],
+            [host.session(1), "PNL02", "pf1"],
+        )
         exchange.sends({})
         second.sees()
         application.has_no_other()
@@ -58,7 +78,11 @@ def a_failure_is_told_and_the_key_asks_again(content, status, message, event, ra
         first.sees(message)
         host.has_said(event)
         second.works()
-        expect("a hidden text in its log", "HIDDEN" in host.logged() or "SESAME" in host.logged(), False)
+        expect(
+            "a hidden text in its log",
+            "HIDDEN" in host.logged() or "SESAME" in host.logged(),
+            False,
+        )
         first.presses("enter", "LOGAN", "HIDDEN")
         application.takes().sends({"message": "ONCE MORE"})
         first.sees("ONCE MORE")
@@ -66,7 +90,8 @@ def a_failure_is_told_and_the_key_asks_again(content, status, message, event, ra
 
 @check
 def each_wrong_reply_is_an_error():
-    """Each reply that says nothing that the host can do is APPLICATION ERROR, and the log says what was wrong."""
+    """Each reply that says nothing that the host can do is APPLICATION ERROR, and the log says what
+    was wrong."""
     long = b"HTTP/1.1 200 OK\r\n\r\n" + b" " * (1 << 16)
     for content, status, event in (
         ({}, "500 Oh", "status status=500"),
@@ -85,7 +110,9 @@ def each_wrong_reply_is_an_error():
         ({"panel": 1}, "200 OK", 'not-text key="panel"'),
         ({'o"\n': 1}, "200 OK", 'unknown-key key="o??"'),
     ):
-        a_failure_is_told_and_the_key_asks_again(content, status, ERROR, f"application-error reason={event}")
+        a_failure_is_told_and_the_key_asks_again(
+            content, status, ERROR, f"application-error reason={event}"
+        )
     for content, event in (
         (b"SSH-2.0-x\r\n", "not-http"),
         (long, "too-long"),
@@ -93,12 +120,15 @@ def each_wrong_reply_is_an_error():
         (b"HTTP/1.1 200 OK\r\nTransfer-Encoding: chunked\r\n\r\nzz\r\n", "bad-chunks"),
         (b"HTTP/1.1 200 OK\r\n" + b"A: b\r\n" * 65 + b"\r\n", "too-many-fields"),
     ):
-        a_failure_is_told_and_the_key_asks_again(content, "", ERROR, f"application-error reason={event}", raw=True)
+        a_failure_is_told_and_the_key_asks_again(
+            content, "", ERROR, f"application-error reason={event}", raw=True
+        )
 
 
 @check
 def a_reply_that_breaks_off_is_no_application():
-    """A connection that is closed before the reply's end, or that fails, is APPLICATION NOT AVAILABLE."""
+    """A connection that is closed before the reply's end, or that fails, is APPLICATION NOT
+    AVAILABLE."""
     for content in (b"", b"HTTP/1.1 200", reply({"message": "X"})[:-1]):
         event = "application-not-available reason=broken"
         a_failure_is_told_and_the_key_asks_again(content, "", NOT_AVAILABLE, event, raw=True)
@@ -124,7 +154,8 @@ def where_nothing_listens_the_operator_is_told():
 
 @check
 def an_application_that_never_answers_is_not_available():
-    """Its time is over after the limit and not before, whether it sends nothing or byte by byte; the others are served meanwhile."""
+    """Its time is over after the limit and not before, whether it sends nothing or byte by byte;
+    the others are served meanwhile."""
     for sent in (b"", reply({"message": "SLOW"})[:-1]):
         with a_host() as (host, application, first, second):
             first.presses("enter")
@@ -146,7 +177,8 @@ def an_application_that_never_answers_is_not_available():
 
 @check
 def an_operator_who_waits_for_the_application_is_not_idle():
-    """An application may take longer than the limit for idle clients; who then presses no key is dropped after the limit."""
+    """An application may take longer than the limit for idle clients; who then presses no key is
+    dropped after the limit."""
     application = Application()
     with Host(application.url, "--idle", "1", seconds=10) as host:
         first, second = host.operators()
@@ -164,11 +196,16 @@ def an_operator_who_waits_for_the_application_is_not_idle():
 
 @check
 def a_reply_may_come_byte_by_byte():
-    """It is read however it comes, with its length, in chunks, or up to the end of the connection."""
+    """It is read however it comes, with its length, in chunks, or up to the end of the
+    connection."""
     content = b'{"message": "SLOWLY"}'
     chunked = b"".join(b"%x\r\n%s\r\n" % (len(it), it) for it in (content[:5], content[5:], b""))
     head = b"HTTP/1.1 200 OK\r\n"
-    for sent in (reply(content), head + b"Transfer-Encoding: chunked\r\n\r\n" + chunked, head + b"\r\n" + content):
+    for sent in (
+        reply(content),
+        head + b"Transfer-Encoding: chunked\r\n\r\n" + chunked,
+        head + b"\r\n" + content,
+    ):
         with a_host() as (_, application, first, second):
             first.presses("enter")
             exchange = application.takes()
@@ -231,7 +268,11 @@ def a_reply_to_one_who_left_is_dropped():
         second.works()
         third.presses("enter")
         late = application.takes()
-        expect("its session", (late.asked["session"], late.asked["session"][16:]), (host.session(0), "-2"))
+        expect(
+            "its session",
+            (late.asked["session"], late.asked["session"][16:]),
+            (host.session(0), "-2"),
+        )
         expect("its fields", late.asked["fields"], {"word": "", "secret": ""})
         late.sends({"message": "MINE"})
         expect("the late reply", "LATE" in third.sees("MINE"), False)
@@ -239,10 +280,13 @@ def a_reply_to_one_who_left_is_dropped():
 
 @check
 def a_long_text_is_cut():
-    """A text longer than its field is cut, as is a message longer than the row; characters beyond ASCII are shown."""
+    """A text longer than its field is cut, as is a message longer than the row; characters beyond
+    ASCII are shown."""
     with a_host() as (_, application, first, second):
         first.presses("enter")
-        application.takes().sends({"fields": {"word": "ABCDEFGHIJ" * 1000}, "message": "\u00e4" * 500})
+        application.takes().sends(
+            {"fields": {"word": "ABCDEFGHIJ" * 1000}, "message": "\u00e4" * 500}
+        )
         shown = first.sees("ABCDEFGH", "\u00e4" * 79)
         expect("a text beyond its field", "ABCDEFGHI" in shown or "\u00e4" * 80 in shown, False)
         second.works()
@@ -255,7 +299,8 @@ def a_long_text_is_cut():
 
 @check
 def characters_that_code_page_037_lacks_are_shown_plainly():
-    """Each is replaced, in the message and in fields; the log has one line for the reply, without its text."""
+    """Each is replaced, in the message and in fields; the log has one line for the reply, without
+    its text."""
     with a_host(OWN) as (host, application, first, second):
 
         def shows(content, *texts):
@@ -280,32 +325,46 @@ def characters_that_code_page_037_lacks_are_shown_plainly():
         shows({"fields": {"word": "\u2019\u2014\u2026\u0153", "secret": "SESAME"}}, "'-...oe")
         host.has_said('application-replaced key="word" characters=4')
         for message, key, count in (("", "secret", 2), ("\u201c", "message", 3)):
-            shows({"message": message, "fields": {"word": "\u2014", "secret": "OPEN\u20ac"}}, "OPEN?")
+            shows(
+                {"message": message, "fields": {"word": "\u2014", "secret": "OPEN\u20ac"}}, "OPEN?"
+            )
             host.has_said(f'application-replaced key="{key}" characters={count}')
-        shows({"message": "\u00e9\u00a0\u00ab", "fields": {"word": "\u00df"}}, "\u00e9\u00a0\u00ab", "\u00df")
+        shows(
+            {"message": "\u00e9\u00a0\u00ab", "fields": {"word": "\u00df"}},
+            "\u00e9\u00a0\u00ab",
+            "\u00df",
+        )
         expect("its lines of replaced characters", host.logged().count("application-replaced"), 10)
-        expect("a hidden text in its log", "SESAME" in host.logged() or "OPEN" in host.logged(), False)
+        expect(
+            "a hidden text in its log", "SESAME" in host.logged() or "OPEN" in host.logged(), False
+        )
 
 
 @check
 def a_wide_panel_is_answered_alike_for_all_terminals():
-    """Its fields are those of the reply's cursor, and keep their texts while its `otherwise` is shown, whose fields don't."""
+    """Its fields are those of the reply's cursor, and keep their texts while its `otherwise` is
+    shown, whose fields don't."""
     with a_host() as (host, application, first, second):
         first.presses("enter", "LOGAN")
-        application.takes().sends({"panel": "WIDE", "fields": {"seat": "17A", "choice": "42"}, "cursor": "seat"})
+        application.takes().sends(
+            {"panel": "WIDE", "fields": {"seat": "17A", "choice": "42"}, "cursor": "seat"}
+        )
         first.sees("SECOND PANEL", "42", "17A")
         first.presses("pf3")
         first.sees("FIRST PANEL")
         first.presses("enter", "LOGAN")
         application.takes().sends({"panel": "WIDE"})
-        expect("a text of the panel that is shown", "42" in first.sees("SECOND PANEL", "17A"), False)
+        expect(
+            "a text of the panel that is shown", "42" in first.sees("SECOND PANEL", "17A"), False
+        )
         second.works()
         expect("a fault in its log", "application-error" in host.logged(), False)
 
 
 @check
 def all_operators_are_asked_for_at_once():
-    """64 operators wait at once, each with one exchange, and each gets the answer to its own question."""
+    """64 operators wait at once, each with one exchange, and each gets the answer to its own
+    question."""
     lus = [f"LU{number:02}" for number in range(hosts.MOST_CONNECTIONS)]
     application = Application()
     with Server64(application.url, lus) as host:
@@ -330,11 +389,14 @@ class Server64(hosts.Server):
 
 @check
 def no_reply_grows_the_memory_of_the_host():
-    """The host's memory doesn't grow by replies of seven kinds, by one that never comes, nor by operators who leave."""
+    """The host's memory doesn't grow by replies of seven kinds, by one that never comes, nor by
+    operators who leave."""
     long = b'{"message": "X"}'.ljust(60000)
     wide = reply({"fields": {"word": "A" * 50000}})
     two = reply({"message": "ONE"}) + reply({"message": "TWO"})
-    kinds = (reply({}), reply(long), reply(b"{"), wide, b"HTTP/1.1 200", reply(b"{}".ljust(65537)), two)
+    kinds = (
+        reply({}), reply(long), reply(b"{"), wide, b"HTTP/1.1 200", reply(b"{}".ljust(65537)), two
+    )
     with a_host(OWN) as (host, application, first, second):
         status = pathlib.Path(f"/proc/{host.process.pid}/status")
         sizes, left = [], 0
@@ -355,7 +417,10 @@ def no_reply_grows_the_memory_of_the_host():
                 late = application.takes()
                 second.leaves()
                 left += 1
-                hosts.until("the host drops a reply", lambda: host.logged().count("application-reply-dropped") == left)
+                hosts.until(
+                    "the host drops a reply",
+                    lambda: host.logged().count("application-reply-dropped") == left,
+                )
                 late.sends({"message": "LATE"})
                 second = Operator(host.port).signs_on("PNL02")
             sizes.append(int(re.search(r"VmRSS:\s+(\d+) kB", status.read_text())[1]))
@@ -365,27 +430,49 @@ def no_reply_grows_the_memory_of_the_host():
 
 @check
 def without_an_application_panels_that_ask_are_refused():
-    """serve and host name the first panel that asks, and its first key, Enter before PA keys and PF keys, and don't listen."""
+    """serve and host name the first panel that asks, and its first key, Enter before PA keys and PF
+    keys, and don't listen."""
     first = PANELS.replace(b'["enter", "pf1", "pa1"]', b'["pf12", "pf9", "pa3"]')
-    second = PANELS.replace(b'asks = ["enter", "pf1", "pa1"]\n', b"").replace(b'name = "MENU"\n', b'name = "MENU"\nasks = ["pf24"]\n')
-    for text, panel, key in ((PANELS, "WORD", "enter"), (first, "WORD", "pa3"), (second, "MENU", "pf24")):
+    second = PANELS.replace(b'asks = ["enter", "pf1", "pa1"]\n', b"").replace(
+        b'name = "MENU"\n', b'name = "MENU"\nasks = ["pf24"]\n'
+    )
+    for text, panel, key in (
+        (PANELS, "WORD", "enter"), (first, "WORD", "pa3"), (second, "MENU", "pf24")
+    ):
         asks = f"panel {panel} asks the application about {key}"
-        for words, advice in ((["serve"], "give --application URL"), (["host"], "host has no application: use serve --application URL")):
+        for words, advice in (
+            (["serve"], "give --application URL"),
+            (["host"], "host has no application: use serve --application URL"),
+        ):
             with socket.create_server((hosts.LOCALHOST, 0)) as taken:
                 told = hosts.run([*words, "--port", taken.getsockname()[1]], text)
             expect(f"{words[0]} with {key}", told, (2, "", f"{asks}; {advice}\n"))
-    told = hosts.run(["serve", "--listen", "0.0.0.0", "--quiet", "--port", hosts.free_port()], PANELS)
-    expect("a quiet serve", told, (2, "", "panel WORD asks the application about enter; give --application URL\n"))
+    told = hosts.run(
+        ["serve", "--listen", "0.0.0.0", "--quiet", "--port", hosts.free_port()], PANELS
+    )
+    expect(
+        "a quiet serve",
+        told,
+        (2, "", "panel WORD asks the application about enter; give --application URL\n"),
+    )
     for job in ("script", "selfrun"):
-        told = hosts.run([job], PANELS + b"%%\nconnect 0\nsettle\nkey 0 enter\nsettle\nanswer 0 MENU\nsettle\nstatus 0\n")
+        told = hosts.run(
+            [job],
+            PANELS + b"%%\nconnect 0\nsettle\nkey 0 enter\nsettle\n"
+            b"answer 0 MENU\nsettle\nstatus 0\n",
+        )
         expect(job, told, (0, "bound PNL01\n", ""))
 
 
 @check
 def a_url_that_is_none_is_refused():
-    """Another machine, another scheme, a user, a fragment, or no URL at all ends the program, as does a time that is none."""
+    """Another machine, another scheme, a user, a fragment, or no URL at all ends the program, as
+    does a time that is none."""
     for url, why in (
-        ("http://192.0.2.1:80/", "the URL's host is not this machine: localhost, 127.x.x.x or [::1]"),
+        (
+            "http://192.0.2.1:80/",
+            "the URL's host is not this machine: localhost, 127.x.x.x or [::1]",
+        ),
         ("https://127.0.0.1/", "the URL doesn't begin with http://"),
         ("http://me@127.0.0.1/", "the URL has a user name or a password"),
         ("http://127.0.0.1/#here", "the URL has a fragment, behind #"),
@@ -395,5 +482,8 @@ def a_url_that_is_none_is_refused():
         expect(url, told, (2, "", f"--application: {why}\n"))
     for seconds in ("0", "3601", "x"):
         told = hosts.run(["serve", "--port", 5000, "--application-timeout", seconds], PANELS)
-        wanted = f"error: invalid value '{seconds}' for '--application-timeout'\nFor more information, try 'panel3270 help serve'.\n"
+        wanted = (
+            f"error: invalid value '{seconds}' for '--application-timeout'\n"
+            "For more information, try 'panel3270 help serve'.\n"
+        )
         expect(seconds, told, (2, "", wanted))

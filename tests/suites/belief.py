@@ -8,17 +8,20 @@ The steps of a case, which begins with nothing known:
     refuse FAULT FORM BYTES  data is refused
     no-data FAULT FORM BYTES bytes are no inbound data
     size ROWS COLUMNS        something is known of a screen of this size; `size none`: nothing is
-    fact ADDR FACT BYTES     the fact of the field whose attribute is there, and the text that it speaks of, unless that isn't said;
-                             `none`: there is none
+    fact ADDR FACT BYTES     the fact of the field whose attribute is there, and the text that it
+                             speaks of, unless that isn't said; `none`: there is none
     known ADDR CELL          a cell, ? if it isn't known
-    again                    the wanted screen: each known cell with MDT off, nulls elsewhere, and the cursor in the first cell
+    again                    the wanted screen: each known cell with MDT off, nulls elsewhere, and
+                             the cursor in the first cell
     want, put, aim           make the wanted screen as the probe's lines do
-    wanted ADDR BOOL CELL .. the wanted screen has this cursor, resets MDT or not, and has these cells: in one walk, by
+    wanted ADDR BOOL CELL .. the wanted screen has this cursor, resets MDT or not, and has these
+    cells: in one walk, by
                              address, and as the one behind an address, round the end
     fits BOOL                whether what is to be kept is believed to be there
     paints BYTES             these bytes paint the wanted screen
     paints-first BYTES       they begin so
-    appends ROOM BEFORE BYTES  they are appended to a vector with room for so many bytes and these in it
+    appends ROOM BEFORE BYTES  they are appended to a vector with room for so many bytes and these
+                               in it
 """
 from collections.abc import Iterator
 
@@ -29,8 +32,9 @@ from harness.probe import Probe
 
 
 def want_again(token: str) -> str:
-    """What is wanted of a cell that is believed to be this one: itself with MDT off. Bit 7 of an attribute is MDT, and bits 0 and 1 make the
-    code a graphic (GA23-0059-07 on the field attribute)."""
+    """What is wanted of a cell that is believed to be this one: itself with MDT off. Bit 7 of an
+    attribute is MDT, and bits 0 and 1 make the code a graphic (GA23-0059-07 on the field
+    attribute)."""
     graphic = {0x40: 0x40, 0xC1: 0x40}
     if token.startswith("sf:"):
         code = int(token[3:], 16) & ~1

@@ -1,6 +1,8 @@
-"""The codes of the 3270 data stream: the rows of tests/cases/codes.rows, and each value of each table.
+"""The codes of the 3270 data stream: the rows of tests/cases/codes.rows, and each value of each
+table.
 
-What is wanted of each value is computed here from the rules and tables of GA23-0059-07, and of code page 037.
+What is wanted of each value is computed here from the rules and tables of GA23-0059-07, and of code
+page 037.
 """
 from collections.abc import Iterable, Iterator
 
@@ -9,16 +11,31 @@ from harness.probe import Probe
 from harness.tables import rows
 
 # The graphic codes of six-bit values, in their order: the first and the last of each run.
-RUNS = ((0x40, 0x40), (0xC1, 0xC9), (0x4A, 0x4F), (0x50, 0x50), (0xD1, 0xD9), (0x5A, 0x5F), (0x60, 0x61), (0xE2, 0xE9),
-        (0x6A, 0x6F), (0xF0, 0xF9), (0x7A, 0x7F))
+RUNS = (
+    (0x40, 0x40),
+    (0xC1, 0xC9),
+    (0x4A, 0x4F),
+    (0x50, 0x50),
+    (0xD1, 0xD9),
+    (0x5A, 0x5F),
+    (0x60, 0x61),
+    (0xE2, 0xE9),
+    (0x6A, 0x6F),
+    (0xF0, 0xF9),
+    (0x7A, 0x7F),
+)
 GRAPHIC = [code for first, last in RUNS for code in range(first, last + 1)]
 # The rows and columns of each model's alternate size.
 SIZES = {2: (24, 80), 3: (32, 80), 4: (43, 80), 5: (27, 132)}
 CELLS = {model: height * width for model, (height, width) in SIZES.items()}
-PF = dict(enumerate([*range(0xF1, 0xFA), *range(0x7A, 0x7D), *range(0xC1, 0xCA), *range(0x4A, 0x4D)], 1))
+PF = dict(
+    enumerate([*range(0xF1, 0xFA), *range(0x7A, 0x7D), *range(0xC1, 0xCA), *range(0x4A, 0x4D)], 1)
+)
 PA = {1: 0x6C, 2: 0x6E, 3: 0x6B}
 KEYS = {0x60: "NoAid", 0x7D: "Enter", 0x6D: "Clear"}
-KEYS |= {code: f"PF{number}" for number, code in PF.items()} | {code: f"PA{number}" for number, code in PA.items()}
+KEYS |= {code: f"PF{number}" for number, code in PF.items()} | {
+    code: f"PA{number}" for number, code in PA.items()
+}
 DISPLAYS = ("Normal", "Detectable", "Bright", "Hidden")
 # The control codes that a cell can hold; FF is one.
 STORED_CONTROLS = {0x00, 0x0C, 0x0D, 0x15, 0x19, 0x1C, 0x1E, 0x3F, 0xFF}
@@ -46,7 +63,9 @@ def check(wanted: Iterable[tuple[str, str]]) -> None:
     with Probe("codes") as probe:
         for start in range(0, len(pairs), 500):
             part = pairs[start : start + 500]
-            for (command, answer), came in zip(part, probe.ask_each([command for command, _ in part])):
+            for (command, answer), came in zip(
+                part, probe.ask_each([command for command, _ in part])
+            ):
                 same(f"{command} = {answer}", f"{command} = {came[0]}")
 
 
@@ -70,7 +89,11 @@ def each_address_is_written_in_twelve_bits() -> None:
         for model, cells in CELLS.items():
             wanted = [f"{at} {GRAPHIC[at // 64]:02X}{GRAPHIC[at % 64]:02X}" for at in range(cells)]
             same("\n".join(wanted), "\n".join(probe.ask(f"addresses {model}")))
-    check((f"address {model} {at}", "none") for model, cells in CELLS.items() for at in range(cells, 4200))
+    check(
+        (f"address {model} {at}", "none")
+        for model, cells in CELLS.items()
+        for at in range(cells, 4200)
+    )
 
 
 def read_address(high: int, low: int, cells: int) -> str:
@@ -94,23 +117,43 @@ def walks_go_round_the_screen() -> None:
 
     for model, cells in CELLS.items():
         counts = (0, 1, SIZES[model][1], cells - 1, cells)
-        check((f"walk {model} {at} {count}", walk(at, count, cells)) for at in range(cells) for count in counts)
+        check(
+            (f"walk {model} {at} {count}", walk(at, count, cells))
+            for at in range(cells)
+            for count in counts
+        )
 
 
 def attribute(byte: int) -> str:
     display, protected, numeric = DISPLAYS[byte >> 2 & 3], byte & 0x20, byte & 0x10
     without = byte & 0x3C
-    codes = f"{GRAPHIC[without | byte & 1]:02X} {GRAPHIC[without]:02X} {GRAPHIC[without | 1]:02X} {display}"
-    return codes + truths(protected, numeric, protected and numeric, display == "Bright", display == "Hidden", byte & 1)
+    codes = f"{GRAPHIC[without | byte & 1]:02X} {GRAPHIC[without]:02X} {GRAPHIC[without | 1]:02X}"
+    codes += f" {display}"
+    return codes + truths(
+        protected,
+        numeric,
+        protected and numeric,
+        display == "Bright",
+        display == "Hidden",
+        byte & 1,
+    )
 
 
 def each_byte_is_read_as_an_attribute() -> None:
     check(of_bytes("attr", attribute))
-    check(of_bytes("cell", lambda byte: f"{GRAPHIC[byte & 0x3D]:02X}" + truths(False, not byte & 0x20)))
+    check(
+        of_bytes(
+            "cell", lambda byte: f"{GRAPHIC[byte & 0x3D]:02X}" + truths(False, not byte & 0x20)
+        )
+    )
 
 
 def each_byte_is_read_as_a_write_control_character() -> None:
-    check(of_bytes("wcc", lambda byte: f"{GRAPHIC[byte & 7]:02X}" + truths(byte & 4, byte & 2, byte & 1)))
+    check(
+        of_bytes(
+            "wcc", lambda byte: f"{GRAPHIC[byte & 7]:02X}" + truths(byte & 4, byte & 2, byte & 1)
+        )
+    )
 
 
 def key(byte: int) -> str:
@@ -142,8 +185,16 @@ def the_code_page_is_the_published_one() -> None:
 
 def cases() -> Iterator[Case]:
     yield from rows(CASES / "codes.rows", "codes")
-    yield from of_functions((
-        each_six_bit_value_has_its_code, each_address_is_written_in_twelve_bits, each_two_bytes_are_read_as_an_address,
-        walks_go_round_the_screen, each_byte_is_read_as_an_attribute, each_byte_is_read_as_a_write_control_character,
-        each_byte_is_read_as_an_attention_identifier, cells_hold_the_listed_bytes, the_code_page_is_the_published_one,
-    ))
+    yield from of_functions(
+        (
+            each_six_bit_value_has_its_code,
+            each_address_is_written_in_twelve_bits,
+            each_two_bytes_are_read_as_an_address,
+            walks_go_round_the_screen,
+            each_byte_is_read_as_an_attribute,
+            each_byte_is_read_as_a_write_control_character,
+            each_byte_is_read_as_an_attention_identifier,
+            cells_hold_the_listed_bytes,
+            the_code_page_is_the_published_one,
+        )
+    )

@@ -1,12 +1,14 @@
 """Dialogues, byte for byte, with a terminal or with a host: tests/cases/*.dialogues.
 
-A file has headings and lines below them; blank lines, comments (`#`) and blanks around a line are ignored:
+A file has headings and lines below them; blank lines, comments (`#`) and blanks around a line are
+ignored:
 
     terminal-passage NAME    begins a passage, lines for a terminal that `play` repeats
     host-passage NAME        begins such lines for a host
     terminal-dialogue NAME   begins a dialogue with a new terminal
     host-dialogue NAME       begins a dialogue with a new host
-    play NAME                is replaced by the lines of a passage for the same subject, in any of the files
+    play NAME                is replaced by the lines of a passage for the same subject, in any of
+                             the files
 
 `Terminal` and `Host` say which lines a dialogue has. A line fails if what it expects isn't so.
 """
@@ -20,11 +22,16 @@ from harness.probe import Probe
 from harness.sights import cells_of, parts_of, plain, spelt
 
 PARTS = 3
-HEADINGS = {f"{subject}-{kind}": (subject, kind) for subject in ("terminal", "host") for kind in ("passage", "dialogue")}
+HEADINGS = {
+    f"{subject}-{kind}": (subject, kind)
+    for subject in ("terminal", "host")
+    for kind in ("passage", "dialogue")
+}
 
 
 class Subject:
-    """What the lines of a dialogue are for. A line `WORD WORDS` is done by the method of that word, `-` being `_`."""
+    """What the lines of a dialogue are for. A line `WORD WORDS` is done by the method of that word,
+    `-` being `_`."""
 
     def __init__(self, probe: Probe) -> None:
         self.probe = probe
@@ -56,17 +63,23 @@ class Subject:
 class Terminal(Subject):
     """A terminal and its host.
 
-    model M              the terminal is a new one of this model, 2 to 5; it is of model 2 if no line says so
+    model M              the terminal is a new one of this model, 2 to 5; it is of model 2 if no
+                         line says so
     connect [LU]         a connection begins, on which the terminal asks for this LU, if one
     host BYTES           the host sends these; the terminal takes all of them and goes on
-    cut BYTES            the host sends the front of these; the dialogue is held once for each place to cut them at
+    cut BYTES            the host sends the front of these; the dialogue is held once for each place
+                         to cut them at
     rest                 it sends the bytes after the cut
-    offer BYTES          the host sends these; `taken` and `stops` say how far the terminal takes them
+    offer BYTES          the host sends these; `taken` and `stops` say how far the terminal takes
+                         them
     taken N              the terminal took N of them
     stops WHY            going, or closed CAUSE
     says BYTES           the terminal's output is these; they are sent
     silent               the terminal has no output
-    key NAME [OUTCOME]   the key is pressed: done (said of none), sends AID, or refused REFUSAL; one character is its key
+    waiting              what output there is isn't sent, and waits
+    answers BYTES        the output behind what waits is these; they wait, too
+    key NAME [OUTCOME]   the key is pressed: done (said of none), sends AID, or refused REFUSAL; one
+                         character is its key
     type TEXT            the key of each character is pressed, and is done
     lost [BYTES]         the connection is lost before these were sent
     restart              the terminal restarts
@@ -84,6 +97,7 @@ class Terminal(Subject):
     def __init__(self, probe: Probe, holding: int) -> None:
         super().__init__(probe)
         self.cut, self.cuts, self.behind, self.fed = holding, 1, b"", "0 going"
+        self.waits = "out -"
         probe.ask("new 2")
 
     def hear(self, data: bytes) -> None:
@@ -134,9 +148,19 @@ class Terminal(Subject):
         self.none(words)
         self.do_says("")
 
+    def do_waiting(self, words: str) -> None:
+        self.none(words)
+        (self.waits,) = self.ask("out")
+
+    def do_answers(self, words: str) -> None:
+        self.waits = f"{self.waits.removesuffix('-')}{spelt(self.line.data(words))}"
+        self.expect([self.waits], self.ask("out"))
+
     def do_key(self, words: str) -> None:
         name, _, outcome = words.partition(" ")
-        self.expect([outcome or "done"], self.ask(f"type {name}" if len(name) == 1 else f"key {name}"))
+        self.expect(
+            [outcome or "done"], self.ask(f"type {name}" if len(name) == 1 else f"key {name}")
+        )
 
     def do_type(self, words: str) -> None:
         self.expect(["done"] * len(words), self.ask(f"type {words}"))
@@ -185,10 +209,12 @@ class Host(Subject):
     """A host and its clients. C is a connection's number, 0 to 63.
 
     | TEXT                a line of the panel text
-    serve [any]           a new host begins to show the panels of that text, to terminals that wait, or to any
+    serve [any]           a new host begins to show the panels of that text, to terminals that wait,
+                          or to any
     open C                a connection begins
     client C BYTES        its client sends these; the host takes all of them and goes on
-    closes C CAUSE BYTES  its client sends these; at the last the host closes the connection, for this cause
+    closes C CAUSE BYTES  its client sends these; at the last the host closes the connection, for
+                          this cause
     deaf C WHY            the host takes no bytes of this connection: going, or closed CAUSE
     begins C BYTES        the host's output begins with these; they are sent
     says C BYTES          the host's output is these; they are sent
@@ -197,16 +223,20 @@ class Host(Subject):
     note C WHAT TEXT      a note is written: sent, or nothing
     lost C [BYTES]        the connection is lost before these were sent
     restart               the host restarts
-    rejected C WHAT       removes the oldest rejection that wasn't reported yet: [LU] REASON, or none if there is none
-    dropped C AID         removes the oldest dropped key that wasn't reported yet: its AID, or none if there is none
+    rejected C WHAT       removes the oldest rejection that wasn't reported yet: [LU] REASON, or
+                          none if there is none
+    dropped C AID         removes the oldest dropped key that wasn't reported yet: its AID, or none
+                          if there is none
     phase C PHASE         free, talking, bound LU, or closed CAUSE
     model C M             the client's model, 2 to 5, or none before it asked for its type
     turn C WHOSE          host or terminal
     pending C N           the number of the command that waits for its answer, or none
     belief C WHAT         nothing; nulls, if each cell is known to be null, without fields; or more
-    fact C AT FACT BYTES  what is believed of the field whose attribute is there: Exact, ExactOrNulls, Text, TextOrNulls or
-                          Any, and the characters; or none, if no field is believed to be there
-    keep C                remembers all of this, each known cell and field, and what there is to send
+    fact C AT FACT BYTES  what is believed of the field whose attribute is there: Exact,
+                          ExactOrNulls, Text, TextOrNulls or Any, and the characters; or none, if no
+                          field is believed to be there
+    keep C                remembers all of this, each known cell and field, and what there is to
+                          send
     stays C               all of it is as it was then
 
     Each dialogue is held twice: with the bytes of each line in one piece, and byte by byte.
@@ -230,7 +260,10 @@ class Host(Subject):
     def feed(self, conn: str, data: bytes) -> str:
         """Feeds bytes as this holding does. One that comes behind the close isn't taken."""
         size = 1 if self.is_by_byte else len(data) or 1
-        commands = [f"feed {conn} {spelt(data[place : place + size])}" for place in range(0, len(data) or 1, size)]
+        commands = [
+            f"feed {conn} {spelt(data[place : place + size])}"
+            for place in range(0, len(data) or 1, size)
+        ]
         answers = [plain(answer) for (answer,) in self.probe.ask_all(commands, self.line.at)]
         taken = sum(int(answer.partition(" ")[0]) for answer in answers)
         return f"{taken} {answers[-1].partition(' ')[2]}"
@@ -318,8 +351,12 @@ class Host(Subject):
         conn, wanted = self.split(words)
         parts = parts_of(self.ask(f"see {conn}"))
         cells = set(cells_of(parts["belief"]))
-        has_field = any(name.startswith("field ") for name in parts)
-        came = "more" if has_field else "nothing" if cells <= {"??"} else "nulls" if cells == {"00"} else "more"
+        if any(name.startswith("field ") for name in parts):
+            came = "more"
+        elif cells <= {"??"}:
+            came = "nothing"
+        else:
+            came = "nulls" if cells == {"00"} else "more"
         self.expect(wanted, came)
 
     def do_fact(self, words: str) -> None:
@@ -327,7 +364,11 @@ class Host(Subject):
         place, _, rest = rest.partition(" ")
         fact, _, text = rest.partition(" ")
         self.line.number(place, 3563)
-        wanted = "none" if fact == "none" and not text else f"{fact} {self.line.data(text).hex().upper()}"
+        wanted = (
+            "none"
+            if fact == "none" and not text
+            else f"{fact} {self.line.data(text).hex().upper()}"
+        )
         self.expect(wanted, parts_of(self.ask(f"see {conn}")).get(f"field {place}", "none"))
 
     def do_keep(self, words: str) -> None:
@@ -418,7 +459,11 @@ def hold(probe: Callable[[str], Probe], dialogue: Dialogue) -> None:
         try:
             holdings = hold_once(probe(dialogue.subject), dialogue, holding)
         except Difference as found:
-            raise Difference(found.wanted, f"{found.came} (holding {holding})" if holding > 1 else found.came, found.at) from None
+            raise Difference(
+                found.wanted,
+                f"{found.came} (holding {holding})" if holding > 1 else found.came,
+                found.at,
+            ) from None
         holding += 1
 
 

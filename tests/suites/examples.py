@@ -1,4 +1,5 @@
-"""What the documents print of the examples, as harness/documents reads them; and what each examples/NAME.script prints: NAME.screens.
+"""What the documents print of the examples, as harness/documents reads them; and what each
+examples/NAME.script prints: NAME.screens.
 
 Other commands than those of the program are only shown.
 """
@@ -14,7 +15,9 @@ def check_run(at: Place, command: str, behind: list[str]) -> None:
 
 
 def check_script(at: Place, name: str) -> None:
-    same_output(at, (read(f"examples/{name}.screens"), 0), ran(f"{PROGRAM} < examples/{name}.script"))
+    same_output(
+        at, (read(f"examples/{name}.screens"), 0), ran(f"{PROGRAM} < examples/{name}.script")
+    )
 
 
 def cases() -> Iterator[Case]:
@@ -24,4 +27,6 @@ def cases() -> Iterator[Case]:
                 yield Case(command, at, functools.partial(check_run, at, command, behind))
     for script in sorted((TOP / "examples").glob("*.script")):
         at = Place(f"examples/{script.stem}.screens", 1)
-        yield Case(f"the screens of {script.name}", at, functools.partial(check_script, at, script.stem))
+        yield Case(
+            f"the screens of {script.name}", at, functools.partial(check_script, at, script.stem)
+        )

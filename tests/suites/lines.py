@@ -1,11 +1,13 @@
-"""What command lines and lines of scripts ask for: tests/cases/*.commands. A line of a file is a case: a line, in brackets, and its command.
+"""What command lines and lines of scripts ask for: tests/cases/*.commands. A line of a file is a
+case: a line, in brackets, and its command.
 
     words [TEXT] = JOB          the words of a command line
     script [TEXT] = COMMAND     a line of a script
     terminal [TEXT] = COMMAND   a line of a terminal's script
 
-A command is spelt as a script would spell it, with all defaults filled in, and the text of a note in code page 037. An empty line, and one
-that begins with `#`, is for the reader. Some lines have a carriage return on purpose.
+A command is spelt as a script would spell it, with all defaults filled in, and the text of a note
+in code page 037. An empty line, and one that begins with `#`, is for the reader. Some lines have a
+carriage return on purpose.
 """
 import functools
 import re
@@ -16,7 +18,19 @@ from harness.data import Line, lines_of
 from harness.probe import Probe
 
 # In the order of jobs3270's `Topic`.
-TOPICS = ("the program", "script", "show", "selfrun", "check", "host", "serve", "term", "operate", "help", "version")
+TOPICS = (
+    "the program",
+    "script",
+    "show",
+    "selfrun",
+    "check",
+    "host",
+    "serve",
+    "term",
+    "operate",
+    "help",
+    "version",
+)
 FORM = re.compile(r"(words|script|terminal) \[(.*)\] = (.*)", re.DOTALL)
 
 
@@ -43,7 +57,8 @@ def of_file(more: dict[str, str]) -> str:
 
 
 def serve(address: str, port: str, terminals: str, quiet: str, more: dict[str, str]) -> str:
-    text = f"serve at {address} {port}, {more['limits']} seconds{behind(more, 'metrics', ', metrics at {}')}"
+    text = f"serve at {address} {port}, {more['limits']} seconds"
+    text += behind(more, "metrics", ", metrics at {}")
     text += ", own terminals" if terminals == "Waiting" else ""
     text += ", quiet" if quiet == "true" else ""
     text += f", application [{more['url']}] in {more['reply']} seconds" if "url" in more else ""
@@ -54,16 +69,21 @@ def term(port: str, name: str, more: dict[str, str]) -> str:
     return f"term{behind(more, 'lu', ' of {}')} at {port}, {model(name)}"
 
 
+def operate(port: str, name: str, more: dict[str, str]) -> str:
+    size = behind(more, "rows", ", {} rows of ") + more.get("columns", "")
+    return f"operate, {term(port, name, more)}{size}"
+
+
 # The job of a command line, by the first word that the probe answers.
 JOBS: dict[str, Callable[..., str]] = {
-    "script": lambda terminals, more: "script" if terminals == "Waiting" else "script, any terminal",
+    "script": lambda terminals, more: f"script{'' if terminals == 'Waiting' else ', any terminal'}",
     "show": lambda name, more: f"show, {model(name)}",
     "selfrun": lambda turns, more: f"selfrun, {turns} turns",
     "host": lambda port, turns, more: f"host at {port}, {turns} turns",
     "check": lambda more: f"check{of_file(more)}",
     "serve": serve,
     "term": term,
-    "operate": lambda port, name, more: f"operate, {term(port, name, more)}{behind(more, 'rows', ', {} rows of ')}{more.get('columns', '')}",
+    "operate": operate,
     "help": lambda topic, more: f"help of {TOPICS[int(topic)]}",
 }
 

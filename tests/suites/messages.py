@@ -1,4 +1,5 @@
-"""Headers, names and messages of TN3270E: the rows of tests/cases/messages.rows, and each value of what is small.
+"""Headers, names and messages of TN3270E: the rows of tests/cases/messages.rows, and each value of
+what is small.
 
 What is wanted of each value is computed here from RFC 1647, and from our profile's names of LUs.
 """
@@ -10,7 +11,9 @@ from harness.data import lines_of
 from harness.probe import Probe
 from harness.tables import hexadecimal, named, row_of, rows
 
-TYPES = ("Data3270", "ScsData", "Response", "BindImage", "Unbind", "NvtData", "Request", "SscpLuData")
+TYPES = (
+    "Data3270", "ScsData", "Response", "BindImage", "Unbind", "NvtData", "Request", "SscpLuData"
+)
 # The highest RESPONSE-FLAG of the types that haven't each.
 HIGHEST = {0: 2, 2: 1}
 FIRSTS = set((string.ascii_letters + "@#$").encode())
@@ -24,8 +27,12 @@ def check(wanted: Iterable[tuple[str, str]]) -> None:
     with Probe("messages") as probe:
         for start in range(0, len(pairs), 200):
             part = pairs[start : start + 200]
-            for (command, answer), came in zip(part, probe.ask_each([command for command, _ in part])):
-                same(f"{command} = {answer}", f"{command} = {named('; '.join(came))[: len(answer)]}")
+            for (command, answer), came in zip(
+                part, probe.ask_each([command for command, _ in part])
+            ):
+                same(
+                    f"{command} = {answer}", f"{command} = {named('; '.join(came))[: len(answer)]}"
+                )
 
 
 def header(kind: int, flag: int) -> tuple[str, str]:
@@ -34,7 +41,8 @@ def header(kind: int, flag: int) -> tuple[str, str]:
     if flag > HIGHEST.get(kind, 255):
         return f"header {hexadecimal(spelling)}F1", "response flag out of range"
     fields = f"kind: {name}, request: 9, flag: {flag}, seq: {128 * 256 + kind}"
-    return f"header {hexadecimal(spelling)}F1", f"Header {{ {fields} }}; bytes {hexadecimal(spelling)}; body F1"
+    spelt = hexadecimal(spelling)
+    return f"header {spelt}F1", f"Header {{ {fields} }}; bytes {spelt}; body F1"
 
 
 def each_type_takes_its_flags() -> None:
@@ -48,20 +56,31 @@ def each_number_has_its_next() -> None:
 def each_byte_is_a_letter_of_a_name_or_none() -> None:
     def name(text: bytes, is_name: bool) -> tuple[str, str]:
         kept = text.upper()
-        return f"lu {hexadecimal(text)}", f"bytes {hexadecimal(kept)}; {kept.decode()}" if is_name else "none"
+        printed = f"bytes {hexadecimal(kept)}; {kept.decode()}"
+        return f"lu {hexadecimal(text)}", printed if is_name else "none"
 
     check(name(bytes([byte]), byte in FIRSTS) for byte in range(256))
     for length in (1, 7, 8):
-        check(name(b"A" * length + bytes([byte]), byte in LETTERS and length < 8) for byte in range(256))
+        check(
+            name(b"A" * length + bytes([byte]), byte in LETTERS and length < 8)
+            for byte in range(256)
+        )
 
 
 def each_byte_may_be_in_a_text_from_21_to_7e() -> None:
     def request(byte: int) -> str:
-        return f"TypeRequest {{ device: 58{byte:02X}, name: None }}" if 0x21 <= byte <= 0x7E else MALFORMED
+        return (
+            f"TypeRequest {{ device: 58{byte:02X}, name: None }}"
+            if 0x21 <= byte <= 0x7E
+            else MALFORMED
+        )
 
     check((f"sub 28020758{byte:02X}", request(byte)) for byte in range(256))
     named = {True: "TypeIs {{ device: 58, name: {:02X} }}", False: MALFORMED}
-    check((f"sub 2802045801{byte:02X}", named[0x21 <= byte <= 0x7E].format(byte)) for byte in range(256))
+    check(
+        (f"sub 2802045801{byte:02X}", named[0x21 <= byte <= 0x7E].format(byte))
+        for byte in range(256)
+    )
 
 
 def each_option_but_ours_is_dropped() -> None:
@@ -69,13 +88,17 @@ def each_option_but_ours_is_dropped() -> None:
 
 
 def each_other_word_is_malformed() -> None:
-    """SEND, DEVICE-TYPE and FUNCTIONS are followed by what RFC 1647 lists, and nothing else begins a message."""
+    """SEND, DEVICE-TYPE and FUNCTIONS are followed by what RFC 1647 lists, and nothing else begins
+    a message."""
     known = {0x0802: "SendType", 0x0304: "FunIs(-)", 0x0307: "FunRequest(-)"}
     check((f"sub 28{words:04X}", known.get(words, MALFORMED)) for words in range(65536))
 
 
 def where_there_is_room_no_memory_is_taken() -> None:
-    written = [(line, row_of(line)) for line in lines_of(CASES / "messages.rows") if "; bytes FFFA" in line.text]
+    written = [
+        (line, row_of(line))
+        for line in lines_of(CASES / "messages.rows") if "; bytes FFFA" in line.text
+    ]
     same(True, bool(written))
     with Probe("messages") as probe:
         for line, (command, answer) in written:
@@ -88,8 +111,14 @@ def where_there_is_room_no_memory_is_taken() -> None:
 
 def cases() -> Iterator[Case]:
     yield from rows(CASES / "messages.rows", "messages", named)
-    yield from of_functions((
-        each_type_takes_its_flags, each_number_has_its_next, each_byte_is_a_letter_of_a_name_or_none,
-        each_byte_may_be_in_a_text_from_21_to_7e, each_option_but_ours_is_dropped, each_other_word_is_malformed,
-        where_there_is_room_no_memory_is_taken,
-    ))
+    yield from of_functions(
+        (
+            each_type_takes_its_flags,
+            each_number_has_its_next,
+            each_byte_is_a_letter_of_a_name_or_none,
+            each_byte_may_be_in_a_text_from_21_to_7e,
+            each_option_but_ours_is_dropped,
+            each_other_word_is_malformed,
+            where_there_is_room_no_memory_is_taken,
+        )
+    )

@@ -6,48 +6,116 @@ import time
 
 from harness.case import Checks, Difference, expect
 from harness.hosts import (
-    DEVICE_IN_USE, DO, FIRST_WRITE, GET, LOCALHOST, MOST_CONNECTIONS, NOP, PATIENCE, free_port, metered, panels, plain, run,
-    scraped, until,
+    DEVICE_IN_USE,
+    DO,
+    FIRST_WRITE,
+    GET,
+    LOCALHOST,
+    MOST_CONNECTIONS,
+    NOP,
+    PATIENCE,
+    free_port,
+    metered,
+    panels,
+    plain,
+    run,
+    scraped,
+    until,
 )
 
 check = Checks()
 cases = check.cases
 
-CAUSES = ("NoTn3270e", "NoResponses", "BadTalk", "TooMany", "Wire", "BadRecord", "BadInbound", "BadResponse", "Negative")
+CAUSES = (
+    "NoTn3270e",
+    "NoResponses",
+    "BadTalk",
+    "TooMany",
+    "Wire",
+    "BadRecord",
+    "BadInbound",
+    "BadResponse",
+    "Negative",
+)
 REASONS = ("DEVICE-IN-USE", "INV-NAME", "INV-DEVICE-TYPE", "UNSUPPORTED-REQ", "other")
 
 
-def metrics_page(now=0, total=0, closed=(), lost=0, idle=0, no_agreement=0, turned_away=0, rejected=(), dropped=0, turns=0, paints=0, received=0, sent=0, whole=0):
+# The kind of each metric, and what its HELP line says.
+METRICS = {
+    "sessions": ("gauge", "Connections of terminals that are open."),
+    "sessions_total": ("counter", "Connections of terminals that began."),
+    "session_ends_total": (
+        "counter",
+        "Connections of terminals that ended, by what ended them.",
+    ),
+    "turned_away_total": ("counter", "Connections closed at once because no number was free."),
+    "rejections_total": ("counter", "Rejected requests for an LU, by reason."),
+    "dropped_keys_total": (
+        "counter",
+        "Keys that were dropped because the last one wasn't answered yet.",
+    ),
+    "turns_total": ("counter", "Screens sent after the first one of a connection."),
+    "paints_total": ("counter", "Screens sent."),
+    "received_bytes_total": ("counter", "Bytes received from terminals."),
+    "sent_bytes_total": ("counter", "Bytes sent to terminals."),
+    "whole_screen_bytes_total": (
+        "counter",
+        "Bytes of the records of all screens sent, had nothing been known of what the terminals "
+        "showed.",
+    ),
+}
+
+
+def metrics_page(
+    now=0,
+    total=0,
+    closed=(),
+    lost=0,
+    idle=0,
+    no_agreement=0,
+    turned_away=0,
+    rejected=(),
+    dropped=0,
+    turns=0,
+    paints=0,
+    received=0,
+    sent=0,
+    whole=0,
+):
     """The page of these numbers, as Prometheus' text format has it."""
     ends = [(f'{{end="closed",cause="{it}"}}', closed.count(it)) for it in CAUSES]
     ends += [('{end="lost"}', lost), ('{end="idle"}', idle), ('{end="no-agreement"}', no_agreement)]
-    metrics = [
-        ("sessions", "gauge", "Connections of terminals that are open.", [("", now)]),
-        ("sessions_total", "counter", "Connections of terminals that began.", [("", total)]),
-        ("session_ends_total", "counter", "Connections of terminals that ended, by what ended them.", ends),
-        ("turned_away_total", "counter", "Connections closed at once because no number was free.", [("", turned_away)]),
-        ("rejections_total", "counter", "Rejected requests for an LU, by reason.", [(f'{{reason="{it}"}}', rejected.count(it)) for it in REASONS]),
-        ("dropped_keys_total", "counter", "Keys that were dropped because the last one wasn't answered yet.", [("", dropped)]),
-        ("turns_total", "counter", "Screens sent after the first one of a connection.", [("", turns)]),
-        ("paints_total", "counter", "Screens sent.", [("", paints)]),
-        ("received_bytes_total", "counter", "Bytes received from terminals.", [("", received)]),
-        ("sent_bytes_total", "counter", "Bytes sent to terminals.", [("", sent)]),
-        ("whole_screen_bytes_total", "counter", "Bytes of the records of all screens sent, had nothing been known of what the terminals showed.", [("", whole)]),
-    ]
+    numbers = {
+        "session_ends_total": ends,
+        "rejections_total": [(f'{{reason="{it}"}}', rejected.count(it)) for it in REASONS],
+        "sessions": [("", now)],
+        "sessions_total": [("", total)],
+        "turned_away_total": [("", turned_away)],
+        "dropped_keys_total": [("", dropped)],
+        "turns_total": [("", turns)],
+        "paints_total": [("", paints)],
+        "received_bytes_total": [("", received)],
+        "sent_bytes_total": [("", sent)],
+        "whole_screen_bytes_total": [("", whole)],
+    }
     page = ""
-    for name, kind, said, numbers in metrics:
+    for name, (kind, said) in METRICS.items():
         page += f"# HELP panel3270_{name} {said}\n# TYPE panel3270_{name} {kind}\n"
-        page += "".join(f"panel3270_{name}{labels} {number}\n" for labels, number in numbers)
+        page += "".join(f"panel3270_{name}{it} {number}\n" for it, number in numbers[name])
     return page
 
 
 def response(status, body="", allow=""):
-    fields = f"{allow}Content-Type: text/plain; version=0.0.4; charset=utf-8\r\nContent-Length: {len(body)}\r\nConnection: close\r\n\r\n"
+    fields = (
+        f"{allow}Content-Type: text/plain; version=0.0.4; charset=utf-8\r\n"
+        f"Content-Length: {len(body)}\r\nConnection: close\r\n\r\n"
+    )
     return f"HTTP/1.1 {status}\r\n{fields}{body}"
 
 
 def all_read(*clients):
-    """The bytes that clients sent and read, once they read what comes in a twentieth of a second, IAC NOP."""
+    """The bytes that clients sent and read, once they read what comes in a twentieth of a second,
+    IAC NOP."""
     for it in clients:
         while select.select([it.socket], [], [], 0.05)[0] and it.more():
             pass
@@ -63,7 +131,8 @@ def has_counted(host, **numbers):
 
 @check
 def metrics_count_what_happened():
-    """Each connection, end, rejection, screen and byte is counted once; a whole screen has as many bytes as the first one."""
+    """Each connection, end, rejection, screen and byte is counted once; a whole screen has as many
+    bytes as the first one."""
     with metered() as host:
         has_counted(host)
         first = host.client().signs_on("PNL01")
@@ -74,7 +143,9 @@ def metrics_count_what_happened():
         first.enters()
         first.enters()
         whole = 3 * len(FIRST_WRITE)
-        numbers = {"total": 2, "rejected": ("DEVICE-IN-USE",), "turns": 2, "paints": 3, "whole": whole}
+        numbers = {
+            "total": 2, "rejected": ("DEVICE-IN-USE",), "turns": 2, "paints": 3, "whole": whole
+        }
         has_counted(host, now=2, **numbers, **all_read(first, second))
         first.ends()
         second.says(bytes.fromhex("FF FA 28 FF 00"))
@@ -84,14 +155,23 @@ def metrics_count_what_happened():
 
 @check
 def metrics_count_who_is_dropped():
-    """A connection that stalls in its negotiation, one that is idle, and one for which no number is free are counted as such."""
+    """A connection that stalls in its negotiation, one that is idle, and one for which no number is
+    free are counted as such."""
     with metered("--negotiate", "1", "--idle", "2") as host:
         stalled = host.client()
         stalled.hears(DO)
         idle = host.client().signs_on("PNL01")
         stalled.hears_the_end()
         idle.hears_the_end()
-        has_counted(host, total=2, idle=1, no_agreement=1, paints=1, whole=len(FIRST_WRITE), **all_read(stalled, idle))
+        has_counted(
+            host,
+            total=2,
+            idle=1,
+            no_agreement=1,
+            paints=1,
+            whole=len(FIRST_WRITE),
+            **all_read(stalled, idle),
+        )
     with metered() as host:
         many = [host.client() for _ in range(MOST_CONNECTIONS)]
         for it in many:
@@ -103,7 +183,8 @@ def metrics_count_who_is_dropped():
 
 @check
 def each_request_has_its_answer():
-    """GET /metrics is answered with the page, with a query and by HTTP/1.0 too; other paths, methods and bytes by their status."""
+    """GET /metrics is answered with the page, with a query and by HTTP/1.0 too; other paths,
+    methods and bytes by their status."""
     long = b"GET /metrics HTTP/1.1\r\nX: " + b"x" * 4096
     page = response("200 OK", metrics_page())
     answers = [
@@ -114,25 +195,37 @@ def each_request_has_its_answer():
         (response("404 Not Found"), b"GET / HTTP/1.1\r\n\r\n"),
         (response("404 Not Found"), b"GET /metricsx HTTP/1.1\r\n\r\n"),
         (response("404 Not Found"), b"GET /metrics/ HTTP/1.1\r\n\r\n"),
-        (response("405 Method Not Allowed", allow="Allow: GET\r\n"), b"POST /metrics HTTP/1.1\r\nContent-Length: 3\r\n\r\nabc"),
-        (response("405 Method Not Allowed", allow="Allow: GET\r\n"), b"HEAD /metrics HTTP/1.1\r\n\r\n"),
+        (
+            response("405 Method Not Allowed", allow="Allow: GET\r\n"),
+            b"POST /metrics HTTP/1.1\r\nContent-Length: 3\r\n\r\nabc",
+        ),
+        (
+            response("405 Method Not Allowed", allow="Allow: GET\r\n"),
+            b"HEAD /metrics HTTP/1.1\r\n\r\n",
+        ),
         (response("400 Bad Request"), b"\xff\xfb\x28"),
         (response("400 Bad Request"), b"GET /metrics\r\n\r\n"),
         (response("400 Bad Request"), b"GET /metrics HTTP/2.0\r\n\r\n"),
         (response("431 Request Header Fields Too Large"), long),
         (response("431 Request Header Fields Too Large"), long * 20),
-        (response("431 Request Header Fields Too Large"), b"GET /metrics HTTP/1.1\r\n" + b"a:b\r\n" * 65 + b"\r\n"),
+        (
+            response("431 Request Header Fields Too Large"),
+            b"GET /metrics HTTP/1.1\r\n" + b"a:b\r\n" * 65 + b"\r\n",
+        ),
     ]
     with metered() as host:
         for wanted, sent in answers:
             expect(f"the answer to {sent[:40]!r}", scraped(host.metrics, sent).decode(), wanted)
         slow = [bytes([it]) for it in GET]
-        expect("the answer to a slow client", scraped(host.metrics, *slow, pause=0.02).decode(), page)
+        expect(
+            "the answer to a slow client", scraped(host.metrics, *slow, pause=0.02).decode(), page
+        )
 
 
 @check
 def clients_of_the_metrics_port_harm_nobody():
-    """Clients that send nothing, or don't close, are dropped after five seconds; of many at once four are kept; terminals are served."""
+    """Clients that send nothing, or don't close, are dropped after five seconds; of many at once
+    four are kept; terminals are served."""
     with metered() as host:
         terminal = host.client().signs_on("PNL01")
         silent = [socket.create_connection((LOCALHOST, host.metrics), PATIENCE) for _ in range(100)]
@@ -150,14 +243,18 @@ def clients_of_the_metrics_port_harm_nobody():
             it.close()
         terminal.enters()
         if times[0] > 3 or not 4 < times[3] < 8 or times[-1] > 8:
-            raise Difference("clients of the metrics port are dropped after 5 seconds", f"after {[round(it, 1) for it in times]}")
+            raise Difference(
+                "clients of the metrics port are dropped after 5 seconds",
+                f"after {[round(it, 1) for it in times]}",
+            )
         expect("metrics", scraped(host.metrics, GET)[:15], b"HTTP/1.1 200 OK")
         terminal.ends()
 
 
 @check
 def it_answers_with_metrics_at_127_0_0_1_alone():
-    """No other address answers with metrics; a port that another program has ends the run with status 4."""
+    """No other address answers with metrics; a port that another program has ends the run with
+    status 4."""
     with metered("--listen", "0.0.0.0") as host:
         for address in ("127.0.0.2", "127.255.255.254"):
             with socket.socket() as it:

@@ -1,7 +1,7 @@
 """The operator's live terminal, bin/operate, on ttys of their own.
 
-A check is the operator: it types bytes, as xterm, tmux and the Linux console send them, and looks at the screen. The host is `serve`, or a
-socket of the check itself."""
+A check is the operator: it types bytes, as xterm, tmux and the Linux console send them, and looks
+at the screen. The host is `serve`, or a socket of the check itself."""
 import os
 import signal
 import subprocess
@@ -9,8 +9,35 @@ import time
 
 from harness import programs
 from harness.case import Checks, expect
-from harness.hosts import DEVICE_IN_USE, DO, FUNCTIONS_IS, LOCALHOST, PATIENCE, SEND_TYPE, WILL, device_type, free_port
-from harness.tty import BACK_TAB, CLEAR, ENTER, HOME, Host, INSERT, LEFT, Operator, QUIT, REDRAW, RESET, SCRIPT, SIGNALS, TAB, bound, serve_bank
+from harness.hosts import (
+    DEVICE_IN_USE,
+    DO,
+    FUNCTIONS_IS,
+    LOCALHOST,
+    PATIENCE,
+    SEND_TYPE,
+    WILL,
+    device_type,
+    free_port,
+)
+from harness.tty import (
+    BACK_TAB,
+    CLEAR,
+    ENTER,
+    HOME,
+    Host,
+    INSERT,
+    LEFT,
+    Operator,
+    QUIT,
+    REDRAW,
+    RESET,
+    SCRIPT,
+    SIGNALS,
+    TAB,
+    bound,
+    serve_bank,
+)
 
 check = Checks()
 cases = check.cases
@@ -18,7 +45,9 @@ cases = check.cases
 
 def run_alone(*words):
     """The status of a run without a tty, and what it printed on its two outputs."""
-    done = subprocess.run(words, stdin=subprocess.DEVNULL, capture_output=True, timeout=PATIENCE, check=False)
+    done = subprocess.run(
+        words, stdin=subprocess.DEVNULL, capture_output=True, timeout=PATIENCE, check=False
+    )
     return done.returncode, done.stdout.decode(), done.stderr.decode()
 
 
@@ -155,7 +184,8 @@ def without_a_host_it_ends():
 
 @check
 def options_are_passed_on():
-    """The script passes the program its options, in any order, and the program says which it doesn't know."""
+    """The script passes the program its options, in any order, and the program says which it
+    doesn't know."""
     for words in (("--lu", "PNL01", "--model=3"), ("--model", 3, "--lu=PNL01")):
         with Host() as host, Operator(*words, host.port, rows=33) as operator:
             host.accepts()
@@ -164,11 +194,23 @@ def options_are_passed_on():
             operator.types(QUIT)
             operator.ends(0)
     with Operator("--modle", 3, 3270) as operator:
-        operator.ends(2, "error: unexpected word '--modle' (did you mean '--model'?)", "For more information, try 'panel3270 help operate'.")
+        operator.ends(
+            2,
+            "error: unexpected word '--modle' (did you mean '--model'?)",
+            "For more information, try 'panel3270 help operate'.",
+        )
     with Operator("--port", 80) as operator:
-        operator.ends(2, "error: invalid value '80' for '--port'", "For more information, try 'panel3270 help operate'.")
+        operator.ends(
+            2,
+            "error: invalid value '80' for '--port'",
+            "For more information, try 'panel3270 help operate'.",
+        )
     status, out, said = run_alone(SCRIPT, "--help")
-    expect("bin/operate --help", (status, out.splitlines()[0], said), (0, "usage: panel3270 operate --port P [--lu NAME] [--model M] [--raw ROWSxCOLUMNS]", ""))
+    expect(
+        "bin/operate --help",
+        (status, out.splitlines()[0], said),
+        (0, "usage: panel3270 operate --port P [--lu NAME] [--model M] [--raw ROWSxCOLUMNS]", ""),
+    )
 
 
 @check
@@ -186,7 +228,8 @@ def a_refused_lu_is_told():
 
 @check
 def a_host_that_ends_early_is_told():
-    """A host that ends the connection before a session, or breaks the protocol, is said in one line, with status 4."""
+    """A host that ends the connection before a session, or breaks the protocol, is said in one
+    line, with status 4."""
     with Host() as host, Operator(host.port) as operator:
         host.accepts()
         host.socket.close()
@@ -227,7 +270,8 @@ def a_program_that_was_stopped_goes_on():
 
 @check
 def a_tty_that_is_too_small_is_told():
-    """A tty without room for the screens of the model and the status row is said in one line, with status 2."""
+    """A tty without room for the screens of the model and the status row is said in one line, with
+    status 2."""
     port = free_port()
     with Operator(port, rows=24) as operator:
         operator.ends(2, "the tty has 24 rows of 80 columns, and the screen needs 25 rows of 80")
@@ -239,7 +283,9 @@ def a_tty_that_is_too_small_is_told():
 def each_model_has_its_size():
     """A terminal of each model is shown the panels of its size."""
     for model, rows, columns in ((2, 25, 80), (3, 33, 80), (4, 44, 80), (5, 28, 132)):
-        with Host() as host, Operator("--model", model, host.port, rows=rows, columns=columns) as operator:
+        with Host() as host, Operator(
+            "--model", model, host.port, rows=rows, columns=columns
+        ) as operator:
             host.accepts()
             host.says(DO, SEND_TYPE)
             host.hears(WILL, device_type(7, None, f"IBM-3278-{model}"))
@@ -247,7 +293,10 @@ def each_model_has_its_size():
             # Erase/Write Alternate: `HI` from 1 on; it restores the keyboard.
             host.says(bytes.fromhex("00 00 02 00 00 7E C3 11 40 40 1D 40 C8 C9 FF EF"))
             operator.until("the screen is drawn", lambda screen: screen.line(0).strip() == "HI")
-            operator.until("the status row", lambda screen: screen.line(rows - 1).split()[:2] == ["connected", "PNL01"])
+            operator.until(
+                "the status row",
+                lambda screen: screen.line(rows - 1).split()[:2] == ["connected", "PNL01"],
+            )
 
 
 @check
@@ -256,13 +305,25 @@ def serve_says_that_it_reads_a_tty():
     with Operator("serve", "--port", free_port(), command=[programs.panel3270()]) as operator:
         operator.sees("reading panels from standard input; end with Ctrl-D, or give --panels FILE")
         operator.types(b"\x04")
-        operator.until("the panel text is refused", lambda screen: "standard input:1: missing key 'start'" in screen.text())
+        operator.until(
+            "the panel text is refused",
+            lambda screen: "standard input:1: missing key 'start'" in screen.text(),
+        )
 
 
 @check
 def it_says_how_it_is_started():
-    """Without a tty in raw mode a line says how the program is started, with status 2; and so does the script without a tty."""
+    """Without a tty in raw mode a line says how the program is started, with status 2; and so does
+    the script without a tty."""
     said = run_alone(programs.panel3270(), "operate", "--port", "3270")
-    expect("operate", said, (2, "", "operate needs a tty in raw mode: start it by bin/operate PORT [LU]\n"))
-    for words, line in ((["3270"], "standard input and output must be a tty"), ([], "usage: bin/operate [OPTION ..] PORT [LU]"), (["1", "A", "B"], "usage: bin/operate [OPTION ..] PORT [LU]")):
+    expect(
+        "operate",
+        said,
+        (2, "", "operate needs a tty in raw mode: start it by bin/operate PORT [LU]\n"),
+    )
+    for words, line in (
+        (["3270"], "standard input and output must be a tty"),
+        ([], "usage: bin/operate [OPTION ..] PORT [LU]"),
+        (["1", "A", "B"], "usage: bin/operate [OPTION ..] PORT [LU]"),
+    ):
         expect("bin/operate", run_alone(SCRIPT, *words), (2, "", line + "\n"))

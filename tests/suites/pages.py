@@ -2,7 +2,8 @@
 
 A page has a heading for each few runs, and an indented block for each run:
 
-    $ WORDS      the words behind the program's name; FREE is a port that is free, and TAKEN one that isn't
+    $ WORDS      the words behind the program's name; FREE is a port that is free, and TAKEN one
+                 that isn't
     < TEXT       a line of its standard input
     <x HEX       bytes of it, as they are
     <= NAME      the lines of the page's block that begins with `= NAME`; that block is no run
@@ -11,8 +12,8 @@ A page has a heading for each few runs, and an indented block for each run:
     (N times)    the line above is there N times in all
     (status N)   its exit status, if that isn't 0
 
-Of each run of `script` a second case asks `check` about the same input: it finds a fault, in its own words, exactly if `script` refuses
-the panel text.
+Of each run of `script` a second case asks `check` about the same input: it finds a fault, in its
+own words, exactly if `script` refuses the panel text.
 """
 import re
 import socket
@@ -57,7 +58,8 @@ class Run:
         return self.words == ["script"] and self.faults != [b"input not read\n"]
 
     def check_by_check(self) -> None:
-        """Raises a Difference if `script` refuses the panel text and `check` finds no such fault, or the other way round."""
+        """Raises a Difference if `script` refuses the panel text and `check` finds no such fault,
+        or the other way round."""
         refused = self.status == 1 and not self.faults[0].startswith(b"line ")
         run = ran(["check"], b"".join(self.given))
         # A fault that `check` didn't find by itself has the words of `script`.
@@ -68,12 +70,16 @@ class Run:
 
 
 def ran(words: list[str], given: bytes) -> subprocess.CompletedProcess[bytes]:
-    return subprocess.run([programs.panel3270(), *words], input=given, capture_output=True, timeout=60, check=False)
+    return subprocess.run(
+        [programs.panel3270(), *words], input=given, capture_output=True, timeout=60, check=False
+    )
 
 
 def shown(status: int, out: bytes, faults: bytes) -> str:
     """A run's outcome in the words of a page."""
-    lines = [f"> {it}" for it in out.decode(errors="replace").splitlines()] + [f"! {it}" for it in faults.decode(errors="replace").splitlines()]
+    lines = [f"> {it}" for it in out.decode(errors="replace").splitlines()] + [
+        f"! {it}" for it in faults.decode(errors="replace").splitlines()
+    ]
     return "\n".join([*lines, f"(status {status})"])
 
 

@@ -1,16 +1,21 @@
-"""Panels read from texts, and the screens that they ask for: tests/cases/panel.cases, with the texts of panel.texts.
+"""Panels read from texts, and the screens that they ask for: tests/cases/panel.cases, with the
+texts of panel.texts.
 
 The steps of a case:
 
     read NAME                its text, or that of a file of the repository, is read
     fault NAME FAULT         a text is refused for this fault
-    has LINE                 what the probe says of the text; no panel has the index that is its number of panels
+    has LINE                 what the probe says of the text; no panel has the index that is its
+                             number of panels
     lus N                    it has so many LUs
     panel INDEX              the next steps speak of this panel
-    shows MESSAGE at ADDR    it asks for a screen with the cursor there, and with the items below, nulls elsewhere. It resets MDT if it is fresh;
-                             if not, the screen that keeps the fields becomes this one once their values are put
-    keeps MESSAGE FROM-TO .. it asks for a screen that keeps these cells, and has the items below elsewhere
-    item ADDR CODE BYTES     an item of such a screen: the address of its attribute, its code, and characters
+    shows MESSAGE at ADDR    it asks for a screen with the cursor there, and with the items below,
+                             nulls elsewhere. It resets MDT if it is fresh; if not, the screen that
+                             keeps the fields becomes this one once their values are put
+    keeps MESSAGE FROM-TO .. it asks for a screen that keeps these cells, and has the items below
+    elsewhere
+    item ADDR CODE BYTES     an item of such a screen: the address of its attribute, its code, and
+                             characters
     cursor MESSAGE at ADDR   it asks for a screen with the cursor there
     leads NEXT by KEYS       the keys of these AIDs lead there
     fields N:ATTR+LENGTH:required ..; size ROWS COLUMNS
@@ -31,7 +36,8 @@ Texts = dict[str, str]
 
 @dataclasses.dataclass
 class Screen:
-    """A wanted screen as a case says it: how it is asked for, its cursor, if that is said, the cells that it keeps, and its items."""
+    """A wanted screen as a case says it: how it is asked for, its cursor, if that is said, the
+    cells that it keeps, and its items."""
 
     message: str
     cursor: str | None
@@ -66,7 +72,9 @@ class Panels:
             self.check(screen, self.ask(f"wanted true {screen.message}", screen.line)[:4], "false")
             return
         is_fresh = screen.message == "fresh"
-        self.check(screen, self.ask(f"wanted false {screen.message}", screen.line), str(is_fresh).lower())
+        self.check(
+            screen, self.ask(f"wanted false {screen.message}", screen.line), str(is_fresh).lower()
+        )
         if not is_fresh:
             self.check(screen, self.ask(f"wanted true {screen.message}", screen.line)[4:], "false")
 
@@ -89,7 +97,11 @@ class Panels:
         same("start", self.read[0].split()[0], line.at)
 
     def do_fault(self, line: Line, words: list[str]) -> None:
-        same([f"fault {' '.join(words[1:])}"], self.ask(f"read {self.text(words[0], line)}", line), line.at)
+        same(
+            [f"fault {' '.join(words[1:])}"],
+            self.ask(f"read {self.text(words[0], line)}", line),
+            line.at,
+        )
 
     def do_has(self, line: Line, words: list[str]) -> None:
         same([" ".join(words)], self.read, line.at)
@@ -101,7 +113,9 @@ class Panels:
     def do_panel(self, line: Line, words: list[str]) -> None:
         self.about = self.ask(line.text, line)
 
-    def begin(self, line: Line, message: str, cursor: str | None, kept: list[tuple[int, int]]) -> None:
+    def begin(
+        self, line: Line, message: str, cursor: str | None, kept: list[tuple[int, int]]
+    ) -> None:
         self.screen = Screen(message, cursor, kept, [], line)
 
     def do_shows(self, line: Line, words: list[str]) -> None:
@@ -130,7 +144,9 @@ class Panels:
         found = []
         for word in words:
             number, extent, required = word.split(":")
-            found.append(f"field {number} at {extent} required {str(required == 'required').lower()}")
+            found.append(
+                f"field {number} at {extent} required {str(required == 'required').lower()}"
+            )
         same(found, self.about[1:], line.at)
 
     def do_size(self, line: Line, words: list[str]) -> None:
@@ -172,7 +188,10 @@ def held(texts: Texts, lines: list[Line], head: Line) -> None:
 
 def read_texts() -> Texts:
     """The texts of panel.texts."""
-    return {name: "".join(f"{it.text[1:]}\n" for it in lines if it.text.startswith("|")) for _, name, lines in blocks_of(CASES / "panel.texts", "text")}
+    return {
+        name: "".join(f"{it.text[1:]}\n" for it in lines if it.text.startswith("|"))
+        for _, name, lines in blocks_of(CASES / "panel.texts", "text")
+    }
 
 
 def large_text() -> str:
@@ -181,10 +200,12 @@ def large_text() -> str:
     for panel in range(64):
         found.append(f'[[panel]]\nname = "P{panel}"\nfield = [')
         for it in range(128):
-            found.append(f'{{name = "f{panel}_{it}", row = {1 + it // 20}, col = {2 + it % 20 * 3}, length = 1}},')
+            place = f"row = {1 + it // 20}, col = {2 + it % 20 * 3}"
+            found.append(f'{{name = "f{panel}_{it}", {place}, length = 1}},')
         found.append("]\ntext = [")
         for it in range(256):
-            found.append(f'{{row = {8 + it // 20}, col = {2 + it % 20 * 3}, show = "f{panel}_{it % 128}", length = 1}},')
+            place = f"row = {8 + it // 20}, col = {2 + it % 20 * 3}"
+            found.append(f'{{{place}, show = "f{panel}_{it % 128}", length = 1}},')
         found.append("]\n")
     return "".join(found)
 

@@ -49,13 +49,17 @@ class Holders:
 
     def free(self, conn: int | None) -> None:
         """Frees the LU of a connection, or each."""
-        self.holders = {lu: None if conn in (None, holder) else holder for lu, holder in self.holders.items()}
+        self.holders = {
+            lu: None if conn in (None, holder) else holder for lu, holder in self.holders.items()
+        }
 
 
 def request(chance: random.Random, holders: Holders) -> tuple[str, str]:
     """A command, and the answer that is wanted."""
     conn = chance.randrange(6)
-    kind = chance.choice(("ask", "ask", "ask", "held", "held", "give-back", "give-back", "free-all"))
+    kind = chance.choice(
+        ("ask", "ask", "ask", "held", "held", "give-back", "give-back", "free-all")
+    )
     if kind == "ask" and holders.held(conn) == "none":
         name = chance.choice((None, *names(6)))
         return (f'ask {conn} "{name}"' if name else f"ask {conn}"), holders.ask(conn, name)
@@ -76,7 +80,10 @@ def check_random(seed: int) -> None:
         read(probe, texts)
         for step in range(300):
             command, wanted = request(chance, holders)
-            same(f"step {step}: {command} = {wanted}", f"step {step}: {command} = {''.join(probe.ask(command))}")
+            same(
+                f"step {step}: {command} = {wanted}",
+                f"step {step}: {command} = {''.join(probe.ask(command))}",
+            )
 
 
 def cases() -> Iterator[Case]:

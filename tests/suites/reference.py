@@ -1,17 +1,23 @@
-"""The screen and the belief of presentation and shadow beside those of the crate reference, which are lists: tests/cases/reference.cases.
+"""The screen and the belief of presentation and shadow beside those of the crate reference, which
+are lists: tests/cases/reference.cases.
 
-A case is a name and the lines below it, up to a blank line; a line that begins with `#` is a comment. A line has a word, and bytes if the word
-takes some:
+A case is a name and the lines below it, up to a blank line; a line that begins with `#` is a
+comment. A line has a word, and bytes if the word takes some:
 
-    write BYTES              a command: both screens execute it; if it is a plain write, both beliefs take it
-    modified BYTES           an answer to Read Modified: both beliefs hear it; likewise `all` and `buffer`
-    answer-modified          both beliefs hear the screen's own answer; likewise `answer-all` and `answer-buffer`
-    type ADDRESS BYTES       characters are stored on both screens from an address of two bytes on, and their field is modified
+    write BYTES              a command: both screens execute it; if it is a plain write, both
+                             beliefs take it
+    modified BYTES           an answer to Read Modified: both beliefs hear it; likewise `all` and
+                             `buffer`
+    answer-modified          both beliefs hear the screen's own answer; likewise `answer-all` and
+                             `answer-buffer`
+    type ADDRESS BYTES       characters are stored on both screens from an address of two bytes on,
+                             and their field is modified
     press BYTE               the AID of both screens
     clear; erase-input       the keys
 
-After each line that can change them both screens say the same of each cell, of the fields and of each read, and both beliefs the same of each
-cell and each fact, whether six wanted screens fit them, and which bytes paint these.
+After each line that can change them both screens say the same of each cell, of the fields and of
+each read, and both beliefs the same of each cell and each fact, whether six wanted screens fit
+them, and which bytes paint these.
 """
 import functools
 from collections.abc import Iterator
@@ -42,8 +48,14 @@ class Pair:
             if command in ("show", "look"):
                 wanted, came = comparable(wanted), comparable(came)
             if wanted != came:
-                place = next((it for it, both in enumerate(zip(wanted, came)) if both[0] != both[1]), 0)
-                raise Difference(f"{command[:60]}: {wanted[place:place + 1]}", f"{command[:60]}: {came[place:place + 1]}", line.at)
+                place = next(
+                    (it for it, both in enumerate(zip(wanted, came)) if both[0] != both[1]), 0
+                )
+                raise Difference(
+                    f"{command[:60]}: {wanted[place:place + 1]}",
+                    f"{command[:60]}: {came[place:place + 1]}",
+                    line.at,
+                )
         return one
 
     def close(self) -> None:
@@ -52,9 +64,12 @@ class Pair:
 
 
 def comparable(answer: list[str]) -> list[str]:
-    """An answer without what reference doesn't have: lock, insert mode, a belief's size, and the cells of a screen of which nothing is known."""
+    """An answer without what reference doesn't have: lock, insert mode, a belief's size, and the
+    cells of a screen of which nothing is known."""
     lines = [it for it in answer if it.split(" ")[0] not in ("lock", "inserting", "size")]
-    return ["cells" if it.startswith("cells") and set(it.split()[1:]) == {"?"} else it for it in lines]
+    return [
+        "cells" if it.startswith("cells") and set(it.split()[1:]) == {"?"} else it for it in lines
+    ]
 
 
 def is_open_at_first(cells: list[str]) -> bool:
@@ -64,7 +79,8 @@ def is_open_at_first(cells: list[str]) -> bool:
 
 
 def wants(cells: list[str], is_changed: bool, keeps: bool) -> list[str]:
-    """What is known, nulls elsewhere; with other characters here and there, or with the characters of unprotected fields kept."""
+    """What is known, nulls elsewhere; with other characters here and there, or with the characters
+    of unprotected fields kept."""
     found, is_open = [], is_open_at_first(cells)
     for place, cell in enumerate(cells):
         if cell.startswith("sf:"):
@@ -80,11 +96,20 @@ def wants(cells: list[str], is_changed: bool, keeps: bool) -> list[str]:
 
 
 def paints(cells: list[str]) -> list[str]:
-    """The commands that ask how six screens are painted: what is known, changed, and kept; nulls, attributes and Keep alone."""
+    """The commands that ask how six screens are painted: what is known, changed, and kept; nulls,
+    attributes and Keep alone."""
     commands = []
     for is_changed, keeps in ((False, False), (True, False), (False, True)):
         wanted = " ".join(wants(cells, is_changed, keeps))
-        commands += ["want 2 00", f"put 0 {wanted}", f"aim {CHANGED_EVERY} {str(is_changed).lower()}", "fits", "out 0 -", "paint", "left"]
+        commands += [
+            "want 2 00",
+            f"put 0 {wanted}",
+            f"aim {CHANGED_EVERY} {str(is_changed).lower()}",
+            "fits",
+            "out 0 -",
+            "paint",
+            "left",
+        ]
     for want in ("00", "sf:E8", "keep"):
         commands += [f"want 2 {want}", "fits", "out 0 -", "paint", "left"]
     return commands
@@ -107,7 +132,9 @@ class Held:
 
     def type_at(self, data: bytes, line: Line) -> None:
         place = address_of(data[:2])
-        self.screens.ask([f"store {place} {data[2:].hex()}", f"cursor {(place + len(data) - 2) % 1920}"], line)
+        self.screens.ask(
+            [f"store {place} {data[2:].hex()}", f"cursor {(place + len(data) - 2) % 1920}"], line
+        )
 
     def take(self, line: Line) -> None:
         word, _, rest = line.text.partition(" ")
@@ -133,7 +160,10 @@ class Held:
         word = line.text.split()[0]
         if word in (*CHANGES, "press"):
             looks = ["show", "look"] if word in CHANGES else ["show"]
-            self.screens.ask([*looks, *(it for form in FORMS for it in ("out 0 -", f"read {form}", "left"))], line)
+            self.screens.ask(
+                [*looks, *(it for form in FORMS for it in ("out 0 -", f"read {form}", "left"))],
+                line,
+            )
         if word == "write" or word not in (*CHANGES, "press"):
             cells = line_of(self.beliefs.ask(["show"], line)[0], "cells")
             for command in paints(cells + ["?"] * (1920 - len(cells))):
@@ -141,7 +171,8 @@ class Held:
 
 
 def address_of(data: bytes) -> int:
-    """A buffer address of two bytes: of 14 bits if the first two are 00, else of twice six bits (GA23-0059-07 on buffer addressing)."""
+    """A buffer address of two bytes: of 14 bits if the first two are 00, else of twice six bits
+    (GA23-0059-07 on buffer addressing)."""
     high, low = data
     return high << 8 | low if high < 0x40 else (high & 0x3F) << 6 | low & 0x3F
 

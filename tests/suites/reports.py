@@ -1,9 +1,10 @@
 """The reports of `check` on panel texts with random changes: tests/cases/panel-texts.reports.
 
-Its texts have blank lines between them; a block that begins with `#` is a comment. Each text is checked as it is, and then with random
-changes: lines are left out, repeated or replaced by others, and keys and values are replaced. A report has a fault exactly if the readers
-refuse the text, and has their fault. It says by `agrees` whether it found that by itself, in words of its own. A case is a text, or ten
-texts that it becomes by changes; its name has the seed.
+Its texts have blank lines between them; a block that begins with `#` is a comment. Each text is
+checked as it is, and then with random changes: lines are left out, repeated or replaced by others,
+and keys and values are replaced. A report has a fault exactly if the readers refuse the text, and
+has their fault. It says by `agrees` whether it found that by itself, in words of its own. A case is
+a text, or ten texts that it becomes by changes; its name has the seed.
 """
 import functools
 import random
@@ -14,16 +15,34 @@ from harness.data import lines_of
 from harness.probe import Probe
 
 TEXTS = CASES / "panel-texts.reports"
-# How many changed texts are made of each text: the seeds of its cases, and the changed texts of a case.
+# How many changed texts are made of each text: the seeds of its cases, and the changed texts of a
+# case.
 SEEDS, ROUNDS = 15, 10
 MOST_CHANGES, MOST_PAIRS = 3, 5
 CHANGES = ("leave out", "repeat", "replace", "insert", "key", "key", "value", "value")
 KEYS = (
-    "row col length name model otherwise text show fill start lus panel cursor keys field bright numeric hidden required marked enter pf1 pf99 x colour"
+    "row col length name model otherwise text show fill start lus panel cursor keys field bright"
+    " numeric hidden required marked enter pf1 pf99 x colour"
 ).split()
 VALUES = (
     *"1 0 -1 2 3 5 6 31 132 22 23 24 80 81 1840 9999999 true 1.5".split(),
-    *('"A"', '"B"', '"f"', '"x"', '"L1"', '""', '"\\u0001"', '"…"', "[]", "[1]", '["A"]', "[{}]", "{}", "{a = 1}", '"A'),
+    *(
+        '"A"',
+        '"B"',
+        '"f"',
+        '"x"',
+        '"L1"',
+        '""',
+        '"\\u0001"',
+        '"…"',
+        "[]",
+        "[1]",
+        '["A"]',
+        "[{}]",
+        "{}",
+        "{a = 1}",
+        '"A',
+    ),
 )
 
 
@@ -38,7 +57,11 @@ def check_text(text: str, at: Place) -> None:
     _, faults, _, agrees = first.split(" ")
     refused = readers.partition("readers refuse ")[2]
     if (int(faults) > 0) != bool(refused) or agrees != "true":
-        wanted = f"a report that found the fault {refused} by itself" if refused else "a report without a fault"
+        wanted = (
+            f"a report that found the fault {refused} by itself"
+            if refused
+            else "a report without a fault"
+        )
         raise Difference(f"{wanted}, on\n{text}", "\n".join([first, *page]), at)
 
 
@@ -99,4 +122,8 @@ def cases() -> Iterator[Case]:
     for number, (at, text) in enumerate(texts(), 1):
         yield Case(f"text {number}", at, functools.partial(check_text, text, at))
         for seed in (f"{number}.{it}" for it in range(1, SEEDS + 1)):
-            yield Case(f"text {number}, changed with seed {seed}", at, functools.partial(check_changed, text, at, seed))
+            yield Case(
+                f"text {number}, changed with seed {seed}",
+                at,
+                functools.partial(check_changed, text, at, seed),
+            )

@@ -1,9 +1,10 @@
 """The sessions of s3270 that the documents print, and the log of a host.
 
-A document shows a session as a run (harness/documents): a line `$ COMMAND` of an indented block, and then what it prints. A command goes on
-after a backslash at a line's end, and after <<'END' up to a line END. Each command is run by sh in a temporary folder, which has copies of
-examples/*.s3270. In these and in the command the address 127.0.0.1:3270 is replaced by that of the host, at a free port. A date that a
-document prints means today's."""
+A document shows a session as a run (harness/documents): a line `$ COMMAND` of an indented block,
+and then what it prints. A command goes on after a backslash at a line's end, and after <<'END' up
+to a line END. Each command is run by sh in a temporary folder, which has copies of
+examples/*.s3270. In these and in the command the address 127.0.0.1:3270 is replaced by that of the
+host, at a free port. A date that a document prints means today's."""
 import contextlib
 import dataclasses
 import datetime
@@ -20,7 +21,8 @@ from harness.case import TOP, BadCase, Case, Difference, NotHere, Place, of_func
 
 OPERATING, EXAMPLES = "docs/OPERATING.md", TOP / "examples"
 ADDRESS = "127.0.0.1:3270"
-# The panels of the host for the commands that have this word. For bank-asks.toml its application is started, too.
+# The panels of the host for the commands that have this word. For bank-asks.toml its application is
+# started, too.
 HOSTS = {
     "examples/bank-asks.s3270": "bank-asks.toml",
     "examples/bank.s3270": "bank.toml",
@@ -37,7 +39,8 @@ DATE = re.compile(r"\b\d{4}-\d\d-\d\d\b")
 
 @dataclasses.dataclass(frozen=True)
 class Session:
-    """A session that a document prints, and the word of its command by which HOSTS names its host."""
+    """A session that a document prints, and the word of its command by which HOSTS names its
+    host."""
 
     at: Place
     command: str
@@ -54,7 +57,9 @@ def sessions() -> Iterator[Session]:
                 lines += 1
             command = "\n".join([command, *behind[:lines]])
             if "s3270" in command and (TLS not in command or TLS in HOSTS):
-                yield Session(at, command, behind[lines:], next((it for it in HOSTS if it in command), None))
+                yield Session(
+                    at, command, behind[lines:], next((it for it in HOSTS if it in command), None)
+                )
 
 
 @contextlib.contextmanager
@@ -70,13 +75,36 @@ def host_with(panels: str) -> Iterator[hosts.Server]:
 
 @contextlib.contextmanager
 def encrypted(command: str, port: int, folder: pathlib.Path) -> Iterator[str]:
-    """The command at the port of an stunnel before a host, whose certificate is the folder's cert.pem."""
-    made = ["openssl", "req", "-x509", "-newkey", "rsa:2048", "-nodes", "-days", "2", "-subj", "/CN=localhost"]
-    subprocess.run([*made, "-keyout", "key.pem", "-out", "cert.pem"], cwd=folder, check=True, stderr=subprocess.DEVNULL)
+    """The command at the port of an stunnel before a host, whose certificate is the folder's
+    cert.pem."""
+    made = [
+        "openssl",
+        "req",
+        "-x509",
+        "-newkey",
+        "rsa:2048",
+        "-nodes",
+        "-days",
+        "2",
+        "-subj",
+        "/CN=localhost",
+    ]
+    subprocess.run(
+        [*made, "-keyout", "key.pem", "-out", "cert.pem"],
+        cwd=folder,
+        check=True,
+        stderr=subprocess.DEVNULL,
+    )
     front = hosts.free_port()
-    lines = f"foreground = yes\npid =\n[tn3270]\naccept = 127.0.0.1:{front}\nconnect = 127.0.0.1:{port}\ncert = cert.pem\nkey = key.pem\n"
+    lines = f"foreground = yes\npid =\n[tn3270]\naccept = 127.0.0.1:{front}\n"
+    lines += f"connect = 127.0.0.1:{port}\ncert = cert.pem\nkey = key.pem\n"
     (folder / "stunnel.conf").write_text(lines)
-    tunnel = subprocess.Popen(["stunnel", "stunnel.conf"], cwd=folder, stdout=subprocess.DEVNULL, stderr=subprocess.DEVNULL)
+    tunnel = subprocess.Popen(
+        ["stunnel", "stunnel.conf"],
+        cwd=folder,
+        stdout=subprocess.DEVNULL,
+        stderr=subprocess.DEVNULL,
+    )
     try:
         hosts.until("stunnel listens", lambda: bank.is_listening(front))
         yield command.replace(TLS_ADDRESS, f"localhost:{front}")
@@ -86,26 +114,41 @@ def encrypted(command: str, port: int, folder: pathlib.Path) -> Iterator[str]:
 
 
 def log(text: str) -> str:
-    """The lines of a host's log, without what differs between runs. A host sends IAC NOP more or less often."""
+    """The lines of a host's log, without what differs between runs. A host sends IAC NOP more or
+    less often."""
     return re.sub(r"\b(duration|sent)=\d+", r"\1=N", documents.same(text.strip()))
 
 
 def ran(command: str, port: int, folder: pathlib.Path) -> tuple[str, int]:
-    """What a command prints in a folder with the host at a port, and its status; today's date is TODAY."""
+    """What a command prints in a folder with the host at a port, and its status; today's date is
+    TODAY."""
     (folder / "examples").mkdir(exist_ok=True)
     for path in EXAMPLES.glob("*.s3270"):
-        (folder / "examples" / path.name).write_text(path.read_text().replace(ADDRESS, f"127.0.0.1:{port}"))
+        (folder / "examples" / path.name).write_text(
+            path.read_text().replace(ADDRESS, f"127.0.0.1:{port}")
+        )
     days = [datetime.date.today().isoformat()]
     words = ["timeout", "60", "sh", "-c", command.replace(ADDRESS, f"127.0.0.1:{port}")]
-    done = subprocess.run(words, cwd=folder, stdin=subprocess.DEVNULL, stdout=subprocess.PIPE, stderr=subprocess.STDOUT, check=False)
+    done = subprocess.run(
+        words,
+        cwd=folder,
+        stdin=subprocess.DEVNULL,
+        stdout=subprocess.PIPE,
+        stderr=subprocess.STDOUT,
+        check=False,
+    )
     days.append(datetime.date.today().isoformat())
-    return DATE.sub(lambda it: "TODAY" if it[0] in days else it[0], done.stdout.decode()), done.returncode
+    return DATE.sub(
+        lambda it: "TODAY" if it[0] in days else it[0], done.stdout.decode()
+    ), done.returncode
 
 
 def write_files(session: Session, port: int, folder: pathlib.Path) -> None:
     """Writes the files that a document writes before a session, for the host at a port."""
     for it in sessions():
-        if it.at.file == session.at.file and it.at.line < session.at.line and it.command.startswith("cat > "):
+        if it.at.file == session.at.file and it.at.line < session.at.line and it.command.startswith(
+            "cat > "
+        ):
             ran(it.command, port, folder)
 
 
@@ -114,7 +157,10 @@ def check_at(session: Session, host: hosts.Server) -> None:
     with tempfile.TemporaryDirectory() as name:
         folder = pathlib.Path(name)
         write_files(session, host.port, folder)
-        with encrypted(session.command, host.port, folder) if session.word == TLS else contextlib.nullcontext(session.command) as command:
+        made = contextlib.nullcontext(session.command)
+        if session.word == TLS:
+            made = encrypted(session.command, host.port, folder)
+        with made as command:
             came = ran(command, host.port, folder)
     text, status = documents.printed(session.prints)
     documents.same_output(session.at, (DATE.sub("TODAY", text), status), came)
@@ -128,7 +174,8 @@ def check_session(session: Session) -> None:
 
 
 def the_host_logs_the_printed_lines() -> None:
-    """After the sessions at the bank without an application its log is the one that OPERATING prints."""
+    """After the sessions at the bank without an application its log is the one that OPERATING
+    prints."""
     wanted = log(documents.block(OPERATING, "that asks for NOSUCH"))
     with host_with("bank.toml") as host:
         for session in sessions():
@@ -148,6 +195,8 @@ def cases() -> Iterator[Case]:
     if not shutil.which("s3270"):
         raise NotHere("s3270 isn't installed (apt-get install s3270)")
     for session in sessions():
-        yield Case(session.command.splitlines()[0], session.at, functools.partial(check_session, session))
+        yield Case(
+            session.command.splitlines()[0], session.at, functools.partial(check_session, session)
+        )
     yield of_function(the_host_logs_the_printed_lines)
     yield of_function(each_host_has_a_session)

@@ -1,7 +1,9 @@
-"""Sessions of s3270 behind a proxy that delays what passes, whose operator presses Reset at some point of the wait.
+"""Sessions of s3270 behind a proxy that delays what passes, whose operator presses Reset at some
+point of the wait.
 
-The expected screens are what examples/bank.toml has at its rows and columns, that is those of an operator who waits; only in fields that
-are kept is what was typed in the wait. They take about a minute and a half."""
+The expected screens are what examples/bank.toml has at its rows and columns, that is those of an
+operator who waits; only in fields that are kept is what was typed in the wait. They take about a
+minute and a half."""
 import contextlib
 import functools
 import itertools
@@ -18,14 +20,16 @@ from harness import hosts
 from harness.case import TOP, Case, Difference, NotHere, Place, expect, of_function, relative
 
 LONG = True
-# The time from an end to the other, in seconds, while a key is answered. The first of them all is that of a slow line.
+# The time from an end to the other, in seconds, while a key is answered. The first of them all is
+# that of a slow line.
 DELAY, SLOW = 0.35, 1.5
 # How many cases are run at once.
 THREADS = 8
 
 
 class Proxy:
-    """Hands on what each side of a connection sends, after a delay that can be changed, and in order."""
+    """Hands on what each side of a connection sends, after a delay that can be changed, and in
+    order."""
 
     def __init__(self, port):
         self.delay, self.to = 0, port
@@ -42,7 +46,9 @@ class Proxy:
                 other.setsockopt(socket.IPPROTO_TCP, socket.TCP_NODELAY, 1)
                 pieces = queue.Queue()
                 threading.Thread(target=self.takes, args=(way, one, pieces), daemon=True).start()
-                threading.Thread(target=self.hands_on, args=(way, other, pieces), daemon=True).start()
+                threading.Thread(
+                    target=self.hands_on, args=(way, other, pieces), daemon=True
+                ).start()
 
     def takes(self, way, one, pieces):
         piece = b"-"
@@ -76,8 +82,23 @@ class Operator:
 
     def __init__(self, model, proxy):
         self.proxy = proxy
-        words = ["s3270", "-utf8", "-model", f"3278-{model}", "-clear", "aidWait", "-clear", "unlockDelay"]
-        self.process = subprocess.Popen(words, stdin=subprocess.PIPE, stdout=subprocess.PIPE, stderr=subprocess.DEVNULL, text=True)
+        words = [
+            "s3270",
+            "-utf8",
+            "-model",
+            f"3278-{model}",
+            "-clear",
+            "aidWait",
+            "-clear",
+            "unlockDelay",
+        ]
+        self.process = subprocess.Popen(
+            words,
+            stdin=subprocess.PIPE,
+            stdout=subprocess.PIPE,
+            stderr=subprocess.DEVNULL,
+            text=True,
+        )
         self.does(f"Connect(127.0.0.1:{proxy.port})", "Wait(InputField)")
 
     def __enter__(self):
@@ -110,7 +131,9 @@ class Operator:
 BANK = (TOP / "examples/bank.toml").read_text()
 PANELS = {it["name"]: it for it in tomllib.loads(BANK)["panel"]}
 SIZES = {2: (24, 80), 3: (32, 80), 4: (43, 80), 5: (27, 132)}
-TELLER, ACCOUNTS = {"teller": "123456", "password": "SECRET"}, {"from_account": "1000200030", "to_account": "1000200044"}
+TELLER, ACCOUNTS = {"teller": "123456", "password": "SECRET"}, {
+    "from_account": "1000200030", "to_account": "1000200044"
+}
 FILLED_IN = {**ACCOUNTS, "amount": "150.00"}
 
 
@@ -129,10 +152,17 @@ def at(panel, name):
 
 
 def screen(model, panel, shown, fields=None, message=""):
-    """The rows of a panel: its texts and the values that they show, its fields with these texts, else their fills, and the message."""
+    """The rows of a panel: its texts and the values that they show, its fields with these texts,
+    else their fills, and the message."""
     rows = [""] * SIZES[model][0]
-    texts = [(it["row"], it["col"], it.get("text") or shown.get(it["show"], "")) for it in PANELS[panel]["text"]]
-    texts += [(it["row"], it["col"], (fields or {}).get(it["name"], it.get("fill", ""))) for it in PANELS[panel].get("field", ())]
+    texts = [
+        (it["row"], it["col"], it.get("text") or shown.get(it["show"], ""))
+        for it in PANELS[panel]["text"]
+    ]
+    texts += [
+        (it["row"], it["col"], (fields or {}).get(it["name"], it.get("fill", "")))
+        for it in PANELS[panel].get("field", ())
+    ]
     for row, column, text in sorted([*texts, (len(rows), 2, message)]):
         rows[row - 1] = (rows[row - 1].ljust(column - 1) + text).rstrip()
     return rows
@@ -146,30 +176,54 @@ def sees(what, operator, wanted):
     expect(f"{what}, the number of rows", len(rows), len(wanted))
     differ = [place for place, (it, other) in enumerate(zip(rows, wanted)) if it != other]
     if differ:
-        raise Difference(*("\n".join(f"row {place + 1}: {it[place]!r}" for place in differ) for it in (wanted, rows)))
+        raise Difference(
+            *(
+                "\n".join(f"row {place + 1}: {it[place]!r}" for place in differ)
+                for it in (wanted, rows)
+            )
+        )
 
 
 # ---- what is done in the wait
 
 TYPED = "AMOUNT 9999.00"
-# Each is some actions behind Reset, and what they make of the fields of TRANSFER: where these are kept, they stay so.
+# Each is some actions behind Reset, and what they make of the fields of TRANSFER: where these are
+# kept, they stay so.
 DONE_IN_THE_WAIT = {
-    "types into an empty field": ([at("TRANSFER", "reference"), f'String("{TYPED}")'], lambda it: {**it, "reference": TYPED}),
-    "types over the amount": ([at("TRANSFER", "amount"), "EraseEOF", 'String("9999.00")'], lambda it: {**it, "amount": "9999.00"}),
+    "types into an empty field": (
+        [at("TRANSFER", "reference"), f'String("{TYPED}")'], lambda it: {**it, "reference": TYPED}
+    ),
+    "types over the amount": (
+        [at("TRANSFER", "amount"), "EraseEOF", 'String("9999.00")'],
+        lambda it: {**it, "amount": "9999.00"},
+    ),
     "erases the input": (["EraseInput"], lambda it: dict.fromkeys([*FILLED_IN, "reference"], "")),
-    "erases a field": ([at("TRANSFER", "to_account"), "EraseEOF"], lambda it: {**it, "to_account": ""}),
-    "deletes a digit": ([at("TRANSFER", "from_account"), "Delete"], lambda it: {**it, "from_account": it["from_account"][1:]}),
+    "erases a field": (
+        [at("TRANSFER", "to_account"), "EraseEOF"], lambda it: {**it, "to_account": ""}
+    ),
+    "deletes a digit": (
+        [at("TRANSFER", "from_account"), "Delete"],
+        lambda it: {**it, "from_account": it["from_account"][1:]},
+    ),
 }
 # Behind the first of these a second key may be pressed, which is dropped.
-IN_THE_WAIT = [(it, ()) for it in DONE_IN_THE_WAIT] + [("types into an empty field", (it,)) for it in ("Enter", "PF(3)", "PA(1)")]
-# The first key, which fields are empty then, and at how many points of its wait something is done: at once; when the host has its record,
-# so that what the host sends is under way; and of a key for which the host reads the screen when that read is there, and when its answer is.
-KEYS = {"Enter": ("Enter", (), 2), "Enter, without an amount,": ("Enter", ("amount",), 2), "PA1": ("PA(1)", (), 4)}
+IN_THE_WAIT = [(it, ()) for it in DONE_IN_THE_WAIT] + [
+    ("types into an empty field", (it,)) for it in ("Enter", "PF(3)", "PA(1)")
+]
+# The first key, which fields are empty then, and at how many points of its wait something is done:
+# at once; when the host has its record, so that what the host sends is under way; and of a key for
+# which the host reads the screen when that read is there, and when its answer is.
+KEYS = {
+    "Enter": ("Enter", (), 2),
+    "Enter, without an amount,": ("Enter", ("amount",), 2),
+    "PA1": ("PA(1)", (), 4),
+}
 MESSAGES = {"Enter, without an amount,": "REQUIRED: amount", "PA1": "KEY NOT ACTIVE"}
 
 
 def reaches(proxy, point, before):
-    """Waits for a point of the wait: how many records have gone, up and down in turn, since the key was pressed."""
+    """Waits for a point of the wait: how many records have gone, up and down in turn, since the key
+    was pressed."""
     went = dict(before)
     for way in itertools.islice(itertools.cycle(("up", "down")), point):
         hosts.until(f"point {point} of the wait", lambda: proxy.went[way] > went[way])
@@ -178,11 +232,14 @@ def reaches(proxy, point, before):
 
 
 def in_the_wait(model, key, point, what, second, delay=DELAY):
-    """An operator who presses Reset at a point of the wait, and then changes fields and presses a key, sees what one who waits sees."""
+    """An operator who presses Reset at a point of the wait, and then changes fields and presses a
+    key, sees what one who waits sees."""
     action, empty, _ = KEYS[key]
     actions, change = DONE_IN_THE_WAIT[what]
     shown = {**TELLER, **FILLED_IN}
-    with hosts.Server("serve", text=bank_for(model)) as host, Operator(model, Proxy(host.port)) as operator:
+    with hosts.Server("serve", text=bank_for(model)) as host, Operator(
+        model, Proxy(host.port)
+    ) as operator:
         proxy = operator.proxy
         operator.fills_in("SIGNON", TELLER)
         operator.does("Enter", "Wait(Unlock)")
@@ -198,7 +255,11 @@ def in_the_wait(model, key, point, what, second, delay=DELAY):
         proxy.settles()
         proxy.delay = 0
         if key in MESSAGES:
-            sees("the same panel", operator, screen(model, "TRANSFER", shown, change(texts), MESSAGES[key]))
+            sees(
+                "the same panel",
+                operator,
+                screen(model, "TRANSFER", shown, change(texts), MESSAGES[key]),
+            )
             operator.fills_in("TRANSFER", FILLED_IN)
             operator.does("Enter", "Wait(Unlock)")
         sees("DONE", operator, screen(model, "DONE", shown))
@@ -209,7 +270,8 @@ def in_the_wait(model, key, point, what, second, delay=DELAY):
 
 
 def the_fault_that_was_seen():
-    """On a slow line a transfer is filled in, Enter and Reset are pressed, and a text is typed where the cursor is."""
+    """On a slow line a transfer is filled in, Enter and Reset are pressed, and a text is typed
+    where the cursor is."""
     in_the_wait(2, "Enter", 0, "types into an empty field", (), SLOW)
 
 
@@ -218,8 +280,13 @@ def cases():
     if not shutil.which("s3270"):
         raise NotHere("s3270 isn't installed (apt-get install s3270)")
     yield of_function(the_fault_that_was_seen)
-    for model, (key, (_, _, points)), (what, second) in itertools.product(SIZES, KEYS.items(), IN_THE_WAIT):
+    for model, (key, (_, _, points)), (what, second) in itertools.product(
+        SIZES, KEYS.items(), IN_THE_WAIT
+    ):
         for point in range(points):
-            name = f"model {model}: {key} is pressed; at point {point} an operator {what}" + "".join(f", then presses {it}" for it in second)
+            name = (
+                f"model {model}: {key} is pressed; at point {point} an operator {what}"
+                + "".join(f", then presses {it}" for it in second)
+            )
             run = functools.partial(in_the_wait, model, key, point, what, second)
             yield Case(name, Place(relative(__file__), in_the_wait.__code__.co_firstlineno), run)

@@ -2,14 +2,17 @@
 
 The steps of a case, for a screen with a keyboard that waits at first:
 
-    on MODELS STATES         only as the first: the case is run for each model, blank or full of characters in the alternate size
+    on MODELS STATES         only as the first: the case is run for each model, blank or full of
+                             characters in the alternate size
     apply BYTES              a command; it is one here
     times N BYTES            the same N times
     asks WHAT BYTES          the same, and it asks for nothing, the alarm, or to restore
     beyond BYTES             bytes that are no command here, since the screen lacks a cell
-    store ADDR BYTES         characters are stored from an address on, and the first one's field is modified
+    store ADDR BYTES         characters are stored from an address on, and the first one's field is
+                             modified
     erase-input; clear       as the keys do
-    moves KEY ADDR           a key does what it does, and leaves the cursor there; char:A is the key of a character
+    moves KEY ADDR           a key does what it does, and leaves the cursor there; char:A is the key
+                             of a character
     refuses KEY REASON       a key is refused
     sends KEY                a key sends
     size ROWS COLUMNS; cursor ADDR; fields ADDR+LENGTH ..; field ADDR ADDR+LENGTH
@@ -19,7 +22,8 @@ The steps of a case, for a screen with a keyboard that waits at first:
     reads FORM BYTES         a read is answered so, appended to vectors without room and with it
     buffer-length N          Read Buffer is answered by so many bytes
     copied                   a copy is the same
-    searched                 each cell's field, attribute and displayed character are what a search finds
+    searched                 each cell's field, attribute and displayed character are what a search
+                             finds
 """
 import dataclasses
 import functools
@@ -64,7 +68,10 @@ class Display:
 
     def look(self, line: Line) -> list[Cell]:
         rows = (it.split() for it in self.probe.ask("look", line.at))
-        return [Cell(token, field, over, (int(one), int(other))) for token, field, over, one, other in rows]
+        return [
+            Cell(token, field, over, (int(one), int(other)))
+            for token, field, over, one, other in rows
+        ]
 
     def press(self, key: str, line: Line) -> str:
         kind, colon, letter = key.partition(":")
@@ -80,7 +87,11 @@ class Display:
     def do_asks(self, line: Line, words: list[str]) -> None:
         asked = {"nothing": (False, False), "alarm": (False, True), "restore": (True, False)}
         restore, alarm = (str(it).lower() for it in asked[words[0]])
-        same(f"restore {restore} alarm {alarm}", self.ask(f"apply {' '.join(words[1:])}", line), line.at)
+        same(
+            f"restore {restore} alarm {alarm}",
+            self.ask(f"apply {' '.join(words[1:])}", line),
+            line.at,
+        )
 
     def do_beyond(self, line: Line, words: list[str]) -> None:
         same("fault BadAddress", self.ask(f"apply {' '.join(words)}", line), line.at)
@@ -115,7 +126,8 @@ class Display:
         same(wanted.hex(" ").upper(), " ".join(came), line.at)
 
     def do_attr(self, line: Line, words: list[str]) -> None:
-        """Two attributes are the same if their bits are, whatever the two highest bits of their codes."""
+        """Two attributes are the same if their bits are, whatever the two highest bits of their
+        codes."""
         attribute = self.look(line)[int(words[0])].attribute
         same(int(words[1], 16) & 0x3F, attribute and attribute & 0x3F, line.at)
 
@@ -126,7 +138,11 @@ class Display:
         wanted = line.data(" ".join(words[1:]))
         for before, room in ((b"", 0), (b"\7\7", 2), (b"\7\7", 2 + len(wanted))):
             self.ask(f"out {room} {before.hex() or '-'}", line)
-            same((before + wanted).hex().upper(), appended(self.probe, f"read {words[0]}", line).hex().upper(), line.at)
+            same(
+                (before + wanted).hex().upper(),
+                appended(self.probe, f"read {words[0]}", line).hex().upper(),
+                line.at,
+            )
 
     def do_buffer_length(self, line: Line, words: list[str]) -> None:
         self.ask("out 0 -", line)
@@ -144,18 +160,22 @@ class Display:
         fields = fields_of(places, len(cells))
         for place, cell in enumerate(cells):
             attr = place if cell.attribute is not None else attr
-            check_cell(place, cell, None if attr is None else cells[attr], fields.get(attr, "-"), line)
+            check_cell(
+                place, cell, None if attr is None else cells[attr], fields.get(attr, "-"), line
+            )
         same(" ".join(fields.values()), self.show(line)["fields"], line.at)
 
 
 def fields_of(places: list[int], size: int) -> dict[int | None, str]:
-    """The field of each attribute: its address, and how many cells follow up to the next one, round the end."""
+    """The field of each attribute: its address, and how many cells follow up to the next one, round
+    the end."""
     ends = [*places[1:], *(it + size for it in places[:1])]
     return {attr: f"{attr}+{end - attr - 1}" for attr, end in zip(places, ends)}
 
 
 def glyph(token: str, over: int | None) -> int:
-    """What is displayed: GA23-0059-07 on displayable characters, in code page 037. Bits 4 and 5 of an attribute, both on, hide its field."""
+    """What is displayed: GA23-0059-07 on displayable characters, in code page 037. Bits 4 and 5 of
+    an attribute, both on, hide its field."""
     code = int(token, 16) if len(token) == 2 else 0
     if over is not None and over & 0x0C == 0x0C:
         code = 0
@@ -164,7 +184,8 @@ def glyph(token: str, over: int | None) -> int:
 
 
 def check_cell(place: int, cell: Cell, over: Cell | None, field: str, line: Line) -> None:
-    """Compares a cell with what a search finds: the nearest attribute before it or at it, round the end, governs it."""
+    """Compares a cell with what a search finds: the nearest attribute before it or at it, round the
+    end, governs it."""
     shown = glyph(cell.token, over and over.attribute)
     wanted = Cell(cell.token, field, over.token if over else "-", (shown, shown))
     if wanted != cell:
@@ -189,10 +210,16 @@ def of_block(head: Line, name: str, lines: list[Line]) -> Iterator[Case]:
     models, states = ["2"], ["blank"]
     if lines[0].text.startswith("on "):
         words, lines = lines[0].text.split()[1:], lines[1:]
-        models, states = [it for it in words if it.isdigit()], [it for it in words if it in ("blank", "full")]
+        models, states = [it for it in words if it.isdigit()], [
+            it for it in words if it in ("blank", "full")
+        ]
     for model in models:
         for state in states:
-            yield Case(f"{name}, on model {model}, {state}", head.at, functools.partial(held, int(model), state, lines, head))
+            yield Case(
+                f"{name}, on model {model}, {state}",
+                head.at,
+                functools.partial(held, int(model), state, lines, head),
+            )
 
 
 def may_be_typed_into(cell: Cell) -> bool:
@@ -200,8 +227,8 @@ def may_be_typed_into(cell: Cell) -> bool:
 
 
 def new_line_goes(line: Line) -> None:
-    """New Line goes from the first and the last cell of each row to the first cell from the next row on that may be typed into, round the end;
-    to 0 if there is none."""
+    """New Line goes from the first and the last cell of each row to the first cell from the next
+    row on that may be typed into, round the end; to 0 if there is none."""
     model, *command = line.text.split()
     display = Display(int(model))
     display.do_apply(line, command)
@@ -213,14 +240,19 @@ def new_line_goes(line: Line) -> None:
         for place in (row * columns, (row + 1) * columns - 1):
             display.ask(f"cursor {place}", line)
             same(f"from {place}: done", f"from {place}: {display.press('newline', line)}", line.at)
-            same(f"from {place}: {wanted}", f"from {place}: {display.show(line)['cursor']}", line.at)
+            same(
+                f"from {place}: {wanted}", f"from {place}: {display.show(line)['cursor']}", line.at
+            )
     display.probe.close()
 
 
 def refusals_have_numbers() -> None:
     """Our profile."""
     with Probe("screen") as probe:
-        same(["1 locked", "2 protected", "3 not-numeric", "4 no-room", "5 no-code"], probe.ask("refusals"))
+        same(
+            ["1 locked", "2 protected", "3 not-numeric", "4 no-room", "5 no-code"],
+            probe.ask("refusals"),
+        )
 
 
 def cases() -> Iterator[Case]:
@@ -228,5 +260,9 @@ def cases() -> Iterator[Case]:
         yield from of_block(head, name, lines)
     for line in lines_of(CASES / "newline.screens"):
         if not line.text.startswith("#"):
-            yield Case(f"New Line goes as searched: {line.text}", line.at, functools.partial(new_line_goes, line))
+            yield Case(
+                f"New Line goes as searched: {line.text}",
+                line.at,
+                functools.partial(new_line_goes, line),
+            )
     yield of_function(refusals_have_numbers)

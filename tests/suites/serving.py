@@ -1,14 +1,18 @@
 """A host that serves two clients in memory, a turn at a time: tests/cases/*.story.
 
-Each client has a story, an exchange byte for byte. Both stories run to their ends at several paces. In other cases
-one connection ends or fails, at each read, at each write, and after each number of its client's bytes: then only
-that connection is lost, the other is in the same state as if it were served alone, and both stories run to their
-ends once another client takes that connection, and is granted the same LU. A file has these lines:
+Each client has a story, an exchange byte for byte. Both stories run to their ends at several paces.
+In other cases one connection ends or fails, at each read, at each write, and after each number of
+its client's bytes: then only that connection is lost, the other is in the same state as if it were
+served alone, and both stories run to their ends once another client takes that connection, and is
+granted the same LU. A file has these lines:
 
     | TEXT                                        a line of the panel text
-    host BYTES, client BYTES                      the story, line by line; the second client's LU is PNL02 in place of PNL01
-    pace NAME: READS WRITES PAUSES N N N             a case: how bytes cross, and the first client's reads, writes and bytes then
-    trouble PLACE WAY                             cases: a connection ends or fails at each read, write, or byte
+    host BYTES, client BYTES                      the story, line by line; the second client's LU is
+                                                  PNL02 in place of PNL01
+    pace NAME: READS WRITES PAUSES N N N             a case: how bytes cross, and the first client's
+                                                     reads, writes and bytes then
+    trouble PLACE WAY                             cases: a connection ends or fails at each read,
+                                                  write, or byte
 """
 import dataclasses
 import functools
@@ -45,13 +49,17 @@ class Script:
             case "pace" if len(words.partition(": ")[2].split()) == 6:
                 name, _, numbers = words.partition(": ")
                 self.paces.append((line, name, numbers.split()))
-            case "trouble" if words in ("read ends", "read fails", "write fails", "byte ends", "byte fails"):
+            case "trouble" if words in (
+                "read ends", "read fails", "write fails", "byte ends", "byte fails"
+            ):
                 self.troubles.append((line, *words.split()))
             case _:
                 raise line.bad("needs a command")
 
     def story_of(self, conn: int) -> list[tuple[str, bytes]]:
-        return [(who, data.replace(LUS[0].encode(), LUS[conn].encode())) for who, data in self.story]
+        return [
+            (who, data.replace(LUS[0].encode(), LUS[conn].encode())) for who, data in self.story
+        ]
 
 
 class Client:
@@ -62,7 +70,8 @@ class Client:
         self.told, self.heard, self.read, self.is_saying = 0, b"", 0, False
 
     def commands(self) -> list[str]:
-        """A turn of serving, and before it the line that is the client's next one, if it isn't said yet."""
+        """A turn of serving, and before it the line that is the client's next one, if it isn't said
+        yet."""
         found = [f"turn {self.conn}", f"counts {self.conn}", f"heard {self.conn}"]
         if self.is_done() or self.story[self.told][0] == "host" or self.is_saying:
             return found
@@ -104,7 +113,9 @@ class Fixture:
         """Serves a connection a turn. Its client hears only what its story has."""
         client = self.clients[conn]
         *_, [came], [counts], [heard] = self.probe.ask_each(client.commands())
-        client.follow(int(counts.split()[2]), bytes.fromhex(heard.removeprefix("heard ").strip("-")))
+        client.follow(
+            int(counts.split()[2]), bytes.fromhex(heard.removeprefix("heard ").strip("-"))
+        )
         return plain(came)
 
     def serve_on(self, conn: int) -> None:
@@ -119,13 +130,16 @@ class Fixture:
         return parts_of(self.probe.ask(f"state {conn}"))["phase"]
 
     def tell_both(self) -> None:
-        """Serves both, turn by turn, until both stories are at their ends. No connection is lost."""
+        """Serves both, turn by turn, until both stories are at their ends. No connection is
+        lost."""
         for _ in range(MOST_TURNS):
             if self.is_content(0) and self.is_content(1):
                 return
             self.serve_on(0)
             self.serve_on(1)
-        raise Difference("both stories to be told", f"{self.clients[0].told} and {self.clients[1].told} lines")
+        raise Difference(
+            "both stories to be told", f"{self.clients[0].told} and {self.clients[1].told} lines"
+        )
 
     def counts(self, conn: int) -> list[str]:
         """Its reads, its writes, its bytes that were read, and how often it was lost."""
@@ -208,7 +222,13 @@ def cases_of(suite: Suite) -> Iterator[Case]:
     for conn in (0, 1):
         for line, place, way in script.troubles:
             for number in range(1, counts[place] + 1):
-                yield Case(f"client {conn}: {place} {number} {way}", line.at, functools.partial(suite.break_off, conn, f"{place} {number} {str(way == 'ends').lower()}"))
+                yield Case(
+                    f"client {conn}: {place} {number} {way}",
+                    line.at,
+                    functools.partial(
+                        suite.break_off, conn, f"{place} {number} {str(way == 'ends').lower()}"
+                    ),
+                )
 
 
 def cases() -> Iterator[Case]:

@@ -1,13 +1,14 @@
 """Storms of hostile bytes: tests/cases/*.storm.
 
-In each round the bytes of one dialogue are changed, as random numbers from the seed and the round's number decide:
-bits are turned, spans left out, repeated, replaced or put in, halves swapped, the end cut off, or all replaced. A
-host gets them on connection 0 beside two that are bound, and acts after each record, or writes a note; or a
-terminal gets them, and keys are pressed. The terminal's model is drawn: if the dialogue has a model 2's type, the
-bytes have the type of that model. That is done three times: whole, in random pieces, and byte by byte. The results
-must be the same: how many bytes are taken and why no more, and all that is to be seen of the connection or the
-terminal. The two other connections must be as at a host with no third client, and the LU of the connection that got
-the bytes must be granted again, at once if the host closed it. A file has these lines:
+In each round the bytes of one dialogue are changed, as random numbers from the seed and the round's
+number decide: bits are turned, spans left out, repeated, replaced or put in, halves swapped, the
+end cut off, or all replaced. A host gets them on connection 0 beside two that are bound, and acts
+after each record, or writes a note; or a terminal gets them, and keys are pressed. The terminal's
+model is drawn: if the dialogue has a model 2's type, the bytes have the type of that model. That is
+done three times: whole, in random pieces, and byte by byte. The results must be the same: how many
+bytes are taken and why no more, and all that is to be seen of the connection or the terminal. The
+two other connections must be as at a host with no third client, and the LU of the connection that
+got the bytes must be granted again, at once if the host closed it. A file has these lines:
 
     # A comment; blank lines are ignored.
     | TEXT           a line of the text of the host's panels
@@ -37,7 +38,18 @@ NOTE = spelt("NOTE".encode("cp037"))
 MOST_CHANGES = 3
 SPAN_LIMIT = 24
 PIECE_LIMIT = 12
-KEYS = ["type A", "type A", "key tab", "key enter", "key enter", "key eraseeof", "key reset", "key clear", "", ""]
+KEYS = [
+    "type A",
+    "type A",
+    "key tab",
+    "key enter",
+    "key enter",
+    "key eraseeof",
+    "key reset",
+    "key clear",
+    "",
+    "",
+]
 
 
 @dataclasses.dataclass
@@ -73,7 +85,10 @@ class Script:
 
 def drawn(chance: random.Random, count: int) -> bytes:
     """Any bytes, and as often as not such that mean something."""
-    return bytes(chance.choice(MEANING) if chance.randrange(2) else chance.randrange(256) for _ in range(count))
+    return bytes(
+        chance.choice(MEANING) if chance.randrange(2) else chance.randrange(256)
+        for _ in range(count)
+    )
 
 
 def of_span(chance: random.Random, change: str, span: bytes) -> bytes:
@@ -93,7 +108,9 @@ def of_span(chance: random.Random, change: str, span: bytes) -> bytes:
 
 def changed(chance: random.Random, data: bytes) -> bytes:
     """Bytes after a change at a place, and there of a span of them."""
-    change = chance.choice(["flip", "replace", "insert", "leave out", "repeat", "cut", "swap", "noise"])
+    change = chance.choice(
+        ["flip", "replace", "insert", "leave out", "repeat", "cut", "swap", "noise"]
+    )
     place = chance.randrange(len(data) + 1)
     front, rest = data[:place], data[place:]
     match change:
@@ -109,7 +126,8 @@ def changed(chance: random.Random, data: bytes) -> bytes:
 
 
 def sections(data: bytes) -> list[bytes]:
-    """Bytes up to each two that end a record or a subnegotiation. However they are cut, the end does something behind these."""
+    """Bytes up to each two that end a record or a subnegotiation. However they are cut, the end
+    does something behind these."""
     found, start = [], 0
     for place in range(1, len(data)):
         if data[place - 1 : place + 1] in (b"\xff\xef", b"\xff\xf0") and place > start:
@@ -134,18 +152,22 @@ def pieces_of(cutting: str, chance: random.Random, section: bytes) -> list[bytes
 
 @dataclasses.dataclass
 class End:
-    """An end that gets bytes: how the probe is told to feed it, and what it does by a drawn number, if anything."""
+    """An end that gets bytes: how the probe is told to feed it, and what it does by a drawn number,
+    if anything."""
 
     probe: Probe
     feed: str
     stirs: Callable[[int], str]
 
     def take(self, data: bytes, cutting: str, seed: str) -> str:
-        """The end gets bytes, up to one at which it stops. How many it took, and what stopped it."""
+        """The end gets bytes, up to one at which it stops. How many it took, and what stopped
+        it."""
         cuts, stirs = random.Random(f"cuts {seed}"), random.Random(f"stirs {seed}")
         taken = 0
         for section in sections(data):
-            answers = self.probe.ask_all([f"{self.feed} {spelt(piece)}" for piece in pieces_of(cutting, cuts, section)])
+            answers = self.probe.ask_all(
+                [f"{self.feed} {spelt(piece)}" for piece in pieces_of(cutting, cuts, section)]
+            )
             for (answer,) in answers:
                 count, _, stop = plain(answer).partition(" ")
                 taken += int(count)
@@ -205,7 +227,8 @@ class Hosts:
         return [fed, *self.probe.ask("see 0")]
 
     def inherit(self) -> None:
-        """The LU of the connection is granted again: at once if the host closed it, else once it is lost."""
+        """The LU of the connection is granted again: at once if the host closed it, else once it is
+        lost."""
         if not phase(self.probe, 0).startswith("closed"):
             self.probe.ask("closed 0")
         name, data = self.script.heir
@@ -254,8 +277,12 @@ def cases() -> Iterator[Case]:
         for line in lines_of(path):
             if line.text.strip() and not line.text.startswith("#"):
                 script.take(line)
-        ends = functools.cache(lambda subject, script=script: (Hosts if subject == "host" else Terminals)(script))
+        ends = functools.cache(
+            lambda subject, script=script: (Hosts if subject == "host" else Terminals)(script)
+        )
         for number in range(1, script.count + 1):
             seed = f"seed {script.seed} round {number}"
             line, subject, name, data = random.Random(f"dialogue {seed}").choice(script.dialogues)
-            yield Case(f"{name}, {seed}", line.at, functools.partial(strike, ends, subject, data, seed))
+            yield Case(
+                f"{name}, {seed}", line.at, functools.partial(strike, ends, subject, data, seed)
+            )

@@ -1,15 +1,19 @@
 """What each crate exports is agreed, or listed in docs/DECISIONS.md.
 
-tests/surface.agreed lists the agreed items: a line `CRATE: ITEM ..`, and further lines of it begin with blanks. DECISIONS.md lists in
-the section "The public surface" what differs from them: in its table of crates, the items that a crate has beside the agreed ones.
+tests/surface.agreed lists the agreed items: a line `CRATE: ITEM ..`, and further lines of it begin
+with blanks. DECISIONS.md lists in the section "The public surface" what differs from them: in its
+table of crates, the items that a crate has beside the agreed ones.
 
-An item is a function, struct, enum, trait, constant, static or type that the crate's root exports, the module of a `pub mod`, and of
-a type or trait also each public function, constant and variant: `Addr`, `Addr::new`, `Cell::Char`. An item that DECISIONS.md names
-is there in backquotes. A name without its type, as `forward` behind `Addr::all`, is a function of the type that was named last, or
-of the crate. A type that it names, and that isn't agreed, comes with all that is below it; an agreed enum whose variants aren't agreed
-comes with these. A crate with the entry `all` has no agreed items. Modules `laws` are left out: the page speaks of them once.
+An item is a function, struct, enum, trait, constant, static or type that the crate's root exports,
+the module of a `pub mod`, and of a type or trait also each public function, constant and variant:
+`Addr`, `Addr::new`, `Cell::Char`. An item that DECISIONS.md names is there in backquotes. A name
+without its type, as `forward` behind `Addr::all`, is a function of the type that was named last, or
+of the crate. A type that it names, and that isn't agreed, comes with all that is below it; an
+agreed enum whose variants aren't agreed comes with these. A crate with the entry `all` has no
+agreed items. Modules `laws` are left out: the page speaks of them once.
 
-A crate is a case. It fails for each item that is in neither, and for each item that one of the two names and the crate doesn't have.
+A crate is a case. It fails for each item that is in neither, and for each item that one of the two
+names and the crate doesn't have.
 """
 import functools
 import re
@@ -24,7 +28,9 @@ SECTION, NEXT = "## The public surface\n", "## Names that stay\n"
 # The head of the table of crates, and what an entry says of a crate without agreed items.
 CRATES, ALL = "| Crate | Items |\n", "all"
 
-ITEM = re.compile(r"(?:#\[[^\]]*\]\s*)*pub (?:const fn|fn|struct|enum|trait|const|static|type) (\w+)")
+ITEM = re.compile(
+    r"(?:#\[[^\]]*\]\s*)*pub (?:const fn|fn|struct|enum|trait|const|static|type) (\w+)"
+)
 INNER = re.compile(r"\s+pub (?:const fn|fn|const) (\w+)")
 IMPL = re.compile(r"impl(?:<.*?>)? (?:(?:\w+::)*\w+(?:<.*>)? for )?(\w+)")
 VARIANT = re.compile(r"    ([A-Z]\w*)\b")
@@ -85,7 +91,11 @@ def exported(crate):
         for it in (names or name).replace("\n", " ").split(","):
             if it := it.strip():
                 # The module may take it from one below it.
-                path = min((path for path in files if it in files[path].items), key=lambda path: path.stem != module, default=None)
+                path = min(
+                    (path for path in files if it in files[path].items),
+                    key=lambda path: path.stem != module,
+                    default=None,
+                )
                 if path is None:
                     raise BadCase(f"{crate} has no item {it}, which its root exports")
                 add(it, path, files[path].items[it])
@@ -127,7 +137,8 @@ def decided(text):
 
 
 def named(entry):
-    """The items of an entry. A name without a type belongs to the type named last, or to the crate."""
+    """The items of an entry. A name without a type belongs to the type named last, or to the
+    crate."""
     of = None
     for span in SPAN.findall(entry):
         found = NAME.fullmatch(span)
@@ -154,7 +165,9 @@ def differences(crate: str) -> Iterator[str]:
     for item, (path, number) in sorted(items.items(), key=lambda it: (str(it[1][0]), it[1][1])):
         of = item.partition("::")[0]
         is_new = of in known - wanted
-        is_open = item in variants and of in wanted and not variants & {it for it in wanted if it.startswith(f"{of}::")}
+        is_open = item in variants and of in wanted and not variants & {
+            it for it in wanted if it.startswith(f"{of}::")
+        }
         if item not in known and not is_new and not is_open:
             yield f"{path}:{number}: {item} is in neither"
     for item in sorted(wanted - set(items)):
@@ -177,4 +190,6 @@ def check_crate(crate: str) -> None:
 def cases() -> Iterator[Case]:
     for root in sorted(TOP.glob("crates/*/src/lib.rt")):
         crate = root.parent.parent.name
-        yield Case(crate, Place(f"crates/{crate}/src/lib.rt", 1), functools.partial(check_crate, crate))
+        yield Case(
+            crate, Place(f"crates/{crate}/src/lib.rt", 1), functools.partial(check_crate, crate)
+        )

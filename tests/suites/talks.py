@@ -38,10 +38,16 @@ OTHERS = {
 }
 # With those about TN3270E itself, of which one closes.
 HOST_ITEMS = OTHERS | {
-    "Wont 28": None, "Dont 28": "-; Nothing", "Do 28": "FFFC28; Opt(Wont, 40)", "Will 28": "-; Nothing",
+    "Wont 28": None,
+    "Dont 28": "-; Nothing",
+    "Do 28": "FFFC28; Opt(Wont, 40)",
+    "Will 28": "-; Nothing",
 }
 TERMINAL_ITEMS = OTHERS | {
-    "Dont 28": None, "Wont 28": "-; Nothing", "Will 28": "FFFE28; Opt(Dont, 40)", "Do 28": "-; Nothing",
+    "Dont 28": None,
+    "Wont 28": "-; Nothing",
+    "Will 28": "FFFE28; Opt(Dont, 40)",
+    "Do 28": "-; Nothing",
 }
 
 
@@ -60,13 +66,16 @@ def asks_for_functions(countered: str, agreed: str) -> dict[str, str]:
 
 
 GRANTED = asks_for_functions("Countered(Model2, A)", "Agreed(Model2, A)")
-# Of each state the commands that lead there from the state above, and the items with a meaning there.
+# Of each state the commands that lead there from the state above, and the items with a meaning
+# there.
 HOST = {
     "Offered": ([], {"Will 28": "FFFA280802FFF0; Sub(SendType, Going); Asked"}),
     "Asked": (["hears Will 28"], {"DEVICE-TYPE REQUEST": "-; AskPool(None); Asking(Model2)"}),
     "Asking(Model2)": ([f"hears sub 280207{TYPE}"], {}),
     "Named(Model2, A)": (["granted 41"], GRANTED),
-    "Countered(Model2, A)": ([f"hears sub {OFFER}"], {**GRANTED, "FUNCTIONS IS {2}": "-; Agreed; Agreed(Model2, A)"}),
+    "Countered(Model2, A)": (
+        [f"hears sub {OFFER}"], {**GRANTED, "FUNCTIONS IS {2}": "-; Agreed; Agreed(Model2, A)"}
+    ),
     "Agreed(Model2, A)": (["hears sub 28030402"], {}),
 }
 TERMINAL = {
@@ -88,8 +97,11 @@ TERMINAL = {
 }
 
 
-def answers(state: str, meanings: dict[str, str], items: dict[str, str | None]) -> Iterator[tuple[str, str]]:
-    """Each item, and the answer to it in this state, which no message has a meaning in but these."""
+def answers(
+    state: str, meanings: dict[str, str], items: dict[str, str | None]
+) -> Iterator[tuple[str, str]]:
+    """Each item, and the answer to it in this state, which no message has a meaning in but
+    these."""
     for item, reply in items.items():
         yield item, meanings.get(item) or (f"{reply}; {state}" if reply else closes("NoTn3270e"))
     for message, item in MESSAGES.items():
@@ -110,16 +122,27 @@ def items_in_states() -> Iterator[tuple[str, list[str], str, str]]:
         before = [start]
         for state, (steps, meanings) in states.items():
             before = before + steps
-            yield from ((state, before, f"{call} {item}", wanted) for item, wanted in answers(state, meanings, items))
+            yield from (
+                (state, before, f"{call} {item}", wanted)
+                for item, wanted in answers(state, meanings, items)
+            )
         closing = [start, f"{call} sub 28"]
-        yield from (("Closed", closing, f"{call} {item}", closes("BadTalk")) for item in (*items, *MESSAGES.values()))
+        yield from (
+            ("Closed", closing, f"{call} {item}", closes("BadTalk"))
+            for item in (*items, *MESSAGES.values())
+        )
     refused = ["terminal 2", "takes Do 28", "takes sub 280802", "takes sub 2802060503"]
     dropped = "-; Nothing; Refused(Reason(3))"
-    yield from (("Refused", refused, f"takes {item}", dropped) for item in (*TERMINAL_ITEMS, *MESSAGES.values()))
+    yield from (
+        ("Refused", refused, f"takes {item}", dropped)
+        for item in (*TERMINAL_ITEMS, *MESSAGES.values())
+    )
 
 
 def cases() -> Iterator[Case]:
     yield from blocks(CASES / "talks.blocks", "talks", named)
     at = Place("tests/suites/talks.py", items_in_states.__code__.co_firstlineno)
     for state, before, command, wanted in items_in_states():
-        yield Case(f"{state}: {command}", at, functools.partial(check_item, before, command, wanted))
+        yield Case(
+            f"{state}: {command}", at, functools.partial(check_item, before, command, wanted)
+        )

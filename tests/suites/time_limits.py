@@ -4,8 +4,21 @@ import time
 
 from harness.case import Checks, expect
 from harness.hosts import (
-    DO, ENTER, FIRST_WRITE, FUNCTIONS_IS, FUNCTIONS_REQUEST, INV_DEVICE_TYPE, MOST_CONNECTIONS, NEXT_WRITE, NOP, Server, WILL,
-    device_type, event, in_seconds, until,
+    DO,
+    ENTER,
+    FIRST_WRITE,
+    FUNCTIONS_IS,
+    FUNCTIONS_REQUEST,
+    INV_DEVICE_TYPE,
+    MOST_CONNECTIONS,
+    NEXT_WRITE,
+    NOP,
+    Server,
+    WILL,
+    device_type,
+    event,
+    in_seconds,
+    until,
 )
 
 check = Checks()
@@ -20,7 +33,8 @@ NEGOTIATION = WILL + device_type(7, None) + FUNCTIONS_REQUEST
 
 @check
 def a_negotiation_that_stalls_is_dropped():
-    """A client that stops at any byte of the negotiation is dropped after the limit, and others are served meanwhile."""
+    """A client that stops at any byte of the negotiation is dropped after the limit, and others are
+    served meanwhile."""
     with Server("serve", "--negotiate", "2") as host:
         bound = host.client().signs_on("PNL01")
         stalled = [host.client() for _ in NEGOTIATION]
@@ -34,7 +48,12 @@ def a_negotiation_that_stalls_is_dropped():
                     pass
         in_seconds(1, 10, "all end", all_end)
         bound.enters()
-        until("its log", lambda: len([it for it in host.events() if it.endswith("event=no-agreement")]) == len(stalled))
+        until(
+            "its log",
+            lambda: len([it for it in host.events() if it.endswith("event=no-agreement")]) == len(
+                stalled
+            ),
+        )
         host.client().signs_on("PNL02").enters()
         time.sleep(2.2)
         bound.enters()
@@ -42,7 +61,8 @@ def a_negotiation_that_stalls_is_dropped():
 
 @check
 def silent_clients_make_room_again():
-    """64 clients that say nothing are dropped after the limit; until then one more is turned away."""
+    """64 clients that say nothing are dropped after the limit; until then one more is turned
+    away."""
     with Server("serve", "--negotiate", "1") as host:
         silent = [host.client() for _ in range(MOST_CONNECTIONS)]
         for client in silent:
@@ -51,12 +71,17 @@ def silent_clients_make_room_again():
         for client in silent:
             client.hears_the_end()
         host.client().signs_on("PNL01").enters()
-        expect("are dropped", sum(it.endswith("event=no-agreement") for it in host.events()), MOST_CONNECTIONS)
+        expect(
+            "are dropped",
+            sum(it.endswith("event=no-agreement") for it in host.events()),
+            MOST_CONNECTIONS,
+        )
 
 
 @check
 def a_silent_client_is_kept_alive():
-    """A bound client that is silent hears NOP each time the limit passes, goes on afterwards, and one that negotiates hears none."""
+    """A bound client that is silent hears NOP each time the limit passes, goes on afterwards, and
+    one that negotiates hears none."""
     with Server("serve", "--keepalive", "1") as host:
         client, talking = host.client().signs_on("PNL01"), host.client()
         talking.is_asked()
@@ -65,15 +90,22 @@ def a_silent_client_is_kept_alive():
             in_seconds(0.8, 3, "NOP comes", client.hears_nop)
         client.enters()
         talking.says(NOP)
-        expect("one that negotiates hears", bool(select.select([talking.socket], [], [], 1.5)[0]), False)
+        expect(
+            "one that negotiates hears",
+            bool(select.select([talking.socket], [], [], 1.5)[0]),
+            False,
+        )
 
 
 @check
 def an_idle_client_is_dropped():
-    """A client that says nothing for as long as the limit is dropped at any moment of its session; one that says something isn't."""
+    """A client that says nothing for as long as the limit is dropped at any moment of its session;
+    one that says something isn't."""
     with Server("serve", "--idle", "2", lus=[f"LU{it}" for it in range(8)]) as host:
         other = host.client().signs_on("LU0")
-        silent, bound, entered = host.client(), host.client().signs_on("LU1"), host.client().signs_on("LU2")
+        silent, bound, entered = host.client(), host.client().signs_on(
+            "LU1"
+        ), host.client().signs_on("LU2")
         entered.enters()
         inside = host.client().signs_on("LU3")
         inside.says(b"\x00\x00\x00\x00\x00", ENTER[:3])
@@ -86,12 +118,29 @@ def an_idle_client_is_dropped():
         other.enters()
         host.client().signs_on("LU1").enters()
         ends = [it for it in host.events() if "event=idle" in it]
-        expect("ends", sorted(ends), sorted([event(1, silent, "idle"), *(event(*it) for it in ((2, bound, "idle turns=0"), (3, entered, "idle turns=1"), (4, inside, "idle turns=0")))]))
+        expect(
+            "ends",
+            sorted(ends),
+            sorted(
+                [
+                    event(1, silent, "idle"),
+                    *(
+                        event(*it)
+                        for it in (
+                            (2, bound, "idle turns=0"),
+                            (3, entered, "idle turns=1"),
+                            (4, inside, "idle turns=0"),
+                        )
+                    ),
+                ]
+            ),
+        )
 
 
 @check
 def a_paint_under_way_is_no_idleness():
-    """A client that takes longer than the limit to confirm a screen isn't dropped; it is, as long after that as the limit says."""
+    """A client that takes longer than the limit to confirm a screen isn't dropped; it is, as long
+    after that as the limit says."""
     with Server("serve", "--idle", "1") as host:
         slow = host.client()
         slow.is_asked()
@@ -117,7 +166,11 @@ def without_limits_nobody_is_dropped():
         silent.hears(DO)
         client.hears_nop()
         time.sleep(2)
-        expect("hear something", bool(select.select([client.socket, silent.socket], [], [], 0)[0]), False)
+        expect(
+            "hear something",
+            bool(select.select([client.socket, silent.socket], [], [], 0)[0]),
+            False,
+        )
         client.enters()
 
 

@@ -7,7 +7,18 @@ import socket
 import time
 
 from harness.case import Checks, expect
-from harness.hosts import Client, DO_OTHER, NOP, Server, WONT_OTHER, event, free_port, panels, run, until
+from harness.hosts import (
+    Client,
+    DO_OTHER,
+    NOP,
+    Server,
+    WONT_OTHER,
+    event,
+    free_port,
+    panels,
+    run,
+    until,
+)
 
 check = Checks()
 cases = check.cases
@@ -35,7 +46,8 @@ def idles(process):
 
 @check
 def it_waits_where_nothing_is_done():
-    """A turn waits for 10 milliseconds if nothing was done before it and nothing comes: 100 such turns take a second."""
+    """A turn waits for 10 milliseconds if nothing was done before it and nothing comes: 100 such
+    turns take a second."""
     begun = time.monotonic()
     came = run(["host", "--port", free_port(), "--turns", 100], panels("PNL01"))
     took = time.monotonic() - begun
@@ -46,7 +58,8 @@ def it_waits_where_nothing_is_done():
 
 
 def waits_until_answered(host, client):
-    """How often a host waits that finds 12 reads' bytes at once, until it answers the last of them."""
+    """How often a host waits that finds 12 reads' bytes at once, until it answers the last of
+    them."""
     host.process.send_signal(signal.SIGSTOP)
     until("a host stops", lambda: state(host.process)[0] == "T")
     before = waits(host.process)
@@ -58,11 +71,13 @@ def waits_until_answered(host, client):
 
 @check
 def it_goes_on_at_once_where_something_was_done():
-    """A turn in which bytes came isn't followed by one that waits: no event tells of the bytes that it left."""
+    """A turn in which bytes came isn't followed by one that waits: no event tells of the bytes that
+    it left."""
     for words in (["serve"], ["host", "--turns", "1000000"]):
         with Server(*words) as host:
             client = host.client().signs_on("PNL01")
-            # It waits on behind the answer, until this program has the processor again; so the least of some counts.
+            # It waits on behind the answer, until this program has the processor again; so the
+            # least of some counts.
             counts = (waits_until_answered(host, client) for _ in range(20))
             expect(f"{words[0]} waits at each of 12 reads", all(it >= 10 for it in counts), False)
 
@@ -76,17 +91,23 @@ def unread(host, client):
 
 @check
 def it_does_not_read_what_it_can_not_answer():
-    """A client that reads no answers isn't read from, while others are served; once it reads, all of its answers come, and it goes on."""
+    """A client that reads no answers isn't read from, while others are served; once it reads, all
+    of its answers come, and it goes on."""
     # What the host's socket takes to send (tcp(7)), and some more.
     most = int(pathlib.Path("/proc/sys/net/ipv4/tcp_wmem").read_text().split()[2]) + (1 << 20)
     with Server("serve") as host:
-        # To a client that takes small segments a system makes less room to send, so that fewer answers fill it.
-        client, other, asked = Client(host.port, 536).signs_on("PNL01"), host.client().signs_on("PNL02"), 0
+        # To a client that takes small segments a system makes less room to send, so that fewer
+        # answers fill it.
+        client, other, asked = Client(host.port, 536).signs_on("PNL01"), host.client().signs_on(
+            "PNL02"
+        ), 0
         while not unread(host, client):
             expect("more is read than can be answered", asked > most, False)
             for _ in range(2):
                 if select.select([], [client.socket], [], 0.01)[1]:
-                    asked += client.socket.send((DO_OTHER * 16384)[asked % 3 :], socket.MSG_DONTWAIT)
+                    asked += client.socket.send(
+                        (DO_OTHER * 16384)[asked % 3 :], socket.MSG_DONTWAIT
+                    )
             until("a host has nothing to do", lambda: idles(host.process))
         other.enters()
         for first in range(0, asked // 3, 65536):

@@ -1,12 +1,14 @@
-"""Walks through the README and the pages for users as a new user would: runs their commands on a fresh clone, without the proved program.
+"""Walks through the README and the pages for users as a new user would: runs their commands on a
+fresh clone, without the proved program.
 
-A command is a line `$ COMMAND` of an indented block, with the lines below it, which it prints; or a whole block without such a line. The
-table STEPS says by a command's beginning what is done with it, or why it isn't run, so that a new one isn't forgotten. `bin/quick` takes
-the program's place, and free ports that of 3270 and 8080. What the suites examples and printed compare is left to them; they are run
-at the end. Files and jobs that a sentence names have to be there.
+A command is a line `$ COMMAND` of an indented block, with the lines below it, which it prints; or a
+whole block without such a line. The table STEPS says by a command's beginning what is done with it,
+or why it isn't run, so that a new one isn't forgotten. `bin/quick` takes the program's place, and
+free ports that of 3270 and 8080. What the suites examples and printed compare is left to them; they
+are run at the end. Files and jobs that a sentence names have to be there.
 
-The clone has what is committed. A page is a case, since its commands build on each other. It takes two to three minutes, mostly of the
-compiler.
+The clone has what is committed. A page is a case, since its commands build on each other. It takes
+two to three minutes, mostly of the compiler.
 """
 import atexit
 import functools
@@ -32,7 +34,11 @@ from harness.case import TOP, Case, Difference, Place, of_function
 from harness.hosts import free_port
 
 LONG = True
-PAGES = ["README.md", "examples/README.md", *(f"docs/{it}.md" for it in ("USING", "OPERATING", "APPLICATIONS", "PROTOCOL"))]
+PAGES = [
+    "README.md",
+    "examples/README.md",
+    *(f"docs/{it}.md" for it in ("USING", "OPERATING", "APPLICATIONS", "PROTOCOL")),
+]
 # Seconds to wait for the compiler, and for anything else.
 COMPILING, PATIENCE = 600, 60
 PROVED = "crates/panel3270/out/panel3270"
@@ -60,7 +66,10 @@ class Command:
         """How many lines it has: those behind a backslash are part of it."""
         if not self.is_prompted:
             return len(self.lines)
-        return next((at for at, line in enumerate(self.lines, 1) if not line.endswith("\\")), len(self.lines))
+        return next(
+            (at for at, line in enumerate(self.lines, 1) if not line.endswith("\\")),
+            len(self.lines),
+        )
 
     @property
     def text(self):
@@ -134,7 +143,14 @@ class Walk:
     def ran(self, text, stdin="", folder=".", patience=PATIENCE):
         """What a shell's command printed on its two outputs, and its status."""
         pipes = dict.fromkeys(("stdin", "stdout", "stderr"), subprocess.PIPE)
-        run = subprocess.Popen(["sh", "-c", text], cwd=self.clone / folder, env=self.env, text=True, start_new_session=True, **pipes)
+        run = subprocess.Popen(
+            ["sh", "-c", text],
+            cwd=self.clone / folder,
+            env=self.env,
+            text=True,
+            start_new_session=True,
+            **pipes,
+        )
         try:
             out, said = run.communicate(stdin, patience)
         except subprocess.TimeoutExpired:
@@ -156,18 +172,28 @@ class Walk:
         self.prints(command, self.here("panel3270 term --port 3270"), wanted, script)
 
     def start(self, command, text, port, says, log=None, patience=PATIENCE):
-        """Starts what listens at a port, in place of what did, and waits until it listens and says so."""
+        """Starts what listens at a port, in place of what did, and waits until it listens and says
+        so."""
         self.end(port)
         log = log or self.place / f"said-{port}"
         with open(self.place / f"said-{port}", "w") as said:
             words = f"{text} wait" if text.endswith("&") else f"exec {text}"
             self.running[port] = run = subprocess.Popen(
-                ["sh", "-c", words], cwd=self.clone, env=self.env, stdin=subprocess.DEVNULL, stdout=said, stderr=said, start_new_session=True
+                ["sh", "-c", words],
+                cwd=self.clone,
+                env=self.env,
+                stdin=subprocess.DEVNULL,
+                stdout=said,
+                stderr=said,
+                start_new_session=True,
             )
         end = time.monotonic() + patience
         while not is_listening(self.ports[port]) or self.here(says) not in log.read_text():
             if run.poll() is not None or time.monotonic() > end:
-                command.fails(f"`{text}` listens and says {self.here(says)!r}", f"status {run.poll()}:\n{log.read_text()}")
+                command.fails(
+                    f"`{text}` listens and says {self.here(says)!r}",
+                    f"status {run.poll()}:\n{log.read_text()}",
+                )
             time.sleep(0.05)
 
     def end(self, *ports):
@@ -213,13 +239,17 @@ def refuses_first(walk, command):
             text = f"bin/quick serve {words} --panels examples/bank.toml"
             command.expects(f"`{text}` at a port that is taken", walk.ran(text), wanted)
     text = f"bin/quick serve --port {free_port()} --panels none.toml"
-    command.expects(f"`{text}`", walk.ran(text), ("", "quick: none.toml: No such file or directory\n", 1))
+    command.expects(
+        f"`{text}`", walk.ran(text), ("", "quick: none.toml: No such file or directory\n", 1)
+    )
 
 
 def passes_all_on(walk, command):
     """Once the program is there: a path of another folder, the status, a signal."""
     got = walk.ran("../bin/quick check first.toml", folder="examples")
-    command.expects("bin/quick in another folder", got, ("ok: 2 panels, 1 field, 2 LUs\n", COMPILED, 0))
+    command.expects(
+        "bin/quick in another folder", got, ("ok: 2 panels, 1 field, 2 LUs\n", COMPILED, 0)
+    )
     command.expects("the status of a wrong word", walk.ran("bin/quick nonsense")[2], 2)
     host = walk.running[HOST]
     host.terminate()
@@ -231,7 +261,9 @@ def prefers_the_proved(walk, command):
     compiled, proved = walk.ran("bin/quick --which")[0], walk.clone / PROVED
     proved.parent.mkdir()
     shutil.copy(compiled.strip(), proved)
-    command.expects("bin/quick with a proved program", walk.ran("bin/quick --which")[0], f"{proved}\n")
+    command.expects(
+        "bin/quick with a proved program", walk.ran("bin/quick --which")[0], f"{proved}\n"
+    )
     os.utime(proved, (0, 0))
     command.expects("bin/quick with an older one", walk.ran("bin/quick --which")[0], compiled)
     shutil.rmtree(proved.parent)
@@ -306,7 +338,8 @@ def sign_on_script(walk, command):
 
 
 def installs(walk, command):
-    """As root would, in a folder of its own in place of the root; then what the unit for systemd starts listens."""
+    """As root would, in a folder of its own in place of the root; then what the unit for systemd
+    starts listens."""
     root = walk.place / "root"
     (root / "usr/local/bin").mkdir(parents=True)
     lines = re.sub("^# ", "", command.text, flags=re.M).replace(PROVED, '"$(bin/quick --which)"')
@@ -319,12 +352,21 @@ def installs(walk, command):
 def has_the_toolchain(walk, command):
     """The command itself takes an hour, and `rt ci` does the same."""
     named = re.search(r"`rt version` must end with `(.*)`", walk.read(command.page))[1]
-    command.expects("the end of `rt version`", walk.ran("rt version")[0].strip()[-len(named) :], named)
+    command.expects(
+        "the end of `rt version`", walk.ran("rt version")[0].strip()[-len(named) :], named
+    )
 
 
 def same_as_ci(walk, command):
-    ran = [it.removesuffix(" > /dev/null") for it in walk.read(".ci/run").splitlines() if re.match(r"(rt|[a-z-]+/[a-z]+)\b", it)]
-    command.expects("the test command is that of .ci/run", re.sub(r"^RT_JOBS=\S+ ", "", command.text).split(" && "), ran)
+    ran = [
+        it.removesuffix(" > /dev/null")
+        for it in walk.read(".ci/run").splitlines() if re.match(r"(rt|[a-z-]+/[a-z]+)\b", it)
+    ]
+    command.expects(
+        "the test command is that of .ci/run",
+        re.sub(r"^RT_JOBS=\S+ ", "", command.text).split(" && "),
+        ran,
+    )
 
 
 def lines_of(name):
@@ -393,7 +435,8 @@ STEPS = {
 
 
 def step_of(command):
-    """The beginning of the entry of STEPS for a command; None if its output is compared elsewhere, "" if there is no entry."""
+    """The beginning of the entry of STEPS for a command; None if its output is compared elsewhere,
+    "" if there is no entry."""
     if command.is_prompted and PROVED in command.lines[0]:
         return None
     return next((it for it in STEPS if command.text.startswith(it)), "")
@@ -447,7 +490,11 @@ def walk_through(page):
 
 def each_step_is_of_a_page():
     """A command of a page begins as each entry of STEPS says."""
-    found = {step_of(it) for page in PAGES for it in commands(page, (TOP / page).read_text(encoding="utf-8"))}
+    found = {
+        step_of(it)
+        for page in PAGES
+        for it in commands(page, (TOP / page).read_text(encoding="utf-8"))
+    }
     unused = sorted(set(STEPS) - found)
     if unused:
         raise Difference("a command of the pages for each entry of STEPS", f"none for {unused}")
@@ -456,9 +503,13 @@ def each_step_is_of_a_page():
 def the_other_output_is_that_of_quick():
     """The suites of what the pages print pass with the program of bin/quick, too."""
     for suite in ("examples:", "printed:"):
-        out, said, status = the_walk().ran(f'PANEL3270="$(bin/quick --which)" tests/run -k "{suite}"', patience=COMPILING)
+        out, said, status = the_walk().ran(
+            f'PANEL3270="$(bin/quick --which)" tests/run -k "{suite}"', patience=COMPILING
+        )
         if status:
-            raise Difference(f"tests/run -k {suite} passes with the program of bin/quick", f"{out}{said}")
+            raise Difference(
+                f"tests/run -k {suite} passes with the program of bin/quick", f"{out}{said}"
+            )
 
 
 def cases() -> Iterator[Case]:

@@ -1,7 +1,7 @@
 """Telnet's wire: items read and written, streams in any pieces, and random streams.
 
-The data are tests/cases/wire.*. What is wanted of random streams is computed here from the rules of RFC 854, 855
-and 885.
+The data are tests/cases/wire.*. What is wanted of random streams is computed here from the rules of
+RFC 854, 855 and 885.
 """
 import dataclasses
 import functools
@@ -29,7 +29,8 @@ class Stream:
     wanted: list[str]
 
     def places(self) -> list[int]:
-        """Where it is cut: everywhere, or, since a long stream takes long, near its begin, its middle and its end."""
+        """Where it is cut: everywhere, or, since a long stream takes long, near its begin, its
+        middle and its end."""
         length = len(self.data)
         if length < 1000:
             return list(range(length + 1))
@@ -73,7 +74,10 @@ def check_resets(stream: Stream) -> None:
         for place in stream.places():
             given(probe, "push", [stream.data[:place]])
             probe.ask("reset")
-            same(f"reset at {place}: ['3 record 07']", f"reset at {place}: {probe.ask('push 07FFEF')}")
+            same(
+                f"reset at {place}: ['3 record 07']",
+                f"reset at {place}: {probe.ask('push 07FFEF')}",
+            )
 
 
 def stream_cases(stream: Stream, name: str, at: Place) -> Iterator[Case]:
@@ -103,7 +107,8 @@ def streams() -> Iterator[Case]:
 
 
 def check_written(line: Line) -> None:
-    """Behind nothing, in a full vector behind other bytes, and in one with room for it, where no memory is taken."""
+    """Behind nothing, in a full vector behind other bytes, and in one with room for it, where no
+    memory is taken."""
     command, spelling = row_of(line)
     with Probe("wire") as probe:
         for old in ("-", "0707"):
@@ -129,7 +134,9 @@ def items() -> Iterator[Case]:
         if line.text.strip() and not line.text.startswith("#"):
             data = bytes.fromhex(row_of(line)[1])
             yield Case(f"{line.text}: written", line.at, lambda line=line: check_written(line))
-            yield from stream_cases(Stream(data, [f"{len(data)} {item_of(line)}"]), line.text, line.at)
+            yield from stream_cases(
+                Stream(data, [f"{len(data)} {item_of(line)}"]), line.text, line.at
+            )
 
 
 class Reading:
@@ -219,7 +226,10 @@ def random_piece(chance: random.Random) -> bytes:
     """Bytes among which IAC and what has a meaning behind it are frequent."""
     special = [255, 255, 255, 239, 240, 250, 251, 252, 253, 254]
     length = chance.choice((0, 1, 3, 8, 30, 300))
-    return bytes(chance.choice(special) if chance.random() < 0.4 else chance.randrange(256) for _ in range(length))
+    return bytes(
+        chance.choice(special) if chance.random() < 0.4 else chance.randrange(256)
+        for _ in range(length)
+    )
 
 
 def check_random(seed: int) -> None:

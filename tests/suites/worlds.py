@@ -4,13 +4,15 @@ A file has headings and lines below them; empty lines and comments (`#`) are ign
 
     panels PANELS         begins a panel text with this name
     | TEXT                a line of it
-    world PANELS NAME     begins a case in a world whose host serves those panels, which are in any of the files
+    world PANELS NAME     begins a case in a world whose host serves those panels, which are in any
+                          of the files
 
-`World` says which lines a case has. A case runs three times side by side: event by event; by lists of events, one
-up to each question; and event by event with each delivery byte by byte. Each must print the lines that the case
-wants, and all three worlds must be the same at the end. After each event of the first run the headline must hold:
-if the host holds the turn with its last command answered, its belief allows the screen, and after Enter or a PF key
-unmodified input is as it was left; and no two sessions have one LU."""
+`World` says which lines a case has. A case runs three times side by side: event by event; by lists
+of events, one up to each question; and event by event with each delivery byte by byte. Each must
+print the lines that the case wants, and all three worlds must be the same at the end. After each
+event of the first run the headline must hold: if the host holds the turn with its last command
+answered, its belief allows the screen, and after Enter or a PF key unmodified input is as it was
+left; and no two sessions have one LU."""
 import dataclasses
 import functools
 import random
@@ -32,7 +34,10 @@ ON_CONNECTION = {"up", "down", "act", "note", "keepalive", "lose", "hostsees"}
 
 # What random events do.
 KEYS = ["enter", "enter", "tab", "reset", "pf1", "pf3", "pa1", "eraseinput", "clear"]
-NOTE = "THE HOST STOPS AT FIVE: FINISH WHAT YOU ARE DOING, SIGN OFF, AND DO NOT SIGN ON BEFORE SIX IN THE EVENING"
+NOTE = (
+    "THE HOST STOPS AT FIVE: FINISH WHAT YOU ARE DOING, SIGN OFF, AND DO NOT SIGN ON "
+    "BEFORE SIX IN THE EVENING"
+)
 EVENTS_FOR_A_LOSS = 500
 ALL = 2**32
 
@@ -59,7 +64,11 @@ class State:
 
     def decides(self, conn: int) -> bool:
         """Whether the host is there, holds the turn, and has its last command answered."""
-        return conn in self.conns and self.conns[conn]["turn"] == "host" and self.conns[conn]["pending"] == "none"
+        return (
+            conn in self.conns
+            and self.conns[conn]["turn"] == "host"
+            and self.conns[conn]["pending"] == "none"
+        )
 
 
 class Watch:
@@ -81,16 +90,24 @@ class Watch:
         if word == "connect":
             self.places[int(number)] = (self.free_number(), True)
         if word == "lose":
-            self.places = [place and (place[0], place[1] and place[0] != int(number)) for place in self.places]
-        self.places = [None if phase == "idle" else place for phase, place in zip(state.terminals, self.places)]
+            self.places = [
+                place and (place[0], place[1] and place[0] != int(number)) for place in self.places
+            ]
+        self.places = [
+            None if phase == "idle" else place for phase, place in zip(state.terminals, self.places)
+        ]
         self.state = state
 
     def decided(self) -> Iterator[tuple[int, int]]:
         """The terminals whose hosts decide now, with their connections."""
-        return ((it, place[0]) for it, place in enumerate(self.places) if place and self.state.decides(place[0]))
+        return (
+            (it, place[0])
+            for it, place in enumerate(self.places) if place and self.state.decides(place[0])
+        )
 
     def sessions(self) -> list[str]:
-        """The phase of each terminal that is bound, on a connection that isn't lost, at whose other end the host is."""
+        """The phase of each terminal that is bound, on a connection that isn't lost, at whose other
+        end the host is."""
         return [
             phase
             for phase, place in zip(self.state.terminals, self.places)
@@ -128,13 +145,18 @@ class Run:
             self.page.append(" ".join(data[place : place + 2] for place in range(0, len(data), 2)))
 
     def left(self, question: str, number: int) -> list[str]:
-        """Whether input was erased since a terminal's last write with restore, or the rows that this left, without blank ones at the end."""
+        """Whether input was erased since a terminal's last write with restore, or the rows that
+        this left, without blank ones at the end."""
         parts = parts_of(self.probe.ask(f"left {number}"))
         if question == "erased":
             return [parts["erased"]]
-        cells = "".join(" " if len(it) == 4 or it == "00" else bytes.fromhex(it).decode("cp037") for it in cells_of(parts["cells"]))
+        cells = "".join(
+            " " if len(it) == 4 or it == "00" else bytes.fromhex(it).decode("cp037")
+            for it in cells_of(parts["cells"])
+        )
         columns = 132 if len(cells) == 3564 else 80
-        return "\n".join(cells[at : at + columns].rstrip() for at in range(0, len(cells), columns)).rstrip("\n").split("\n")
+        rows = [cells[at : at + columns].rstrip() for at in range(0, len(cells), columns)]
+        return "\n".join(rows).rstrip("\n").split("\n")
 
     def look(self) -> list[str]:
         """All that is to be seen of a world."""
@@ -166,12 +188,14 @@ class Later:
 
 
 class World:
-    """A case that runs three times. T is a terminal's number, C a connection's; events of other numbers are skipped.
+    """A case that runs three times. T is a terminal's number, C a connection's; events of other
+    numbers are skipped.
 
     connect T [LU]    the terminal connects, and wants this LU, if one is named
     key T NAME        a key is pressed
     type T TEXT       the keys of these characters are, up to the first that is refused
-    up C N            N of the bytes under way are delivered up to the host, or all if there are fewer
+    up C N            N of the bytes under way are delivered up to the host, or all if there are
+                      fewer
     down C N          N of them are delivered down to the terminal, likewise
     act C             the host acts
     note C TEXT       the host sends this note
@@ -181,11 +205,15 @@ class World:
     termsees T        the terminal sees that
     restartterm T     the terminal restarts
     restarthost       the host restarts
-    random SEED N     N events happen that random numbers from this seed decide, at any terminal and on any connection
-    settle            rounds: on each connection all is delivered up, the host acts, and all is delivered down; up to a round without an event
+    random SEED N     N events happen that random numbers from this seed decide, at any terminal and
+                      on any connection
+    settle            rounds: on each connection all is delivered up, the host acts, and all is
+                      delivered down; up to a round without an event
     show T            what the terminal prints of its screen
-    status T          how far it is with its host: idle, talking, bound LU, refused REASON, or closed CAUSE
-    left T            the rows that the last write with restore left there on this connection, without blank ones at the end
+    status T          how far it is with its host: idle, talking, bound LU, refused REASON, or
+                      closed CAUSE
+    left T            the rows that the last write with restore left there on this connection,
+                      without blank ones at the end
     erased T          whether Erase Input was done since: yes or no
     up? C             the bytes under way to the host
     down? C           the bytes under way to the terminal
@@ -254,10 +282,16 @@ class World:
     def expect_headline(self, command: str) -> None:
         """The headline holds of what is seen now."""
         for terminal, conn in self.watch.decided():
-            seen = self.by_event.probe.ask_each([f"host {conn}", f"terminal {terminal}", f"left {terminal}"], self.line.at)
+            seen = self.by_event.probe.ask_each(
+                [f"host {conn}", f"terminal {terminal}", f"left {terminal}"], self.line.at
+            )
             fault = headline_fault(*map(tuple, seen))
             if fault:
-                raise Difference("the host's belief allows the screen", f"after {command}, terminal {terminal}: {fault}", self.line.at)
+                raise Difference(
+                    "the host's belief allows the screen",
+                    f"after {command}, terminal {terminal}: {fault}",
+                    self.line.at,
+                )
         sessions = self.watch.sessions()
         same(sorted(set(sessions)), sorted(sessions), self.line.at)
 
@@ -281,7 +315,8 @@ class World:
                 return
 
     def go_round(self) -> bool:
-        """All that is under way is delivered, and the host acts, on each connection. Whether something happened."""
+        """All that is under way is delivered, and the host acts, on each connection. Whether
+        something happened."""
         happened = False
         for conn in range(CONNECTIONS):
             if self.is_busy(conn):
@@ -304,7 +339,9 @@ class World:
             try:
                 self.step(command)
             except Difference as found:
-                raise Difference(found.wanted, f"event {place} of seed {seed}, {command}: {found.came}", found.at) from None
+                raise Difference(
+                    found.wanted, f"event {place} of seed {seed}, {command}: {found.came}", found.at
+                ) from None
 
     def catch_up(self) -> None:
         """What happened in the first run happens in the others."""
@@ -367,12 +404,18 @@ def random_at_terminal(chance: random.Random) -> str:
     """Something happens at a terminal."""
     terminal = chance.randrange(TERMINALS)
     return chance.choice(
-        [f"connect {terminal}", f"termsees {terminal}", *[f"char {terminal} A"] * 2, *[f"key {terminal} {chance.choice(KEYS)}"] * 2]
+        [
+            f"connect {terminal}",
+            f"termsees {terminal}",
+            *[f"char {terminal} A"] * 2,
+            *[f"key {terminal} {chance.choice(KEYS)}"] * 2,
+        ]
     )
 
 
 def random_on_connection(chance: random.Random) -> str:
-    """Something happens on a connection. Numbers from 5 on are seldom in use, since a connection has the least free one."""
+    """Something happens on a connection. Numbers from 5 on are seldom in use, since a connection
+    has the least free one."""
     conn = chance.randrange(5)
     count = ALL if chance.randrange(2) else chance.randrange(40)
     return chance.choice(

@@ -1,27 +1,42 @@
-"""Tries the wrong bodies of crates/*/must-fail/wrong-bodies.md: the prover has to refuse each, by a goal of the contract of the function that it is put into.
+"""Tries the wrong bodies of crates/*/must-fail/wrong-bodies.md: the prover has to refuse each, by a
+goal of the contract of the function that it is put into.
 
-A contract is proved function by function, from the contracts of what is called and not from bodies. So the mistakes of a crate are put into a copy of
-it together, a function's second mistake in a second function beside it, and one check of these functions alone tries them all. A wrong body is refused
-where the prover says of its function that it isn't proved, and names a goal of its contract that it couldn't show: such a goal stands on the contracts of what is called, and so on
-no other mistake. Where it names nothing, and says that the function calls another which isn't proved, the mistake is tried again in a next round, without
-those that were refused. A mistake in a constant or a table, which functions share, has a round of its own, unless the page says that no other function reads
-it. Beside the mistakes one function is asked for that stays as it is, and has to be proved; so a check that proves nothing at all is no refusal.
+A contract is proved function by function, from the contracts of what is called and not from bodies.
+So the mistakes of a crate are put into a copy of it together, a function's second mistake in a
+second function beside it, and one check of these functions alone tries them all. A wrong body is
+refused where the prover says of its function that it isn't proved, and names a goal of its contract
+that it couldn't show: such a goal stands on the contracts of what is called, and so on no other
+mistake. Where it names nothing, and says that the function calls another which isn't proved, the
+mistake is tried again in a next round, without those that were refused. A mistake in a constant or
+a table, which functions share, has a round of its own, unless the page says that no other function
+reads it. Beside the mistakes one function is asked for that stays as it is, and has to be proved;
+so a check that proves nothing at all is no refusal.
 
-Which goals count: an `ensures` of the function or an `invariant` of a type. It counts if the prover found values at which the goal is false: then no
-answer proves it. It also counts if no answer is written for a goal of the same clause (proofs/F/Answers.antt): the prover shows that clause of the right
-body alone. It does not count that a written answer no longer fits, that a goal with an answer has another name now, or that a loop does not keep the
-invariant that is written for it (proofs/F/Invariants.antt): a correct body of another shape has the same effect. A line `    answers: none` has a mistake
-tried without the answers of its function, so that the prover looks for values at which their goals are false.
+Which goals count: an `ensures` of the function or an `invariant` of a type. It counts if the prover
+found values at which the goal is false: then no answer proves it. It also counts if no answer is
+written for a goal of the same clause (proofs/F/Answers.antt): the prover shows that clause of the
+right body alone. It does not count that a written answer no longer fits, that a goal with an answer
+has another name now, or that a loop does not keep the
+invariant that is written for it (proofs/F/Invariants.antt): a correct body of another shape has the
+same effect. A line `    answers: none` has a mistake tried without the answers of its function, so
+that the prover looks for values at which their goals are false.
 
-A check proves what the mistakes' functions call, too, and what that calls. So a page names functions that are cut: in the copy they have their contracts, a
-body that calls nothing, and no proof. Only the first round has cuts: what isn't refused then is tried again in the crate as it is.
+A check proves what the mistakes' functions call, too, and what that calls. So a page names
+functions that are cut: in the copy they have their contracts, a body that calls nothing, and no
+proof. Only the first round has cuts: what isn't refused then is tried again in the crate as it is.
 
-`tests/run -k "wrong_bodies CRATE WORD .."` tries those of a crate whose headings have these words. A page has a line `    stays: FUNCTION`, for each cut
-lines `    cut: FUNCTION`, `    file: src/FILE` and `    body: TEXT`, and for each mistake a heading, a line `    function: FUNCTION`, and pairs
-`    old: TEXT`, `    new: TEXT` behind a line `    file: src/FILE`: each TEXT is one line or a part of it, and the old one stands in that file once. FUNCTION
-is a path below the crate. A line `    beside: the others` says of a mistake in a constant that no function reads it but its own; for `    answers: none` see above.
+`tests/run -k "wrong_bodies CRATE WORD .."` tries those of a crate whose headings have these words.
+A page has a line `    stays: FUNCTION`, for each cut
+lines `    cut: FUNCTION`, `    file: src/FILE` and `    body: TEXT`, and for each mistake a
+           heading, a line `    function: FUNCTION`, and pairs
+`    old: TEXT`, `    new: TEXT` behind a line `    file: src/FILE`: each TEXT is one line or a part
+                      of it, and the old one stands in that file once. FUNCTION
+is a path below the crate. A line `    beside: the others` says of a mistake in a constant that no
+                                       function reads it but its own; for `    answers: none` see
+                                       above.
 
-It checks over the libraries in crates/*/out, which `rt ci` builds. A crate's page is tried in one process.
+It checks over the libraries in crates/*/out, which `rt ci` builds. A crate's page is tried in one
+process.
 """
 from __future__ import annotations
 
@@ -59,18 +74,25 @@ class Mistake:
         """Whether it changes nothing in its function, but what functions share."""
         if self.is_beside:
             return False
-        return not any(stands_in((TOP / "crates" / crate / file).read_text(encoding="utf-8"), old, self.function) for file, old, _ in self.changes)
+        return not any(
+            stands_in(
+                (TOP / "crates" / crate / file).read_text(encoding="utf-8"), old, self.function
+            )
+            for file, old, _ in self.changes
+        )
 
 
 def stands_in(text: str, part: str, function: str) -> bool:
-    """Whether a part of a source stands in a function: whether the last one that begins in front of it is that one."""
+    """Whether a part of a source stands in a function: whether the last one that begins in front of
+    it is that one."""
     heads = re.findall(r"\bfn (\w+)", text.partition(part)[0])
     return heads[-1:] == [function.rpartition("::")[2]]
 
 
 @dataclass
 class Cut:
-    """A function that mistakes' functions call, and the body that it has in place of its own: one that calls nothing."""
+    """A function that mistakes' functions call, and the body that it has in place of its own: one
+    that calls nothing."""
 
     function: str
     file: str = ""
@@ -89,7 +111,8 @@ class Page:
 
 @dataclass
 class Goal:
-    """A goal that a check left open: its name, what it says, and whether the prover found values at which it is false."""
+    """A goal that a check left open: its name, what it says, and whether the prover found values at
+    which it is false."""
 
     name: str
     says: str
@@ -101,17 +124,25 @@ class Goal:
 
     def shares_a_clause(self, answered: str) -> bool:
         """Whether it is of the same clause as another goal. One that names no clause covers all."""
-        (kind, _, clause), (other_kind, _, other) = (it.partition("-clause-") for it in (self.name, answered))
-        return kind.partition("-")[0] == other_kind.partition("-")[0] and (clause == other or "" in (clause, other))
+        (kind, _, clause), (other_kind, _, other) = (
+            it.partition("-clause-") for it in (self.name, answered)
+        )
+        return kind.partition("-")[0] == other_kind.partition("-")[0] and (
+            clause == other or "" in (clause, other)
+        )
 
     def is_evidence(self, answered: list[str]) -> bool:
-        """Whether it shows that the body breaks the contract, if these goals of its function have written answers."""
-        return self.is_of_contract() and (self.is_false or not any(self.shares_a_clause(it) for it in answered))
+        """Whether it shows that the body breaks the contract, if these goals of its function have
+        written answers."""
+        return self.is_of_contract() and (
+            self.is_false or not any(self.shares_a_clause(it) for it in answered)
+        )
 
 
 @dataclass
 class Verdict:
-    """What a check said of a function: its last word, the goals that it left open, and the written answers that didn't fit."""
+    """What a check said of a function: its last word, the goals that it left open, and the written
+    answers that didn't fit."""
 
     word: str
     goals: list[Goal] = field(default_factory=list)
@@ -127,14 +158,21 @@ class Verdict:
 
     def without_evidence(self) -> str:
         """What it names, where none of that is evidence."""
-        named = [f"`{it.name}`" for it in self.goals] + [f"the answer to `{it}`" for it in self.unfit]
-        return f"{self.word.partition(';')[0]}, but no goal of its contract shows that: {', '.join(named)}" if named else self.word
+        named = [f"`{it.name}`" for it in self.goals] + [
+            f"the answer to `{it}`" for it in self.unfit
+        ]
+        if not named:
+            return self.word
+        word = self.word.partition(";")[0]
+        return f"{word}, but no goal of its contract shows that: {', '.join(named)}"
 
 
 def page_of(crate: str) -> Page:
     """A crate's page."""
     page, file, old = Page(crate, "", []), "", ""
-    for number, line in enumerate((TOP / "crates" / crate / PAGE).read_text(encoding="utf-8").splitlines(), 1):
+    for number, line in enumerate(
+        (TOP / "crates" / crate / PAGE).read_text(encoding="utf-8").splitlines(), 1
+    ):
         if line.startswith("## "):
             page.mistakes.append(Mistake(line[3:], Place(f"crates/{crate}/{PAGE}", number)))
         key, _, text = line[4:].partition(": ") if line.startswith("    ") else ("", "", "")
@@ -156,12 +194,18 @@ def page_of(crate: str) -> Page:
             old = text
         elif key in ("new", "new:"):
             page.mistakes[-1].changes.append((file, old, text))
-    lacking = [it.title for it in page.mistakes if not it.function or not it.changes] + [it.function for it in page.cuts if not it.file]
+    lacking = [it.title for it in page.mistakes if not it.function or not it.changes] + [
+        it.function for it in page.cuts if not it.file
+    ]
     kept = {page.stays, *[it.function for it in page.mistakes]} & {it.function for it in page.cuts}
     if kept:
-        raise BadCase(f"{', '.join(kept)} can't be cut: it is asked for", Place(f"crates/{crate}/{PAGE}", 1))
+        raise BadCase(
+            f"{', '.join(kept)} can't be cut: it is asked for", Place(f"crates/{crate}/{PAGE}", 1)
+        )
     if lacking or page.stays in ["", *[it.function for it in page.mistakes]] or not page.mistakes:
-        raise BadCase(f"{', '.join(lacking) or 'the page'} lacks a line", Place(f"crates/{crate}/{PAGE}", 1))
+        raise BadCase(
+            f"{', '.join(lacking) or 'the page'} lacks a line", Place(f"crates/{crate}/{PAGE}", 1)
+        )
     return page
 
 
@@ -181,33 +225,42 @@ def put(mistake: Mistake, room: pathlib.Path) -> bool:
 
 
 def proofs_of(function: str) -> str:
-    """The folder of what is written for a function's goals: answers, and invariants of its loops."""
+    """The folder of what is written for a function's goals: answers, and invariants of its
+    loops."""
     return f"proofs/{function.replace('::', '/')}"
 
 
 def answered(crate: str, function: str) -> list[str]:
     """The goals of a function that have written answers."""
     answers = TOP / "crates" / crate / proofs_of(function) / "Answers.antt"
-    return re.findall(r"\bgoal\.([\w-]+)", answers.read_text(encoding="utf-8")) if answers.exists() else []
+    if not answers.exists():
+        return []
+    return re.findall(r"\bgoal\.([\w-]+)", answers.read_text(encoding="utf-8"))
 
 
 def text_of(function: str, source: str) -> str:
-    """The text of a function, with its attributes, its contract and its body: up to the brace that stands below its `fn`."""
+    """The text of a function, with its attributes, its contract and its body: up to the brace that
+    stands below its `fn`."""
     owner, _, name = function.rpartition("::")
     head = rf"^(?: *#\[[^\n]*\]\n)*( *)(?:pub(?:\([^)]*\))? )?fn {name}\b.*?^\1\}}\n"
     found = list(re.finditer(head, source, re.MULTILINE | re.DOTALL))
     if len(found) > 1:
-        block = re.compile(rf"^impl\b.* {owner.rpartition('::')[2]}(<.*>)? \{{\n(?:(?!^\}}).*\n)*\Z", re.MULTILINE)
+        block = re.compile(
+            rf"^impl\b.* {owner.rpartition('::')[2]}(<.*>)? \{{\n(?:(?!^\}}).*\n)*\Z", re.MULTILINE
+        )
         found = [it for it in found if block.search(source[: it.start()])]
     return found[0][0] if found else ""
 
 
 def put_beside(mistake: Mistake, crate: str, room: pathlib.Path) -> bool:
-    """Puts a mistake into a copy that has another one in the same function: into a second function beside that one, with the same contract and with what
-    is written in answer to its goals. If all that it changes stands in that function."""
+    """Puts a mistake into a copy that has another one in the same function: into a second function
+    beside that one, with the same contract and with what is written in answer to its goals. If all
+    that it changes stands in that function."""
     name, own = mistake.function.rpartition("::")[2], TOP / "crates" / crate
     file, written = mistake.changes[0][0], proofs_of(mistake.function)
-    second = text_of(mistake.function, (own / file).read_text(encoding="utf-8")).replace(f"fn {name}", f"fn {name}{AGAIN}", 1)
+    second = text_of(mistake.function, (own / file).read_text(encoding="utf-8")).replace(
+        f"fn {name}", f"fn {name}{AGAIN}", 1
+    )
     for other, old, new in mistake.changes:
         if other != file or second.count(old) != 1 or old == new:
             return False
@@ -219,19 +272,24 @@ def put_beside(mistake: Mistake, crate: str, room: pathlib.Path) -> bool:
         left_out = shutil.ignore_patterns("Answers.antt") if mistake.is_without_answers else None
         shutil.copytree(own / written, room / f"{written}{AGAIN}", ignore=left_out)
         for it in (room / f"{written}{AGAIN}").iterdir():
-            its = re.sub(rf"\.{name}\.(Goals|Given)\b", rf".{name}{AGAIN}.\1", it.read_text(encoding="utf-8"))
+            its = re.sub(
+                rf"\.{name}\.(Goals|Given)\b", rf".{name}{AGAIN}.\1", it.read_text(encoding="utf-8")
+            )
             it.write_text(its, encoding="utf-8")
     return True
 
 
 def put_cut(cut: Cut, room: pathlib.Path) -> bool:
-    """Cuts a function of a copy, if it is there: it gets its other body, and a file without a proof, so that none is looked for."""
+    """Cuts a function of a copy, if it is there: it gets its other body, and a file without a
+    proof, so that none is looked for."""
     text, proof = (room / cut.file).read_text(encoding="utf-8"), room / proofs_of(cut.function)
     whole = text_of(cut.function, text)
     body = re.search(r"^( *)\{\n.*^\1\}\n\Z", whole, re.MULTILINE | re.DOTALL)
     if not body:
         return False
-    (room / cut.file).write_text(text.replace(whole, f"{whole[: body.start()]}{body[1]}{{ {cut.body} }}\n"), encoding="utf-8")
+    (room / cut.file).write_text(
+        text.replace(whole, f"{whole[: body.start()]}{body[1]}{{ {cut.body} }}\n"), encoding="utf-8"
+    )
     shutil.rmtree(proof, ignore_errors=True)
     proof.mkdir(parents=True)
     (proof / "Proof.antt").touch()
@@ -240,29 +298,54 @@ def put_cut(cut: Cut, room: pathlib.Path) -> bool:
 
 def uses() -> dict[str, list[str]]:
     """What each crate uses, by crates.txt."""
-    lines = [it.partition("#")[0].partition(":") for it in (TOP / "crates.txt").read_text(encoding="utf-8").splitlines()]
+    lines = [
+        it.partition("#")[0].partition(":")
+        for it in (TOP / "crates.txt").read_text(encoding="utf-8").splitlines()
+    ]
     return {name.split()[0]: used.split() for name, _, used in lines if name.strip()}
 
 
 def check_words(crate: str, functions: list[str]) -> list[str]:
     """The words of a check of these functions of a crate, over the libraries that are built."""
-    kit = pathlib.Path(subprocess.run(["rt", "doc"], check=True, capture_output=True, text=True).stdout.strip()).parent
+    page = subprocess.run(["rt", "doc"], check=True, capture_output=True, text=True).stdout
+    kit = pathlib.Path(page.strip()).parent
     own, root = uses(), TOP / "crates" / crate / "src/main.rt"
-    words = [str(kit / "bin/rattle"), "check", "--crate-name", crate, "src/main.rt" if root.exists() else "src/lib.rt"]
+    words = [
+        str(kit / "bin/rattle"),
+        "check",
+        "--crate-name",
+        crate,
+        "src/main.rt" if root.exists() else "src/lib.rt",
+    ]
     for name in ["std", *own[crate]]:
-        rlib = TOP / f"crates/{name}/out/rlib/{name}.rlib" if name in own else kit / f"rlibs/{name}.rlib"
+        rlib = (
+            TOP / f"crates/{name}/out/rlib/{name}.rlib"
+            if name in own
+            else kit / f"rlibs/{name}.rlib"
+        )
         if not rlib.is_dir():
             raise BadCase(f"the library {name} isn't built: `rt ci` does that")
         words += ["--extern", f"{name}={rlib}"]
     for name in own:
-        words += ["-L", f"dependency={TOP}/crates/{name}/out/rlib"] if name != crate and (TOP / f"crates/{name}/out/rlib").is_dir() else []
-    words += ["-L", f"dependency={kit}/rlibs", "--antt-project", f"{kit}/rattle/logic/antt-project.json", "--logic-built", f"{kit}/logic_built", "--jobs", "1"]
+        rlib = TOP / f"crates/{name}/out/rlib"
+        if name != crate and rlib.is_dir():
+            words += ["-L", f"dependency={rlib}"]
+    words += [
+        "-L",
+        f"dependency={kit}/rlibs",
+        "--antt-project",
+        f"{kit}/rattle/logic/antt-project.json",
+        "--logic-built",
+        f"{kit}/logic_built",
+        "--jobs",
+        "1",
+    ]
     return words + [word for it in functions for word in ("--only", it)]
 
 
 def verdicts(crate: str, said: str) -> dict[str, Verdict]:
-    """What a check said, by function. The goals that it left open stand in front of a function's last word; what is wrong with answers that were written
-    comes before all of these."""
+    """What a check said, by function. The goals that it left open stand in front of a function's
+    last word; what is wrong with answers that were written comes before all of these."""
     found, unfit, goals = {}, defaultdict(list), []
     for line in said.splitlines():
         answer = re.match(r"\./proofs/(\S+)/\w+\.antt:\d+:\d+: error: `([^`]*)`", line)
@@ -271,16 +354,31 @@ def verdicts(crate: str, said: str) -> dict[str, Verdict]:
         if answer:
             unfit[answer[1].replace("/", "::")].append(answer[2])
         elif note:
-            goals.append(Goal(note[2], note[1], "allow values at which this goal is false" in (note[3] or "")))
+            goals.append(
+                Goal(
+                    note[2], note[1], "allow values at which this goal is false" in (note[3] or "")
+                )
+            )
         elif word:
             found[word[1]], goals = Verdict(word[2], goals, unfit[word[1]]), []
     return found
 
 
 def said_of(crate: str, functions: list[str], room: pathlib.Path) -> str:
-    """What a check says of functions of a crate. It is ended once it has said a last word of each."""
-    words, wanted, said = check_words(crate, functions) + ["--incremental", str(room / "kept")], set(functions), []
-    with subprocess.Popen(words, cwd=room, stdin=subprocess.DEVNULL, stdout=subprocess.PIPE, stderr=subprocess.STDOUT, text=True, errors="replace") as check:
+    """What a check says of functions of a crate. It is ended once it has said a last word of
+    each."""
+    words, wanted, said = check_words(crate, functions) + [
+        "--incremental", str(room / "kept")
+    ], set(functions), []
+    with subprocess.Popen(
+        words,
+        cwd=room,
+        stdin=subprocess.DEVNULL,
+        stdout=subprocess.PIPE,
+        stderr=subprocess.STDOUT,
+        text=True,
+        errors="replace",
+    ) as check:
         for line in check.stdout or []:
             said.append(line)
             wanted.discard(line.removeprefix(f"fn {crate}::").partition(": ")[0])
@@ -290,9 +388,12 @@ def said_of(crate: str, functions: list[str], room: pathlib.Path) -> str:
     return "".join(said)
 
 
-def tried(page: Page, mistakes: list[Mistake], cuts: list[Cut], room: pathlib.Path) -> tuple[dict[str, Mistake], dict[str, Verdict], str]:
-    """Checks a copy of the crate with these cuts and with those of these mistakes that go together. Which went, by the function that each was put into,
-    what was said by function, and all that was said. What an earlier check proved there and the mistakes leave as it was isn't proved again."""
+def tried(
+    page: Page, mistakes: list[Mistake], cuts: list[Cut], room: pathlib.Path
+) -> tuple[dict[str, Mistake], dict[str, Verdict], str]:
+    """Checks a copy of the crate with these cuts and with those of these mistakes that go together.
+    Which went, by the function that each was put into, what was said by function, and all that was
+    said. What an earlier check proved there and the mistakes leave as it was isn't proved again."""
     together: dict[str, Mistake] = {}
     for part in ("src", "specs", "proofs"):
         shutil.rmtree(room / part, ignore_errors=True)
@@ -303,17 +404,25 @@ def tried(page: Page, mistakes: list[Mistake], cuts: list[Cut], room: pathlib.Pa
             continue
         if mistake.function not in together and put(mistake, room):
             together[mistake.function] = mistake
-        elif mistake.function in together and mistake.function + AGAIN not in together and put_beside(mistake, page.crate, room):
+        elif (
+            mistake.function in together
+            and mistake.function + AGAIN not in together
+            and put_beside(mistake, page.crate, room)
+        ):
             together[mistake.function + AGAIN] = mistake
     lacking = [it.function for it in cuts if not put_cut(it, room)]
     if lacking:
-        raise BadCase(f"{', '.join(lacking)}, to be cut, isn't in its file", Place(f"crates/{page.crate}/{PAGE}", 1))
+        raise BadCase(
+            f"{', '.join(lacking)}, to be cut, isn't in its file",
+            Place(f"crates/{page.crate}/{PAGE}", 1),
+        )
     text = said_of(page.crate, [page.stays, *together], room)
     return together, verdicts(page.crate, text), text
 
 
 def faults_of(page: Page) -> dict[Place, str]:
-    """Tries a crate's mistakes, in a folder of their own: what is wrong with those that aren't refused."""
+    """Tries a crate's mistakes, in a folder of their own: what is wrong with those that aren't
+    refused."""
     with tempfile.TemporaryDirectory(prefix=f"rt-edit-{os.getpid()}-") as name:
         return faults_in(page, pathlib.Path(name))
 
@@ -324,10 +433,14 @@ def faults_in(page: Page, room: pathlib.Path) -> dict[Place, str]:
     while left:
         together, said, text = tried(page, left[:at_once], cuts, room)
         if not together:
-            return faults | {left[0].at: "an old text isn't there once, or is the new one"} | dict.fromkeys((it.at for it in left[1:]), "not tried")
+            return faults | {
+                left[0].at: "an old text isn't there once, or is the new one"
+            } | dict.fromkeys((it.at for it in left[1:]), "not tried")
         if page.stays not in said or not said[page.stays].is_proved():
             lines = "\n".join(it[:200] for it in text.splitlines()[:20])
-            return faults | dict.fromkeys((it.at for it in left), f"{page.stays} stays as it is, and isn't proved:\n{lines}")
+            return faults | dict.fromkeys(
+                (it.at for it in left), f"{page.stays} stays as it is, and isn't proved:\n{lines}"
+            )
         settled = []
         for function, mistake in together.items():
             verdict = said.get(function, Verdict("it wasn't checked"))
@@ -359,11 +472,17 @@ def prepare(chosen: list[Case]) -> None:
 
 def check_refused(mistake: Mistake) -> None:
     if mistake.at not in TRIED or mistake.at in FAULTS:
-        raise Difference("refused, by a goal of its function's contract", FAULTS.get(mistake.at, "not tried"))
+        raise Difference(
+            "refused, by a goal of its function's contract", FAULTS.get(mistake.at, "not tried")
+        )
 
 
 def cases() -> Iterator[Case]:
     for crate in uses():
         if (TOP / "crates" / crate / PAGE).exists():
             for mistake in page_of(crate).mistakes:
-                yield Case(f"{crate}: {mistake.title}", mistake.at, functools.partial(check_refused, mistake))
+                yield Case(
+                    f"{crate}: {mistake.title}",
+                    mistake.at,
+                    functools.partial(check_refused, mistake),
+                )
