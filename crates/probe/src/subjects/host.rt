@@ -50,8 +50,9 @@ pub(crate) fn put_state(talk: &mut Talk<'_>, host: &Host, conn: usize) -> Result
         Phase::Bound(lu) => writeln!(talk.answer, "phase Bound {lu}")?,
         phase => writeln!(talk.answer, "phase {phase:?}")?,
     }
-    let (model, turn, pending) = (host.model(conn), host.turn(conn), host.pending(conn));
-    writeln!(talk.answer, "model {model:?}\nturn {turn:?}\npending {pending:?}")
+    let (model, turn) = (host.model(conn), host.turn(conn));
+    writeln!(talk.answer, "model {model:?}\nturn {turn:?}")?;
+    writeln!(talk.answer, "pending {:?}", host.pending(conn))
 }
 
 /// Puts all that is to be seen of a connection.
@@ -66,17 +67,20 @@ pub(crate) fn put_all(talk: &mut Talk<'_>, host: &Host, conn: usize) -> Result<(
 fn put_rejection(talk: &mut Talk<'_>, rejection: Option<Rejection>) -> Result<(), AllocError> {
     match rejection {
         None => talk.none(),
-        Some(Rejection { lu: None, reason }) => writeln!(talk.answer, "{reason}"),
-        Some(Rejection { lu: Some(lu), reason }) => writeln!(talk.answer, "{lu} {reason}"),
+        Some(it) => match it.lu {
+            Some(lu) => writeln!(talk.answer, "{lu} {}", it.reason),
+            None => writeln!(talk.answer, "{}", it.reason),
+        },
     }
 }
 
 /// Puts a question's parts, and the text of each field of its panel.
 fn put_question(talk: &mut Talk<'_>, host: &Host, question: &Question) -> Result<(), AllocError> {
-    let (ticket, cursor) = (question.ticket, question.cursor.get());
-    writeln!(talk.answer, "ticket {} {}\nlu {}", ticket.session, ticket.turn, question.lu)?;
+    let Ticket { session, turn } = question.ticket;
+    let (cursor, aid) = (question.cursor.get(), aid_byte(question.aid));
+    writeln!(talk.answer, "ticket {session} {turn}\nlu {}", question.lu)?;
     writeln!(talk.answer, "panel {}\ncursor {cursor}", question.panel)?;
-    writeln!(talk.answer, "aid {:02X}", aid_byte(question.aid))?;
+    writeln!(talk.answer, "aid {aid:02X}")?;
     if let Some(panel) = host.panels().panel(question.panel) {
         for field in panel.fields() {
             if let Some(value) = question.values.get(field.number) {

@@ -68,7 +68,8 @@ pub(crate) fn set_value(
 }
 
 fn put_set(talk: &mut Talk<'_>, set: &PanelSet) -> Result<(), AllocError> {
-    write!(talk.answer, "start {} panels {} lus", set.start(), set.len())?;
+    let (start, count) = (set.start(), set.len());
+    write!(talk.answer, "start {start} panels {count} lus")?;
     for lu in set.lus() {
         write!(talk.answer, " {}", lu.as_str())?;
     }
@@ -111,11 +112,15 @@ impl Panels {
     }
 
     fn set(&self) -> Result<&PanelSet, Fault> {
-        self.set.as_ref().ok_or(Fault::Needs("a text that was read"))
+        self.set
+            .as_ref()
+            .ok_or(Fault::Needs("a text that was read"))
     }
 
     fn panel(&self) -> Result<&Panel, Fault> {
-        self.set()?.panel(self.index).ok_or(Fault::Needs("a panel's index"))
+        self.set()?
+            .panel(self.index)
+            .ok_or(Fault::Needs("a panel's index"))
     }
 
     fn put_wanted(&self, talk: &mut Talk<'_>) -> Result<(), Fault> {

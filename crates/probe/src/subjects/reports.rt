@@ -16,7 +16,8 @@ pub(crate) struct Reports;
 
 fn put_report(talk: &mut Talk<'_>, text: &str) -> Result<(), AllocError> {
     let report = check(talk.alloc, text)?;
-    writeln!(talk.answer, "faults {} agrees {}", report.faults(), report.agrees)?;
+    let (faults, agrees) = (report.faults(), report.agrees);
+    writeln!(talk.answer, "faults {faults} agrees {agrees}")?;
     talk.text(report.page(talk.alloc, "text")?.as_str())?;
     match host_of(talk.alloc, Terminals::Any, text) {
         Ok(_) => writeln!(talk.answer, "readers accept"),

@@ -94,23 +94,16 @@ fn put_texts(talk: &mut Talk<'_>, out: &Stream<'_>, other: &Stream<'_>) -> Resul
     talk.name("other", other.text.as_slice())
 }
 
-/// Puts how a run ended: `done`, or its fault.
-fn put_end(talk: &mut Talk<'_>, end: Result<(), jobs3270::Fault>) -> Result<(), AllocError> {
-    match end {
-        Ok(()) => talk.done(Ok(())),
-        Err(fault) => writeln!(talk.answer, "{fault}"),
-    }
-}
-
 fn put_run(talk: &mut Talk<'_>, is_show: bool) -> Result<(), Fault> {
     let fails = talk.number::<bool>()?.then_some(ErrorKind::BrokenPipe);
     let (room, interruptions) = (talk.number()?, talk.number()?);
     let mut input = CountedReader::new(input(talk.alloc, talk.rest(), fails));
     let mut out = output(talk.alloc, room, interruptions);
     let mut faults = output(talk.alloc, usize::MAX, interruptions);
+    let (alloc, waiting) = (talk.alloc, Terminals::Waiting);
     let status = match is_show {
-        true => run_show(talk.alloc, Model::M2, &mut input, &mut out, &mut faults),
-        false => run_script(talk.alloc, Terminals::Waiting, &mut input, &mut out, &mut faults),
+        true => run_show(alloc, Model::M2, &mut input, &mut out, &mut faults),
+        false => run_script(alloc, waiting, &mut input, &mut out, &mut faults),
     };
     writeln!(talk.answer, "status {status}")?;
     Ok(put_texts(talk, &out.into_inner(), &faults.into_inner())?)
@@ -127,12 +120,18 @@ fn put_term(talk: &mut Talk<'_>) -> Result<(), Fault> {
         up: output(talk.alloc, sends, 0),
     };
     let lu = Lu::read(b"PNL01");
-    put_end(talk, operate(talk.alloc, Model::M2, lu, script, &mut wire, &mut out))?;
+    match operate(talk.alloc, Model::M2, lu, script, &mut wire, &mut out) {
+        Ok(()) => talk.done(Ok(()))?,
+        Err(fault) => writeln!(talk.answer, "{fault}")?,
+    }
     Ok(put_texts(talk, &out.into_inner(), &wire.up.into_inner())?)
 }
 
-type Session<'a> =
-    OperatorSession<Stream<'a>, CountedReader<Stream<'a>>, CountedWriter<Stream<'static>>>;
+type Session<'a> = OperatorSession<
+    Stream<'a>,
+    CountedReader<Stream<'a>>,
+    CountedWriter<Stream<'static>>,
+>;
 
 fn take_turns<'a>(
     alloc: Global,
@@ -152,12 +151,14 @@ fn put_live(talk: &mut Talk<'_>) -> Result<(), Fault> {
     let (came, typed) = talk.rest().split_once(" / ").unwrap_or(("", ""));
     let pipe = input(alloc, came, Some(ErrorKind::WouldBlock));
     let keys = CountedReader::new(input(alloc, typed, None));
-    let mut session = match Session::new(alloc, Model::M2, keys, output(alloc, usize::MAX, 0)) {
-        Ok(session) => session,
-        Err(fault) => return Ok(put_end(talk, Err(fault))?),
+    let tty = output(alloc, usize::MAX, 0);
+    let Ok(mut session) = Session::new(alloc, Model::M2, keys, tty) else {
+        return Err(Fault::NoMemory(AllocError));
     };
-    put_end(talk, take_turns(alloc, &mut session, pipe, turns))?;
-    writeln!(talk.answer, "asked {}", session.take_asked() as u8)?;
+    match take_turns(alloc, &mut session, pipe, turns) {
+        Ok(()) => writeln!(talk.answer, "asked {}", session.take_asked() as u8)?,
+        Err(fault) => writeln!(talk.answer, "{fault}")?,
+    }
     match session.into_parts() {
         (Some(pipe), tty) => Ok(put_texts(talk, &tty.into_inner(), &pipe)?),
         _ => Ok(writeln!(talk.answer, "no connection")?),

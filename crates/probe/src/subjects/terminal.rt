@@ -38,7 +38,8 @@ fn press(talk: &mut Talk<'_>, terminal: &mut Terminal, key: Key) -> Result<(), A
 
 /// Puts how far a terminal is with its host, and its screen without the cells.
 fn put_state(talk: &mut Talk<'_>, terminal: &Terminal) -> Result<(), AllocError> {
-    writeln!(talk.answer, "phase {}\nlock {}", terminal.phase(), terminal.lock())?;
+    let (phase, lock) = (terminal.phase(), terminal.lock());
+    writeln!(talk.answer, "phase {phase}\nlock {lock}")?;
     put_screen(talk.answer, terminal.screen())?;
     writeln!(talk.answer, "inserting {}", terminal.keyboard().inserting())?;
     writeln!(talk.answer, "took-write {}", terminal.took_write())

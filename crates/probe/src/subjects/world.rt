@@ -61,13 +61,13 @@ fn read_terminal(talk: &mut Talk<'_>) -> Result<usize, Fault>
 }
 
 impl Worlds {
-    #[tactic(auto, using(crate::proofs::Terminals::step_keeps))]
+    #[tactic(auto, using(crate::proofs::Terminals::four_after_step))]
     fn step(&mut self, event: Event) -> Stepped {
         self.world.step(event)
     }
 
     /// The list's events happen.
-    #[tactic(auto, using(crate::proofs::Terminals::run_keeps))]
+    #[tactic(auto, using(crate::proofs::Terminals::four_after_run))]
     fn run(&mut self) -> Ran {
         let ran = self.world.run(self.events.as_slice());
         self.events.clear();
@@ -76,7 +76,8 @@ impl Worlds {
 
     fn put_states(&self, talk: &mut Talk<'_>) -> Result<(), AllocError> {
         for terminal in 0..4 {
-            writeln!(talk.answer, "terminal {}", self.world.terminal(terminal).phase())?;
+            let phase = self.world.terminal(terminal).phase();
+            writeln!(talk.answer, "terminal {phase}")?;
         }
         for conn in 0..MOST_CONNECTIONS {
             if self.world.host().phase(conn) != Phase::Free {
