@@ -78,3 +78,8 @@ def blocks_of(path: pathlib.Path, head: str) -> Iterator[tuple[Line, str, list[L
         else:
             raise line.bad(f"needs a line `{head} NAME` before it")
     yield from found
+
+
+def panel_text(lines: list[str]) -> str:
+    """The text of the lines `| TEXT`, as a word of bytes."""
+    return "".join(f"{line[2:]}\n" for line in lines).encode().hex() or "-"

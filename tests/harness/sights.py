@@ -32,7 +32,7 @@ def plain(text: str) -> str:
         return f"{found[1]} {plain(found[2])}"
     if found := re.fullmatch(r"Ran { whole: (\d+), part: (\d+) }", text):
         return f"{found[1]} {found[2]}"
-    if found := re.fullmatch(r"(Closed|Refused|Part)\((.*)\)", text):
+    if found := re.fullmatch(r"(Closed|Refused|Part|Go)\((.*)\)", text):
         return f"{found[1].lower()} {REFUSALS.get(found[2], found[2])}"
     if found := re.fullmatch(r"Some\(M?(\d+)\)", text):
         return found[1]

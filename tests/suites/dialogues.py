@@ -17,7 +17,7 @@ import functools
 from collections.abc import Callable, Iterator
 
 from harness.case import CASES, BadCase, Case, Difference, same
-from harness.data import Line, lines_of
+from harness.data import Line, lines_of, panel_text
 from harness.probe import Probe
 from harness.sights import cells_of, parts_of, plain, spelt
 
@@ -276,9 +276,8 @@ class Host(Subject):
         self.panels.append(f"| {text}")
 
     def do_serve(self, words: str) -> None:
-        for line in self.panels:
-            self.ask(line)
-        self.expect(["done"], self.ask(f"serve {words}"))
+        made = self.ask(f"new {words or 'waiting'} {panel_text(self.panels)}")
+        self.expect(["done"], made)
 
     def do_open(self, words: str) -> None:
         self.expect(["done"], self.ask(f"open {words}"))

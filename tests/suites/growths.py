@@ -10,7 +10,8 @@ be done. A file has these blocks, without blank lines and comments:
     call NAME          begins a case
     on SUBJECT         the subject of the probe
     COMMAND            a command before the call
-    ! COMMAND          the call
+    ! COMMAND          the call; in commands PANELS is the panel text of the lines `| TEXT` above
+    again COMMAND      makes the call once more, if it isn't as the call
     = LINE             the first line that it answers; - if there is none
     meets none         the call meets no growth
     taken COMMAND      if memory is refused to the call, it stands as after this command, and not as
@@ -32,7 +33,7 @@ from collections.abc import Callable, Iterator
 
 from harness import tables
 from harness.case import CASES, BadCase, Case, Difference, same
-from harness.data import Line, lines_of
+from harness.data import Line, lines_of, panel_text
 from harness.growths import library
 from harness.probe import Probe
 from harness.sights import plain, spelt
@@ -42,10 +43,7 @@ PARTS = 4
 LONG = True
 # What has no call that could be refused memory, or grows but the probe's own memory.
 UNMARKED = {
-    "|",
     "list",
-    "say",
-    "plug",
     "see",
     "state",
     "states",
@@ -226,14 +224,19 @@ class Call:
     wanted: str = ""
     meets_none: bool = False
     taken: str = ""
+    again: str = ""
+    panels: list[str] = dataclasses.field(default_factory=list)
     after: list[str] = dataclasses.field(default_factory=list)
     looks: list[str] = dataclasses.field(default_factory=list)
     # The first lines that some of these show once the call is done.
     shown: dict[str, str] = dataclasses.field(default_factory=dict)
 
     def take(self, line: Line) -> None:
+        line = Line(line.at, line.text.replace("PANELS", panel_text(self.panels)))
         word, _, rest = line.text.partition(" ")
         match word:
+            case "|":
+                self.panels.append(line.text)
             case "on":
                 self.subject = rest
             case "!":
@@ -244,6 +247,8 @@ class Call:
                 self.meets_none = True
             case "taken":
                 self.taken = rest
+            case "again":
+                self.again = rest
             case "+":
                 self.after.append(rest)
             case "look":
@@ -298,7 +303,7 @@ class Call:
                 if not line.text.startswith("list "):
                     probe.ask(line.text, line.at)
             for event in self.events()[:whole]:
-                probe.ask(event)
+                probe.ask(f"step {event}")
             return self.look(probe)
 
     def repeat(self, probe: Refusing, answer: str) -> list[str]:
@@ -312,7 +317,7 @@ class Call:
         fed = FEED.fullmatch(self.call)
         taken = int(answer.split()[0]) if fed and answer != "memory" else 0
         if not taken:
-            return first_plain(probe.ask(self.call))
+            return first_plain(probe.ask(self.again or self.call))
         rest = spelt(self.head.data(fed[3])[taken:])
         count, _, stop = plain(probe.ask(f"{fed[1]}{fed[2]} {rest}")[0]).partition(" ")
         return [f"{taken + int(count)} {stop}"]

@@ -15,22 +15,9 @@ from collections.abc import Callable, Iterator
 
 from harness.case import CASES, Case, of_function, same
 from harness.data import Line, lines_of
+from harness.debug import variant
 from harness.probe import Probe
 
-# In the order of jobs3270's `Topic`.
-TOPICS = (
-    "the program",
-    "script",
-    "show",
-    "selfrun",
-    "check",
-    "host",
-    "serve",
-    "term",
-    "operate",
-    "help",
-    "version",
-)
 FORM = re.compile(r"(words|script|terminal) \[(.*)\] = (.*)", re.DOTALL)
 
 
@@ -43,56 +30,53 @@ def hexadecimal(text: str) -> str:
     return text.encode().hex() or "-"
 
 
-def model(name: str) -> str:
-    return f"model {name.removeprefix('M')}"
+def model(job: dict) -> str:
+    return f"model {job['model'].removeprefix('M')}"
 
 
-def behind(more: dict[str, str], name: str, text: str) -> str:
-    """A text with the value of a further line, if the answer has one."""
-    return text.format(*more[name].split(" ")) if name in more else ""
+def if_any(text: str, value: str | None) -> str:
+    """A text with a value, if there is one."""
+    return "" if value is None else text.format(value)
 
 
-def of_file(more: dict[str, str]) -> str:
-    return f" of [{more['file']}]" if "file" in more else ""
+def serve(job: dict) -> str:
+    service, application, limits = job["service"], job["application"], job["service"]["limits"]
+    seconds = f"{limits['negotiate']} {limits['keepalive']} {limits['idle']} seconds"
+    text = f"serve at {service['listen']} {service['port']}, {seconds}"
+    text += if_any(", metrics at {}", service["metrics"])
+    text += ", own terminals" if service["terminals"] == "Waiting" else ""
+    text += ", quiet" if service["quiet"] == "true" else ""
+    text += if_any(f", application [{{}}] in {application['reply_time']} seconds", application["url"])
+    return text + if_any(" of [{}]", job["panels"])
 
 
-def serve(address: str, port: str, terminals: str, quiet: str, more: dict[str, str]) -> str:
-    text = f"serve at {address} {port}, {more['limits']} seconds"
-    text += behind(more, "metrics", ", metrics at {}")
-    text += ", own terminals" if terminals == "Waiting" else ""
-    text += ", quiet" if quiet == "true" else ""
-    text += f", application [{more['url']}] in {more['reply']} seconds" if "url" in more else ""
-    return text + of_file(more)
+def term(job: dict) -> str:
+    return f"term{if_any(' of {}', job['lu'])} at {job['port']}, {model(job)}"
 
 
-def term(port: str, name: str, more: dict[str, str]) -> str:
-    return f"term{behind(more, 'lu', ' of {}')} at {port}, {model(name)}"
+def operate(job: dict) -> str:
+    tty = job["tty"]
+    return f"operate, {term(job)}" + (f", {tty['rows']} rows of {tty['columns']}" if tty else "")
 
 
-def operate(port: str, name: str, more: dict[str, str]) -> str:
-    size = behind(more, "rows", ", {} rows of ") + more.get("columns", "")
-    return f"operate, {term(port, name, more)}{size}"
-
-
-# The job of a command line, by the first word that the probe answers.
-JOBS: dict[str, Callable[..., str]] = {
-    "script": lambda terminals, more: f"script{'' if terminals == 'Waiting' else ', any terminal'}",
-    "show": lambda name, more: f"show, {model(name)}",
-    "selfrun": lambda turns, more: f"selfrun, {turns} turns",
-    "host": lambda port, turns, more: f"host at {port}, {turns} turns",
-    "check": lambda more: f"check{of_file(more)}",
-    "serve": serve,
-    "term": term,
-    "operate": operate,
-    "help": lambda topic, more: f"help of {TOPICS[int(topic)]}",
+# The job of a command line, by the variant of `Job` that the probe prints.
+JOBS: dict[str, Callable[[dict], str]] = {
+    "Script": lambda it: f"script{'' if it['terminals'] == 'Waiting' else ', any terminal'}",
+    "Show": lambda it: f"show, {model(it)}",
+    "Selfrun": lambda it: f"selfrun, {it['turns']} turns",
+    "Host": lambda it: f"host at {it['port']}, {it['turns']} turns",
+    "Check": lambda it: f"check{if_any(' of [{}]', it['file'])}",
+    "Serve": serve,
+    "Term": term,
+    "Operate": lambda it: operate(it["0"]),
+    "Help": lambda it: f"help of {it['0'].lower().replace('program', 'the program')}",
 }
 
 
 def job(answer: list[str]) -> str:
     """A job in the words of a case."""
-    first, *rest = answer[0].split(" ")
-    more = dict(it.split(" ", 1) for it in answer[1:])
-    return JOBS[first](*rest, more) if first in JOBS else answer[0]
+    name, parts = variant(answer[0])
+    return JOBS[name](parts) if name in JOBS else name.lower()
 
 
 def script(answer: list[str], text: str) -> str:

@@ -30,6 +30,7 @@ from harness.case import CASES, TOP, Case, of_function, same
 from harness.cells import line_of, steps_of, take_step, tokens
 from harness.data import Line, blocks_of
 from harness.probe import Probe
+from harness.sights import plain
 
 Texts = dict[str, str]
 
@@ -138,7 +139,8 @@ class Panels:
     def do_leads(self, line: Line, words: list[str]) -> None:
         place, _, keys = " ".join(words).partition(" by ")
         for key in keys.split():
-            same(f"{key}: {place}", f"{key}: {self.ask(f'next {key}', line)[0]}", line.at)
+            came = plain(self.ask(f"next {key}", line)[0])
+            same(f"{key}: {place}", f"{key}: {came}", line.at)
 
     def do_fields(self, line: Line, words: list[str]) -> None:
         found = []
@@ -158,7 +160,7 @@ class Panels:
         same([words[2]], self.ask(f"shown {words[0]} {words[1]}", line), line.at)
 
     def do_set(self, line: Line, words: list[str]) -> None:
-        same(["ok"], self.ask(line.text, line), line.at)
+        same(["done"], self.ask(line.text, line), line.at)
 
     do_copy = do_set
 

@@ -19,7 +19,7 @@ import functools
 from collections.abc import Callable, Iterator
 
 from harness.case import CASES, BadCase, Case, Difference, Place, same
-from harness.data import Line, lines_of
+from harness.data import Line, lines_of, panel_text
 from harness.probe import Probe
 from harness.sights import parts_of, plain, spelt
 
@@ -63,25 +63,55 @@ class Script:
 
 
 class Client:
-    """A client, and how far its story has run."""
+    """A client, how far its story has run, and where its connection ends or fails: the place, the
+    number there, and `ends` or `fails`."""
 
-    def __init__(self, script: Script, conn: int) -> None:
-        self.story, self.conn = script.story_of(conn), conn
-        self.told, self.heard, self.read, self.is_saying = 0, b"", 0, False
+    def __init__(self, script: Script, conn: int, pace: list[str]) -> None:
+        self.story, self.conn, self.pace = script.story_of(conn), conn, pace
+        self.trouble = ("", 0, "")
+        # Of the story: the lines that were told, the bytes of the next one that were said or heard.
+        self.told, self.said, self.heard = 0, 0, b""
+        self.reads = self.writes = self.bytes = self.lost = 0
 
-    def commands(self) -> list[str]:
-        """A turn of serving, and before it the line that is the client's next one, if it isn't said
-        yet."""
-        found = [f"turn {self.conn}", f"counts {self.conn}", f"heard {self.conn}"]
-        if self.is_done() or self.story[self.told][0] == "host" or self.is_saying:
-            return found
-        self.is_saying = True
-        return [f"say {self.conn} {spelt(self.story[self.told][1])}", *found]
+    def gives(self) -> str:
+        """What the next read gives, as the probe reads it."""
+        place, number, way = self.trouble
+        if (place, number) in (("read", self.reads + 1), ("byte", self.bytes)):
+            return way
+        if self.pace[2] == "true" and self.reads % 2 or self.is_done():
+            return "-"
+        who, data = self.story[self.told]
+        most = min(int(self.pace[0]), number - self.bytes if place == "byte" else len(data))
+        return "-" if who == "host" else spelt(data[self.said : self.said + most])
 
-    def follow(self, read: int, heard: bytes) -> None:
-        """What was read of it, and what it heard then. It must be the story's."""
-        if self.is_saying and read - self.read == len(self.story[self.told][1]):
-            self.told, self.read, self.is_saying = self.told + 1, read, False
+    def takes(self) -> str:
+        """What the next write takes."""
+        place, number, way = self.trouble
+        if (place, number) == ("write", self.writes + 1):
+            return way
+        return "-" if self.pace[2] == "true" and self.writes % 2 else self.pace[1]
+
+    def turn(self, probe: Probe) -> str:
+        """Its connection is served a turn. It hears only what its story has."""
+        takes, gives = self.takes(), self.gives()
+        came, counts, heard = probe.ask(f"turn {self.conn} {takes} {gives}")
+        reads, writes = map(int, counts.split())
+        self.reads, self.writes = self.reads + reads, self.writes + writes
+        if reads and gives in ("ends", "fails") or writes and takes == "fails":
+            self.lost += 1
+        elif reads:
+            self.say(len(gives.strip("-")) // 2)
+        self.hear(bytes.fromhex(heard.removeprefix("heard ").strip("-")))
+        return plain(came)
+
+    def say(self, count: int) -> None:
+        """So many bytes of it were read."""
+        self.said, self.bytes = self.said + count, self.bytes + count
+        if count and self.said == len(self.story[self.told][1]):
+            self.told, self.said = self.told + 1, 0
+
+    def hear(self, heard: bytes) -> None:
+        """It must be what the story has next."""
         self.heard += heard
         while self.heard:
             who, data = self.story[self.told] if not self.is_done() else ("", b"")
@@ -100,23 +130,16 @@ class Fixture:
 
     def __init__(self, script: Script) -> None:
         self.script, self.probe = script, Probe("host")
-        for line in script.panels:
-            self.probe.ask(line)
-        same(["done"], self.probe.ask("serve"))
+        same(["done"], self.probe.ask(f"new waiting {panel_text(script.panels)}"))
 
-    def begin(self, pace: str) -> None:
+    def begin(self, pace: list[str]) -> None:
         """The host restarts, and the connections of two new clients begin."""
-        self.probe.ask_each(["restart", f"plug {pace}", "open 0", "open 1"])
-        self.clients = [Client(self.script, conn) for conn in (0, 1)]
+        self.probe.ask_each(["restart", "open 0", "open 1"])
+        self.clients = [Client(self.script, conn, pace) for conn in (0, 1)]
 
     def serve(self, conn: int) -> str:
-        """Serves a connection a turn. Its client hears only what its story has."""
-        client = self.clients[conn]
-        *_, [came], [counts], [heard] = self.probe.ask_each(client.commands())
-        client.follow(
-            int(counts.split()[2]), bytes.fromhex(heard.removeprefix("heard ").strip("-"))
-        )
-        return plain(came)
+        """Serves a connection a turn."""
+        return self.clients[conn].turn(self.probe)
 
     def serve_on(self, conn: int) -> None:
         """Serves a connection a turn, in which it isn't lost."""
@@ -141,9 +164,10 @@ class Fixture:
             "both stories to be told", f"{self.clients[0].told} and {self.clients[1].told} lines"
         )
 
-    def counts(self, conn: int) -> list[str]:
+    def counts(self, conn: int) -> list[int]:
         """Its reads, its writes, its bytes that were read, and how often it was lost."""
-        return self.probe.ask(f"counts {conn}")[0].split()
+        client = self.clients[conn]
+        return [client.reads, client.writes, client.bytes, client.lost]
 
     def lose(self, struck: int) -> int:
         """Serves both until the one is lost. How many turns the other was served."""
@@ -158,15 +182,15 @@ class Fixture:
 
     def begin_again(self, conn: int) -> None:
         """Gives a connection up, and begins it for another client."""
-        self.probe.ask_each([f"closed {conn}", f"fresh {conn}"])
+        self.probe.ask(f"closed {conn}")
         same(["done"], self.probe.ask(f"open {conn}"))
-        self.clients[conn] = Client(self.script, conn)
+        self.clients[conn] = Client(self.script, conn, self.clients[conn].pace)
 
 
 class Alone:
     """A host that has the same two connections, and serves one of them alone."""
 
-    def __init__(self, script: Script, conn: int, pace: str) -> None:
+    def __init__(self, script: Script, conn: int, pace: list[str]) -> None:
         self.fixture, self.conn = Fixture(script), conn
         self.fixture.begin(pace)
         self.views = [self.view()]
@@ -187,7 +211,7 @@ class Suite:
 
     def __init__(self, script: Script) -> None:
         self.script = script
-        self.pace = " ".join(script.paces[0][2][:3])
+        self.pace = script.paces[0][2][:3]
         self.alone = functools.cache(lambda conn: Alone(script, conn, self.pace))
 
     @functools.cached_property
@@ -196,18 +220,18 @@ class Suite:
 
     def tell(self, numbers: list[str]) -> None:
         """Both stories without trouble."""
-        self.fixture.begin(" ".join(numbers[:3]))
+        self.fixture.begin(numbers[:3])
         self.fixture.tell_both()
-        same([*numbers[3:], "0"], self.fixture.counts(0))
-        same("0", self.fixture.counts(1)[3])
+        same([*map(int, numbers[3:]), 0], self.fixture.counts(0))
+        same(0, self.fixture.counts(1)[3])
 
-    def break_off(self, struck: int, trouble: str) -> None:
+    def break_off(self, struck: int, trouble: tuple[str, int, str]) -> None:
         """Loses a connection by trouble, and it alone."""
         self.fixture.begin(self.pace)
-        self.fixture.probe.ask(f"trouble {struck} {trouble}")
+        self.fixture.clients[struck].trouble = trouble
         turns = self.fixture.lose(struck)
-        same("1", self.fixture.counts(struck)[3])
-        same("0", self.fixture.counts(1 - struck)[3])
+        same(1, self.fixture.counts(struck)[3])
+        same(0, self.fixture.counts(1 - struck)[3])
         same(self.alone(1 - struck).after(turns), self.fixture.probe.ask(f"see {1 - struck}"))
         self.fixture.begin_again(struck)
         self.fixture.tell_both()
@@ -225,9 +249,7 @@ def cases_of(suite: Suite) -> Iterator[Case]:
                 yield Case(
                     f"client {conn}: {place} {number} {way}",
                     line.at,
-                    functools.partial(
-                        suite.break_off, conn, f"{place} {number} {str(way == 'ends').lower()}"
-                    ),
+                    functools.partial(suite.break_off, conn, (place, number, way)),
                 )
 
 

@@ -25,7 +25,7 @@ import random
 from collections.abc import Callable, Iterator
 
 from harness.case import CASES, Case, same
-from harness.data import Line, lines_of
+from harness.data import Line, lines_of, panel_text
 from harness.probe import Probe
 from harness.sights import parts_of, plain, spelt
 
@@ -212,9 +212,7 @@ class Hosts:
 
     def __init__(self, script: Script) -> None:
         self.script, self.probe = script, Probe("host")
-        for line in script.panels:
-            self.probe.ask(line)
-        same(["done"], self.probe.ask("serve"))
+        same(["done"], self.probe.ask(f"new waiting {panel_text(script.panels)}"))
         begin(self.probe, script)
         self.calm = beside(self.probe)
 

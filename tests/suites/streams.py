@@ -31,7 +31,7 @@ def run(
 ) -> tuple[int, str, str]:
     """The status of `show` or `script` with these reads, what it printed, and its faults."""
     end, out, faults = outcome(
-        f"{job} {int(fails)} {room} {interruptions} {' '.join(reads)}".rstrip()
+        f"{job} {str(fails).lower()} {room} {interruptions} {' '.join(reads)}".rstrip()
     )
     return int(end.removeprefix("status ")), out.decode(), faults.decode()
 
@@ -128,7 +128,7 @@ def term(
 ) -> tuple[str, str, bytes]:
     """How a terminal's script ends, what it prints, and what it sends."""
     end, out, sent = outcome(
-        f"term {int(fails)} {room} {sends} {script.encode().hex()} {' '.join(reads)}".rstrip()
+        f"term {str(fails).lower()} {room} {sends} {script.encode().hex()} {' '.join(reads)}".rstrip()
     )
     return end, out.decode(), sent
 
@@ -258,8 +258,8 @@ NOTHING, QUIT = "asked 0", "asked 2"
 def an_operator_types_at_a_tty_and_each_turn_writes_what_changed() -> None:
     """Nothing that is typed at a locked keyboard is kept. The session is run up to each turn."""
     for count in range(1, len(TURNS) + 1):
-        words = [f"{came.hex() or '-'} {typed.hex() or '-'}" for came, typed, _ in TURNS[:count]]
-        asked, written, sent = outcome(f"live {' '.join(words)}")
+        came, typed = (" ".join(turn[it].hex() or "-" for turn in TURNS[:count]) for it in (0, 1))
+        asked, written, sent = outcome(f"live {count} {came} / {typed}")
         wanted = "".join(drawn for _, _, drawn in TURNS[:count])
         if written.decode() != wanted:
             raise Difference(f"turn {count}: {wanted!r}", repr(written.decode()))

@@ -19,9 +19,9 @@ import random
 from collections.abc import Iterator
 
 from harness.case import CASES, BadCase, Case, Difference, same
-from harness.data import Line, lines_of
+from harness.data import Line, lines_of, panel_text
 from harness.probe import Probe
-from harness.sights import cells_of, headline_fault, parts_of, plain, spelt
+from harness.sights import cells_of, headline_fault, parts_of, plain
 
 PARTS = 4
 LONG = True
@@ -121,9 +121,8 @@ class Run:
     def __init__(self, probe: Probe, panels: list[Line]) -> None:
         self.probe = probe
         self.page: list[str] = []
-        for line in panels:
-            probe.ask(line.text, line.at)
-        same(["done"], probe.ask("new", panels[0].at))
+        text = panel_text([line.text for line in panels])
+        same(["done"], probe.ask(f"new waiting {text}", panels[0].at))
 
     def put_outcome(self, stepped: str) -> None:
         """An event that didn't just happen is printed."""
@@ -180,7 +179,7 @@ class Later:
         """What each event came to, and whether that is printed."""
         events, self.events = self.events, []
         commands = [command for group, _ in events for command in group]
-        answers = iter(self.probe.ask_all(commands))
+        answers = iter(self.probe.ask_all([f"step {command}" for command in commands]))
         for group, prints in events:
             came = [plain(next(answers)[0]) for _ in group]
             # Of a delivery byte by byte, what the last came to that wasn't skipped.
@@ -251,18 +250,14 @@ class World:
         elif word in ("show", "status", "erased", "left", "up?", "down?"):
             self.ask(word, line.number(words))
         elif word in AT_TERMINAL | ON_CONNECTION:
-            self.happen(f"{word} {line.number(number)} {self.spelt(word, rest)}".rstrip(" "))
+            self.happen(f"{word} {line.number(number)} {rest}".rstrip(" "))
         else:
             raise line.bad("needs a command")
-
-    def spelt(self, word: str, rest: str) -> str:
-        """The rest of an event's line, as the probe reads it."""
-        return spelt(rest.encode("cp037")) if word == "note" else rest
 
     def step(self, command: str, prints: bool = False) -> str:
         """An event happens in each run, in the first now. Answers what it came to there."""
         queued = self.queued(command)
-        came, states = self.by_event.probe.ask_each([command, "states"], self.line.at)
+        came, states = self.by_event.probe.ask_each([f"step {command}", "states"], self.line.at)
         self.came = plain(came[0])
         self.listed.append(command)
         self.in_bytes.add(in_bytes(command, queued), prints)
@@ -304,7 +299,7 @@ class World:
     def type(self, terminal: int, text: str) -> None:
         """Keys of a text are pressed, up to the first that doesn't act."""
         for letter in text:
-            self.happen(f"char {terminal} {letter}")
+            self.happen(f"type {terminal} {letter}")
             if self.came != "done":
                 return
 
@@ -407,7 +402,7 @@ def random_at_terminal(chance: random.Random) -> str:
         [
             f"connect {terminal}",
             f"termsees {terminal}",
-            *[f"char {terminal} A"] * 2,
+            *[f"type {terminal} A"] * 2,
             *[f"key {terminal} {chance.choice(KEYS)}"] * 2,
         ]
     )
@@ -421,7 +416,7 @@ def random_on_connection(chance: random.Random) -> str:
     return chance.choice(
         [
             f"hostsees {conn}",
-            f"note {conn} {spelt(NOTE.encode('cp037'))}",
+            f"note {conn} {NOTE}",
             f"keepalive {conn}",
             *[f"act {conn}"] * 2,
             *[f"up {conn} {count}"] * 3,

@@ -115,7 +115,7 @@ happens_if : (b : Bool) (happened : Event) (old : ByteWorld) (answer : Stepped) 
 happens_if true happened old answer new happens = happens_keep happened old answer new happens
 happens_if false happened old answer new skipped = ap count skipped.1
 
-pub step_keeps : (happened : Event) (old : ByteWorld) (answer : Stepped) (new : ByteWorld) → Steps happened old answer new → Keeps old new
+step_keeps : (happened : Event) (old : ByteWorld) (answer : Stepped) (new : ByteWorld) → Steps happened old answer new → Keeps old new
 step_keeps happened old answer new steps = happens_if (has_place happened old) happened old answer new steps
 
 -- ---- a list of events
@@ -128,6 +128,14 @@ stop_keeps : (events : List Event) (part : ℕ) (old new : ByteWorld) → StopsA
 stop_keeps [] part old new stopped = ap count stopped.1
 stop_keeps (happened ∷ events) part old new stopped = step_keeps happened old stopped.0 new stopped.1
 
-pub run_keeps : (events : List Event) (old : ByteWorld) (ran : Ran) (new : ByteWorld) → Runs events old ran new → Keeps old new
+run_keeps : (events : List Event) (old : ByteWorld) (ran : Ran) (new : ByteWorld) → Runs events old ran new → Keeps old new
 run_keeps events old ran new runs =
     stop_keeps (drop ran.whole events) ran.part runs.mid new runs.rest ∙ all_keep (take ran.whole events) old runs.mid runs.whole
+
+-- ---- a world of four terminals
+
+pub four_after_step : (happened : Event) (old : ByteWorld) (answer : Stepped) (new : ByteWorld) → Steps happened old answer new → count old ≡ 4 → count new ≡ 4
+four_after_step happened old answer new steps four = step_keeps happened old answer new steps ∙ four
+
+pub four_after_run : (events : List Event) (old : ByteWorld) (ran : Ran) (new : ByteWorld) → Runs events old ran new → count old ≡ 4 → count new ≡ 4
+four_after_run events old ran new runs four = run_keeps events old ran new runs ∙ four

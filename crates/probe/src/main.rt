@@ -1,14 +1,11 @@
-//! The probe: makes public calls of the libraries as lines of standard input say, and prints what they answer and what they leave.
+//! The probe: makes public calls of the libraries as lines of standard input say, and prints what they answer and leave.
 //!
-//! `probe SUBJECT` takes a command a line, and writes the lines of its answer and a line `.`. A line that it doesn't understand is
-//! answered by `? REASON`. It asserts nothing: the suites of `tests/` compare.
+//! `probe SUBJECT` takes a command a line, and writes the lines of its answer and a line `.`. It answers a line that it doesn't
+//! understand by `? REASON`. It asserts nothing: the suites of `tests/` compare.
 #![tactic(auto)]
 
-mod answer;
-mod fault;
-mod line;
-mod subject;
 mod subjects;
+mod talk;
 
 use anyhow::{Result, bail};
 use std::env;

@@ -18,179 +18,162 @@
 //! latin BYTE              the character of a code, as a number
 //! code NUMBER             the code of a character
 //! ```
-use crate::fault::Fault;
-use crate::line::Words;
-use crate::subject::Subject;
+use crate::subjects::Subject;
+use crate::talk::{Fault, Talk};
 use codes3270::{
     Addr, Aid, Attr, CELL_COUNT, CELLS, COLUMNS, Cell, MOST_CELLS, MOST_COLUMNS, PaNo, PfNo, ROWS,
     Size, Wcc, addr_from_bytes, addr_to_bytes, aid_byte, aid_from_byte, attr_code, from_latin1,
     storable, to_latin1,
 };
-use std::alloc::{AllocError, Global};
+use std::alloc::AllocError;
+use std::fmt::Display;
 
 #[derive(Drop)]
-pub(crate) struct Codes {
-    pub(crate) alloc: Global,
+pub(crate) struct Codes;
+
+/// Puts a line: a value, or `none`.
+fn put_some<T: Display + Drop>(talk: &mut Talk<'_>, value: Option<T>) -> Result<(), AllocError> {
+    match value {
+        Some(value) => writeln!(talk.answer, "{value}"),
+        None => talk.none(),
+    }
 }
 
-fn put_size(answer: &mut String, size: Size) -> Result<(), AllocError> {
-    writeln!(answer, "{} {} {}", size.rows(), size.cols(), size.cells())
+fn put_size(talk: &mut Talk<'_>, size: Size) -> Result<(), AllocError> {
+    writeln!(talk.answer, "{} {} {}", size.rows(), size.cols(), size.cells())
 }
 
-fn put_constants(answer: &mut String) -> Result<(), AllocError> {
-    put_size(answer, Size::base())?;
-    writeln!(answer, "{ROWS} {COLUMNS} {CELLS} {CELL_COUNT}")?;
-    writeln!(answer, "{MOST_CELLS} {MOST_COLUMNS}")
+fn put_constants(talk: &mut Talk<'_>) -> Result<(), AllocError> {
+    put_size(talk, Size::base())?;
+    writeln!(talk.answer, "{ROWS} {COLUMNS} {CELLS} {CELL_COUNT}")?;
+    writeln!(talk.answer, "{MOST_CELLS} {MOST_COLUMNS}")
 }
 
-fn put_address(answer: &mut String, addr: Addr) -> Result<(), AllocError> {
+fn put_address(talk: &mut Talk<'_>, addr: Addr) -> Result<(), AllocError> {
     let [high, low] = addr_to_bytes(addr);
-    writeln!(answer, "{} {high:02X}{low:02X}", addr.get())
+    writeln!(talk.answer, "{} {high:02X}{low:02X}", addr.get())
 }
 
-fn put_addresses(answer: &mut String, size: Size) -> Result<(), AllocError> {
-    for addr in Addr::all(size) {
-        put_address(answer, addr)?;
-    }
-    Ok(())
-}
-
-fn put_address_of(answer: &mut String, number: u16, size: Size) -> Result<(), AllocError> {
-    match Addr::new(number, size) {
-        Some(addr) => put_address(answer, addr),
-        None => answer.push_str("none\n"),
-    }
-}
-
-fn put_read(answer: &mut String, bytes: &[u8], size: Size) -> Result<(), Fault> {
-    let (pairs, rest) = bytes.as_chunks::<2>();
-    if !rest.is_empty() {
-        return Err(Fault::Needs("pairs of bytes"));
-    }
-    for pair in pairs {
+fn put_read(talk: &mut Talk<'_>, size: Size) -> Result<(), Fault> {
+    let bytes = talk.all_bytes()?;
+    for pair in bytes.as_slice().as_chunks::<2>().0 {
         match addr_from_bytes(*pair, size) {
-            Ok(addr) => writeln!(answer, "{}", addr.get())?,
-            Err(fault) => writeln!(answer, "{fault}")?,
+            Ok(addr) => writeln!(talk.answer, "{}", addr.get())?,
+            Err(fault) => writeln!(talk.answer, "{fault}")?,
         }
     }
     Ok(())
 }
 
-fn put_walk(answer: &mut String, number: u16, count: u16, size: Size) -> Result<(), Fault> {
+fn put_walk(talk: &mut Talk<'_>, size: Size) -> Result<(), Fault> {
+    let (number, count) = (talk.number()?, talk.number::<u16>()?);
     let Some(addr) = Addr::new(number, size) else {
         return Err(Fault::Needs("an address of the screen"));
     };
     if count > size.cells() {
         return Err(Fault::Needs("a count of cells that the screen has"));
     }
-    write!(answer, "{} ", addr.next(size).get())?;
-    write!(answer, "{} ", addr.forward(count, size).get())?;
-    write!(answer, "{} ", addr.backward(count, size).get())?;
-    writeln!(answer, "{}", addr.room(size))?;
-    Ok(())
+    let (next, onward) = (addr.next(size), addr.forward(count, size));
+    write!(talk.answer, "{} {} ", next.get(), onward.get())?;
+    let back = addr.backward(count, size);
+    Ok(writeln!(talk.answer, "{} {}", back.get(), addr.room(size))?)
 }
 
-fn put_attr(answer: &mut String, attr: Attr) -> Result<(), AllocError> {
+fn put_attr(talk: &mut Talk<'_>, attr: Attr) -> Result<(), AllocError> {
     let without = attr_code(attr.with_mdt(false));
     let with = attr_code(attr.with_mdt(true));
-    write!(answer, "{:02X} {without:02X} {with:02X}", attr_code(attr))?;
-    write!(answer, " {:?} {}", attr.display, attr.protected())?;
-    write!(answer, " {} {}", attr.numeric(), attr.autoskip())?;
-    write!(answer, " {} {}", attr.bright(), attr.hidden())?;
-    writeln!(answer, " {}", attr.mdt())
+    write!(talk.answer, "{:02X} {without:02X} {with:02X}", attr_code(attr))?;
+    write!(talk.answer, " {:?} {}", attr.display, attr.protected())?;
+    write!(talk.answer, " {} {}", attr.numeric(), attr.autoskip())?;
+    write!(talk.answer, " {} {}", attr.bright(), attr.hidden())?;
+    writeln!(talk.answer, " {}", attr.mdt())
 }
 
-fn put_cell(answer: &mut String, cell: Cell) -> Result<(), AllocError> {
+fn put_cell(talk: &mut Talk<'_>, cell: Cell) -> Result<(), AllocError> {
     match cell.attribute() {
-        Some(attr) => write!(answer, "{:02X}", attr_code(attr))?,
-        None => answer.push('-')?,
+        Some(attr) => write!(talk.answer, "{:02X}", attr_code(attr))?,
+        None => talk.answer.push('-')?,
     }
     let is_unprotected = cell.is_unprotected_attribute();
-    writeln!(answer, " {} {is_unprotected}", cell.is_character())
+    writeln!(talk.answer, " {} {is_unprotected}", cell.is_character())
 }
 
-fn put_wcc(answer: &mut String, wcc: Wcc) -> Result<(), AllocError> {
-    write!(answer, "{:02X} {}", wcc.byte(), wcc.alarm())?;
-    writeln!(answer, " {} {}", wcc.restore(), wcc.reset())
+fn put_wcc(talk: &mut Talk<'_>, wcc: Wcc) -> Result<(), AllocError> {
+    write!(talk.answer, "{:02X} {}", wcc.byte(), wcc.alarm())?;
+    writeln!(talk.answer, " {} {}", wcc.restore(), wcc.reset())
 }
 
-fn put_aid(answer: &mut String, aid: Option<Aid>) -> Result<(), AllocError> {
-    let Some(aid) = aid else {
-        return answer.push_str("none\n");
-    };
+fn put_aid(talk: &mut Talk<'_>, aid: Option<Aid>) -> Result<(), AllocError> {
     match aid {
-        Aid::Pf(key) => write!(answer, "PF{}", key.get())?,
-        Aid::Pa(key) => write!(answer, "PA{}", key.get())?,
-        _ => write!(answer, "{aid:?}")?,
+        None => return talk.none(),
+        Some(Aid::Pf(key)) => write!(talk.answer, "PF{}", key.get())?,
+        Some(Aid::Pa(key)) => write!(talk.answer, "PA{}", key.get())?,
+        Some(aid) => write!(talk.answer, "{aid:?}")?,
     }
-    writeln!(answer, " {:02X} {}", aid_byte(aid), aid.is_short())
-}
-
-fn put_code(answer: &mut String, number: u32) -> Result<(), AllocError> {
-    let code = char::from_u32(number).and_then(|character| from_latin1(character));
-    match code {
-        Some(code) => writeln!(answer, "{code:02X}"),
-        None => answer.push_str("none\n"),
-    }
-}
-
-fn put_latin(answer: &mut String, code: u8) -> Result<(), AllocError> {
-    match to_latin1(code) {
-        Some(character) => writeln!(answer, "{}", u32::from(character)),
-        None => answer.push_str("none\n"),
+    match aid {
+        None => Ok(()),
+        Some(aid) => writeln!(talk.answer, " {:02X} {}", aid_byte(aid), aid.is_short()),
     }
 }
 
 /// Does a command on a byte.
-fn take_byte(word: &str, byte: u8, answer: &mut String) -> Result<(), Fault> {
+fn take_byte(talk: &mut Talk<'_>, word: &str) -> Result<(), Fault> {
+    let byte = talk.byte()?;
     match word {
-        "attr" => put_attr(answer, Attr::from_code(byte))?,
+        "attr" => put_attr(talk, Attr::from_code(byte))?,
         "cell" => {
-            put_cell(answer, Cell::Attr(Attr::from_code(byte)))?;
-            put_cell(answer, Cell::Char(byte))?;
+            put_cell(talk, Cell::Attr(Attr::from_code(byte)))?;
+            put_cell(talk, Cell::Char(byte))?;
         }
-        "wcc" => put_wcc(answer, Wcc::from_byte(byte))?,
-        "aid" => put_aid(answer, aid_from_byte(byte))?,
-        "storable" => writeln!(answer, "{}", storable(byte))?,
-        "latin" => put_latin(answer, byte)?,
+        "wcc" => put_wcc(talk, Wcc::from_byte(byte))?,
+        "aid" => put_aid(talk, aid_from_byte(byte))?,
+        "storable" => writeln!(talk.answer, "{}", storable(byte))?,
+        "latin" => put_some(talk, to_latin1(byte).map(u32::from))?,
         _ => return Err(Fault::Needs("a command of codes")),
     }
     Ok(())
 }
 
 /// Does a command on a size.
-fn take_size(
-    alloc: Global,
-    word: &str,
-    line: &mut Words<'_>,
-    answer: &mut String,
-) -> Result<(), Fault> {
-    let size = line.model()?.alternate();
+fn take_size(talk: &mut Talk<'_>, word: &str) -> Result<(), Fault> {
+    let size = talk.model()?.alternate();
     match word {
-        "size" => put_size(answer, size)?,
-        "addresses" => put_addresses(answer, size)?,
-        "address" => put_address_of(answer, line.number()?, size)?,
-        "read" => put_read(answer, line.all_bytes(alloc)?.as_slice(), size)?,
-        _ => {
-            let number = line.number()?;
-            put_walk(answer, number, line.number()?, size)?;
+        "size" => put_size(talk, size)?,
+        "addresses" => {
+            for addr in Addr::all(size) {
+                put_address(talk, addr)?;
+            }
         }
+        "address" => match Addr::new(talk.number()?, size) {
+            Some(addr) => put_address(talk, addr)?,
+            None => talk.none()?,
+        },
+        "read" => put_read(talk, size)?,
+        _ => put_walk(talk, size)?,
     }
     Ok(())
 }
 
 impl Subject for Codes {
-    fn take(&mut self, line: &mut Words<'_>, answer: &mut String) -> Result<(), Fault> {
-        let word = line.word()?;
-        if matches!(word, "size" | "addresses" | "address" | "read" | "walk") {
-            return take_size(self.alloc, word, line, answer);
-        }
-        match word {
-            "constants" => put_constants(answer)?,
-            "pf" => put_aid(answer, PfNo::new(line.number()?).map(|key| Aid::Pf(key)))?,
-            "pa" => put_aid(answer, PaNo::new(line.number()?).map(|key| Aid::Pa(key)))?,
-            "code" => put_code(answer, line.number()?)?,
-            _ => take_byte(word, line.byte(self.alloc)?, answer)?,
+    fn take(&mut self, talk: &mut Talk<'_>) -> Result<(), Fault> {
+        match talk.word()? {
+            "constants" => put_constants(talk)?,
+            "pf" => {
+                let key = PfNo::new(talk.number()?);
+                put_aid(talk, key.map(Aid::Pf))?;
+            }
+            "pa" => {
+                let key = PaNo::new(talk.number()?);
+                put_aid(talk, key.map(Aid::Pa))?;
+            }
+            "code" => {
+                let code = char::from_u32(talk.number()?).and_then(from_latin1);
+                put_some(talk, code)?;
+            }
+            word if matches!(word, "size" | "addresses" | "address" | "read" | "walk") => {
+                take_size(talk, word)?
+            }
+            word => take_byte(talk, word)?,
         }
         Ok(())
     }

@@ -3,48 +3,34 @@
 //! ```text
 //! check TEXT      the report on a panel text, which is one word of bytes
 //! ```
-use crate::answer::put_text;
-use crate::fault::Fault;
-use crate::line::{Words, text_of};
-use crate::subject::Subject;
+use crate::subjects::Subject;
+use crate::talk::{Fault, Talk, text_of};
 use host_core::Terminals;
 use jobs3270::host_of;
 use panel_check::check;
-use std::alloc::{AllocError, Global};
+use std::alloc::AllocError;
 
 /// Calls of panel_check.
 #[derive(Drop)]
-pub(crate) struct Reports {
-    pub(crate) alloc: Global,
-}
+pub(crate) struct Reports;
 
-fn put_report(alloc: Global, answer: &mut String, text: &str) -> Result<(), AllocError> {
-    let report = check(alloc, text)?;
-    write!(
-        answer,
-        "faults {} agrees {}\n",
-        report.faults(),
-        report.agrees
-    )?;
-    put_text(answer, report.page(alloc, "text")?.as_str())
-}
-
-fn put_readers(alloc: Global, answer: &mut String, text: &str) -> Result<(), AllocError> {
-    match host_of(alloc, Terminals::Any, text) {
-        Ok(_) => answer.push_str("readers accept\n"),
-        Err(fault) => write!(answer, "readers refuse {fault}\n"),
+fn put_report(talk: &mut Talk<'_>, text: &str) -> Result<(), AllocError> {
+    let report = check(talk.alloc, text)?;
+    let (faults, agrees) = (report.faults(), report.agrees);
+    writeln!(talk.answer, "faults {faults} agrees {agrees}")?;
+    talk.text(report.page(talk.alloc, "text")?.as_str())?;
+    match host_of(talk.alloc, Terminals::Any, text) {
+        Ok(_) => writeln!(talk.answer, "readers accept"),
+        Err(fault) => writeln!(talk.answer, "readers refuse {fault}"),
     }
 }
 
 impl Subject for Reports {
-    fn take(&mut self, line: &mut Words<'_>, answer: &mut String) -> Result<(), Fault> {
-        let "check" = line.word()? else {
+    fn take(&mut self, talk: &mut Talk<'_>) -> Result<(), Fault> {
+        let "check" = talk.word()? else {
             return Err(Fault::Needs("check"));
         };
-        let bytes = line.bytes(self.alloc)?;
-        let text = text_of(bytes.as_slice())?;
-        put_report(self.alloc, answer, text)?;
-        put_readers(self.alloc, answer, text)?;
-        Ok(())
+        let bytes = talk.bytes()?;
+        Ok(put_report(talk, text_of(bytes.as_slice())?)?)
     }
 }

@@ -1,16 +1,14 @@
 //! Runs of jobs over streams in memory. A READ is a word of at most 4,096 bytes, which a read gives; behind the last one reads find the
-//! end, or fail if FAILS is 1. What is written has ROOM for this number of bytes; its first INTERRUPTIONS writes are interrupted.
+//! end, or fail if FAILS is true. What is written has ROOM for this number of bytes; its first INTERRUPTIONS writes are interrupted.
 //!
 //! ```text
 //! show FAILS ROOM INTERRUPTIONS READ ..       run_show, of model 2
 //! script FAILS ROOM INTERRUPTIONS READ ..     run_script
 //! term FAILS ROOM SENDS SCRIPT READ ..        operate, of model 2, for PNL01; SENDS is the room of the connection
-//! live CAME TYPED CAME TYPED ..               turns of an OperatorSession; a read without bytes finds nothing
+//! live N CAME .. / TYPED ..    N turns of an OperatorSession, with what comes and is typed; a read without bytes finds nothing
 //! ```
-use crate::answer::put_named;
-use crate::fault::Fault;
-use crate::line::{Words, text_of};
-use crate::subject::Subject;
+use crate::subjects::Subject;
+use crate::talk::{Fault, Talk, bytes_of, text_of};
 use codes3270::Model;
 use host_core::Terminals;
 use jobs3270::{
@@ -20,17 +18,14 @@ use std::alloc::{AllocError, Global};
 use std::io::{self, ErrorKind, Read, Write};
 use tn3270e_msg::Lu;
 
-/// Runs of jobs3270.
 #[derive(Drop)]
-pub(crate) struct Streams {
-    pub(crate) alloc: Global,
-}
+pub(crate) struct Streams;
 
-/// A stream: what its reads give, and what it was written.
+/// A stream: the words that its reads give, and what it was written.
 #[derive(Drop)]
-struct Stream {
-    pieces: Vec<Vec<u8>>,
-    next: usize,
+struct Stream<'a> {
+    alloc: Global,
+    words: &'a str,
     /// How a read fails that has no bytes to give; without it, it finds the end.
     fails: Option<ErrorKind>,
     text: Vec<u8>,
@@ -38,29 +33,15 @@ struct Stream {
     interruptions: u32,
 }
 
-impl Stream {
-    fn new(alloc: Global, room: usize, interruptions: u32, fails: Option<ErrorKind>) -> Stream {
-        Stream {
-            pieces: Vec::new(alloc),
-            next: 0,
-            fails,
-            text: Vec::new(alloc),
-            room,
-            interruptions,
-        }
-    }
-}
-
-impl Read for Stream {
+impl Read for Stream<'_> {
     fn read(&mut self, buffer: &mut [u8]) -> io::Result<usize> {
-        let piece = match self.pieces.get(self.next) {
-            Some(piece) => piece.as_slice(),
-            None => &[],
+        let (word, rest) = self.words.split_once(' ').unwrap_or((self.words, ""));
+        self.words = rest;
+        let Ok(piece) = bytes_of(self.alloc, word) else {
+            return Err(io::Error::from(ErrorKind::InvalidData));
         };
         let count = piece.len().min(buffer.len());
-        let (front, _) = piece.split_at(count);
-        buffer[..count].copy_from_slice(front);
-        self.next = self.next.saturating_add(1);
+        buffer[..count].copy_from_slice(&piece.as_slice()[..count]);
         match self.fails {
             Some(kind) if count == 0 => Err(io::Error::from(kind)),
             _ => Ok(count),
@@ -68,7 +49,7 @@ impl Read for Stream {
     }
 }
 
-impl Write for Stream {
+impl Write for Stream<'_> {
     fn write(&mut self, bytes: &[u8]) -> io::Result<usize> {
         if self.interruptions > 0 {
             self.interruptions -= 1;
@@ -87,140 +68,110 @@ impl Write for Stream {
     }
 }
 
-/// A stream whose reads give the words that are left.
-fn input(alloc: Global, line: &mut Words<'_>, fails: bool) -> Result<CountedReader<Stream>, Fault> {
-    let mut stream = Stream::new(alloc, 0, 0, fails.then_some(ErrorKind::BrokenPipe));
-    for _ in 0..u32::MAX {
-        if line.is_empty() {
-            break;
-        }
-        stream.pieces.push(line.bytes(alloc)?)?;
+/// A stream whose reads give these words, with room for all that is written.
+fn input(alloc: Global, words: &str, fails: Option<ErrorKind>) -> Stream<'_> {
+    Stream {
+        alloc,
+        words,
+        fails,
+        text: Vec::new(alloc),
+        room: usize::MAX,
+        interruptions: 0,
     }
-    Ok(CountedReader::new(stream))
 }
 
-fn output(alloc: Global, room: usize, interruptions: u32) -> CountedWriter<Stream> {
-    CountedWriter::new(Stream::new(alloc, room, interruptions, None))
+/// A stream that is written.
+fn output(alloc: Global, room: usize, interruptions: u32) -> CountedWriter<Stream<'static>> {
+    let mut stream = input(alloc, "", None);
+    stream.room = room;
+    stream.interruptions = interruptions;
+    CountedWriter::new(stream)
 }
 
 /// Puts what two streams were written.
-fn put_texts(
-    alloc: Global,
-    out: CountedWriter<Stream>,
-    other: CountedWriter<Stream>,
-    answer: &mut String,
-) -> Result<(), AllocError> {
-    put_named(alloc, answer, "out", out.into_inner().text.as_slice())?;
-    put_named(alloc, answer, "other", other.into_inner().text.as_slice())
+fn put_texts(talk: &mut Talk<'_>, out: &Stream<'_>, other: &Stream<'_>) -> Result<(), AllocError> {
+    talk.name("out", out.text.as_slice())?;
+    talk.name("other", other.text.as_slice())
 }
 
-fn put_run(
-    alloc: Global,
-    is_show: bool,
-    line: &mut Words<'_>,
-    answer: &mut String,
-) -> Result<(), Fault> {
-    let fails = line.number::<u8>()? == 1;
-    let (room, interruptions) = (line.number()?, line.number()?);
-    let mut input = input(alloc, line, fails)?;
-    let mut out = output(alloc, room, interruptions);
-    let mut faults = output(alloc, usize::MAX, interruptions);
-    let status = if is_show {
-        run_show(alloc, Model::M2, &mut input, &mut out, &mut faults)
-    } else {
-        run_script(alloc, Terminals::Waiting, &mut input, &mut out, &mut faults)
+fn put_run(talk: &mut Talk<'_>, is_show: bool) -> Result<(), Fault> {
+    let fails = talk.number::<bool>()?.then_some(ErrorKind::BrokenPipe);
+    let (room, interruptions) = (talk.number()?, talk.number()?);
+    let mut input = CountedReader::new(input(talk.alloc, talk.rest(), fails));
+    let mut out = output(talk.alloc, room, interruptions);
+    let mut faults = output(talk.alloc, usize::MAX, interruptions);
+    let (alloc, waiting) = (talk.alloc, Terminals::Waiting);
+    let status = match is_show {
+        true => run_show(alloc, Model::M2, &mut input, &mut out, &mut faults),
+        false => run_script(alloc, waiting, &mut input, &mut out, &mut faults),
     };
-    write!(answer, "status {status}\n")?;
-    put_texts(alloc, out, faults, answer)?;
-    Ok(())
+    writeln!(talk.answer, "status {status}")?;
+    Ok(put_texts(talk, &out.into_inner(), &faults.into_inner())?)
 }
 
-fn put_term(alloc: Global, line: &mut Words<'_>, answer: &mut String) -> Result<(), Fault> {
-    let fails = line.number::<u8>()? == 1;
-    let (room, sends) = (line.number()?, line.number()?);
-    let script = line.bytes(alloc)?;
+fn put_term(talk: &mut Talk<'_>) -> Result<(), Fault> {
+    let fails = talk.number::<bool>()?.then_some(ErrorKind::BrokenPipe);
+    let (room, sends) = (talk.number()?, talk.number()?);
+    let script = talk.bytes()?;
+    let script = text_of(script.as_slice())?;
+    let mut out = output(talk.alloc, room, 0);
     let mut wire = Wire {
-        down: input(alloc, line, fails)?,
-        up: output(alloc, sends, 0),
+        down: CountedReader::new(input(talk.alloc, talk.rest(), fails)),
+        up: output(talk.alloc, sends, 0),
     };
-    let mut out = output(alloc, room, 0);
     let lu = Lu::read(b"PNL01");
-    match operate(
-        alloc,
-        Model::M2,
-        lu,
-        text_of(script.as_slice())?,
-        &mut wire,
-        &mut out,
-    ) {
-        Ok(()) => answer.push_str("done\n")?,
-        Err(fault) => write!(answer, "{fault}\n")?,
+    match operate(talk.alloc, Model::M2, lu, script, &mut wire, &mut out) {
+        Ok(()) => talk.done(Ok(()))?,
+        Err(fault) => writeln!(talk.answer, "{fault}")?,
     }
-    put_texts(alloc, out, wire.up, answer)?;
-    Ok(())
+    Ok(put_texts(talk, &out.into_inner(), &wire.up.into_inner())?)
 }
 
-type Session = OperatorSession<Stream, CountedReader<Stream>, CountedWriter<Stream>>;
+type Session<'a> = OperatorSession<
+    Stream<'a>,
+    CountedReader<Stream<'a>>,
+    CountedWriter<Stream<'static>>,
+>;
 
-/// Takes a turn for each piece, and puts what the operator asks of the program, or the fault.
-fn put_turns(
+fn take_turns<'a>(
     alloc: Global,
-    session: &mut Session,
+    session: &mut Session<'a>,
+    pipe: Stream<'a>,
     turns: usize,
-    answer: &mut String,
-) -> Result<(), AllocError> {
+) -> Result<(), jobs3270::Fault> {
+    session.connect(pipe, None)?;
     for _ in 0..turns {
-        if let Err(fault) = session.turn(alloc) {
-            return write!(answer, "{fault}\n");
-        }
+        session.turn(alloc)?;
     }
-    write!(answer, "asked {}\n", session.take_asked() as u8)
-}
-
-/// Puts what becomes of a session with this connection and these keys; nothing if there is no memory.
-fn put_session(
-    alloc: Global,
-    pipe: Stream,
-    keys: Stream,
-    answer: &mut String,
-) -> Result<(), AllocError> {
-    let turns = pipe.pieces.len();
-    let tty = output(alloc, usize::MAX, 0);
-    let Ok(mut session) = Session::new(alloc, Model::M2, CountedReader::new(keys), tty) else {
-        return Ok(());
-    };
-    if session.connect(pipe, None).is_err() {
-        return Ok(());
-    }
-    put_turns(alloc, &mut session, turns, answer)?;
-    let (pipe, tty) = session.into_parts();
-    let Some(pipe) = pipe else {
-        return answer.push_str("no connection\n");
-    };
-    put_texts(alloc, tty, CountedWriter::new(pipe), answer)
-}
-
-fn put_live(alloc: Global, line: &mut Words<'_>, answer: &mut String) -> Result<(), Fault> {
-    let mut pipe = Stream::new(alloc, usize::MAX, 0, Some(ErrorKind::WouldBlock));
-    let mut keys = Stream::new(alloc, 0, 0, None);
-    for _ in 0..u32::MAX {
-        if line.is_empty() {
-            break;
-        }
-        pipe.pieces.push(line.bytes(alloc)?)?;
-        keys.pieces.push(line.bytes(alloc)?)?;
-    }
-    put_session(alloc, pipe, keys, answer)?;
     Ok(())
+}
+
+fn put_live(talk: &mut Talk<'_>) -> Result<(), Fault> {
+    let (alloc, turns) = (talk.alloc, talk.number()?);
+    let (came, typed) = talk.rest().split_once(" / ").unwrap_or(("", ""));
+    let pipe = input(alloc, came, Some(ErrorKind::WouldBlock));
+    let keys = CountedReader::new(input(alloc, typed, None));
+    let tty = output(alloc, usize::MAX, 0);
+    let Ok(mut session) = Session::new(alloc, Model::M2, keys, tty) else {
+        return Err(Fault::NoMemory(AllocError));
+    };
+    match take_turns(alloc, &mut session, pipe, turns) {
+        Ok(()) => writeln!(talk.answer, "asked {}", session.take_asked() as u8)?,
+        Err(fault) => writeln!(talk.answer, "{fault}")?,
+    }
+    match session.into_parts() {
+        (Some(pipe), tty) => Ok(put_texts(talk, &tty.into_inner(), &pipe)?),
+        _ => Ok(writeln!(talk.answer, "no connection")?),
+    }
 }
 
 impl Subject for Streams {
-    fn take(&mut self, line: &mut Words<'_>, answer: &mut String) -> Result<(), Fault> {
-        match line.word()? {
-            "show" => put_run(self.alloc, true, line, answer),
-            "script" => put_run(self.alloc, false, line, answer),
-            "term" => put_term(self.alloc, line, answer),
-            "live" => put_live(self.alloc, line, answer),
+    fn take(&mut self, talk: &mut Talk<'_>) -> Result<(), Fault> {
+        match talk.word()? {
+            "show" => put_run(talk, true),
+            "script" => put_run(talk, false),
+            "term" => put_term(talk),
+            "live" => put_live(talk),
             _ => Err(Fault::Needs("show, script, term or live")),
         }
     }
