@@ -1,12 +1,54 @@
-"""The answers of the probe's subjects that speak of cells: their lines have tokens, `C1` a
-character, `sf:60` an attribute."""
+"""The answers of the probe's subjects that speak of cells, as the cases say them: `C1` a character, `1D60` an attribute."""
 import functools
 import pathlib
+import re
 from collections.abc import Callable, Iterator
 
 from harness.case import Case, same
 from harness.data import Line, blocks_of, lines_of
 from harness.probe import Probe
+
+# The graphic codes of six-bit values (GA23-0059-07), in their order: the first and the last of each run.
+RUNS = ((0x40, 0x40), (0xC1, 0xC9), (0x4A, 0x4F), (0x50, 0x50), (0xD1, 0xD9), (0x5A, 0x5F), (0x60, 0x61), (0xE2, 0xE9),
+        (0x6A, 0x6F), (0xF0, 0xF9), (0x7A, 0x7F))
+GRAPHIC = [code for first, last in RUNS for code in range(first, last + 1)]
+DISPLAYS = ("Normal", "Detectable", "Bright", "Hidden")
+
+
+def attribute(found: re.Match[str]) -> str:
+    """The code of an attribute that is printed by Debug."""
+    protected, numeric, display, mdt = found.groups()
+    bits = 32 * (protected == "true") + 16 * (numeric == "true") + 4 * DISPLAYS.index(display) + (mdt == "true")
+    return f"{GRAPHIC[bits]:02X}"
+
+
+def text_of(numbers: str) -> str:
+    return "".join(f"{int(it):02X}" for it in numbers.split(", ") if it) or "-"
+
+
+# What is printed by Debug, and how the cases say it: one after the other.
+SPELLINGS = [(re.compile(pattern), said) for pattern, said in (
+    (r"Addr \{ position: (\d+) \}", r"\1"),
+    (r"Attr \{ protected: (\w+), numeric: (\w+), display: (\w+), mdt: (\w+) \}", attribute),
+    (r"ReturnedField \{ first: (\d+), text: \[([\d, ]*)\] \}", lambda it: f"{it[1]} {text_of(it[2])}"),
+    (r"Field \{ attr: (\d+), length: (\d+) \}", r"\1+\2"),
+    (r"Wcc \{ alarm: (\w+), restore: (\w+), reset: (\w+) \}", r"alarm \1 restore \2 reset \3"),
+    (r"Ra\((\d+), (\d+)\)", lambda it: f"ra:{it[1]}:{text_of(it[2])}"),
+    (r"\b(Sba|Eua|At)\((\d+)\)", lambda it: f"{it[1].lower()}:{it[2]}"),
+    (r"\bChar\((\d+)\)", lambda it: text_of(it[1])),
+    (r"\b(?:Sf|Attr)\((\w\w)\)", r"1D\1"),
+    (r"\bSome\(([^()]*)\)", r"\1"),
+    (r"\b(None|Keep|Pt|Ic)\b", lambda it: it[1].lower()),
+)]
+
+
+def plainly(answer: list[str]) -> list[str]:
+    """An answer as the cases say it."""
+    text = "\n".join(answer)
+    for pattern, said in SPELLINGS:
+        text = pattern.sub(said, text)
+    return text.split("\n")
+
 
 # A step of a case: does what a line says with what the case speaks of.
 Step = Callable[[object, Line, list[str]], None]
@@ -57,16 +99,12 @@ def check_row(probe: Callable[[], Probe], line: Line) -> None:
     command, equals, wanted = line.text.partition(" = ")
     if not equals:
         raise line.bad("needs COMMAND = LINE; LINE")
-    answer = probe().ask(command, line.at)
+    answer = plainly(probe().ask(command, line.at))
     check_part(wanted.split("; "), answer, line)
     for single in ("orders", "cells"):
         if any(it.split(" ", 1)[0] == single for it in answer):
-            same(
-                " ".join(in_runs(line_of(answer, single))),
-                " ".join(line_of(answer, "runs")),
-                line.at,
-            )
-    parts = ["?" if it.startswith("at:") else it for it in line_of(answer, "parts")]
+            same(" ".join(in_runs(line_of(answer, single))), " ".join(line_of(answer, "runs")), line.at)
+    parts = ["none" if it.startswith("at:") else it for it in line_of(answer, "parts")]
     same(" ".join(parts), " ".join(line_of(answer, "as-cells")), line.at)
 
 
@@ -120,5 +158,5 @@ def check_steps(make: Callable[[], object], lines: list[Line], head: Line) -> No
 
 def appended(probe: Probe, call: str, line: Line) -> bytes:
     """The bytes that a call leaves in the vector that it appends to."""
-    same(["ok"], probe.ask(call, line.at), line.at)
-    return line.data(probe.ask("left", line.at)[0].removeprefix("left "))
+    same(["done"], probe.ask(call, line.at), line.at)
+    return line.data(probe.ask("appended", line.at)[0].removeprefix("appended "))

@@ -26,9 +26,10 @@ The steps of a case, which begins with nothing known:
 from collections.abc import Iterator
 
 from harness.case import CASES, Case, same
-from harness.cells import appended, cases_of, line_of, tokens
+from harness.cells import appended, cases_of, line_of, plainly, text_of, tokens
 from harness.data import Line
 from harness.probe import Probe
+from harness.sights import cells_of, parts_of
 
 
 def want_again(token: str) -> str:
@@ -36,10 +37,10 @@ def want_again(token: str) -> str:
     attribute is MDT, and bits 0 and 1 make the code a graphic (GA23-0059-07 on the field
     attribute)."""
     graphic = {0x40: 0x40, 0xC1: 0x40}
-    if token.startswith("sf:"):
-        code = int(token[3:], 16) & ~1
-        return f"sf:{graphic.get(code, code):02X}"
-    return "00" if token == "?" else token
+    if len(token) == 4:
+        code = int(token[2:], 16) & ~1
+        return f"1D{graphic.get(code, code):02X}"
+    return "00" if token == "??" else token
 
 
 class Belief:
@@ -57,49 +58,52 @@ class Belief:
     do_new = do_want = do_put = do_aim = silent
 
     def do_take(self, line: Line, words: list[str]) -> None:
-        same("taken", self.ask(line.text, line), line.at)
+        same("Ok(true)", self.ask(line.text, line), line.at)
 
     def do_hear(self, line: Line, words: list[str]) -> None:
-        same("heard", self.ask(line.text, line), line.at)
+        same("Ok(None)", self.ask(line.text, line), line.at)
 
     def do_refuse(self, line: Line, words: list[str]) -> None:
-        same(f"refused {words[0]}", self.ask(f"hear {' '.join(words[1:])}", line), line.at)
+        same(f"Ok(Some({words[0]}))", self.ask(f"hear {' '.join(words[1:])}", line), line.at)
 
     def do_no_data(self, line: Line, words: list[str]) -> None:
-        same(f"fault {words[0]}", self.ask(f"hear {' '.join(words[1:])}", line), line.at)
+        same(f"Err({words[0]})", self.ask(f"hear {' '.join(words[1:])}", line), line.at)
 
     def do_size(self, line: Line, words: list[str]) -> None:
-        same(line.text, self.probe.ask("show", line.at)[0], line.at)
+        same(line.text, f"size {self.ask('size', line)}", line.at)
+
+    def place(self, line: Line, words: list[str]) -> list[str]:
+        """What is believed at an address: a fact, the cell, and the text, in one walk and by its places."""
+        return plainly(self.probe.ask(f"at {words[0]}", line.at))
 
     def do_fact(self, line: Line, words: list[str]) -> None:
-        fact, *others = self.probe.ask(f"at {words[0]}", line.at)
-        kind, text = fact.split(" ")[1:] if fact[0].isdigit() else ("none", "")
-        same(words[1], kind, line.at)
+        fact, _, *texts = self.place(line, words)
+        same(words[1], fact, line.at)
         if len(words) > 2:
-            wanted = line.data(" ".join(words[2:])).hex().upper()
-            same([wanted, f"values {wanted}"], [text, others[-1]], line.at)
+            wanted = line.data(" ".join(words[2:])).hex().upper() or "-"
+            same([wanted] * 2, [text_of(it.removeprefix("text").strip().replace(" ", ", ")) for it in texts], line.at)
 
     def do_known(self, line: Line, words: list[str]) -> None:
-        same(f"known {words[1]}", self.probe.ask(f"at {words[0]}", line.at)[-2], line.at)
+        same(words[1], self.place(line, words)[1].replace("none", "?"), line.at)
 
     def do_again(self, line: Line, words: list[str]) -> None:
-        cells = line_of(self.probe.ask("show", line.at), "cells")
+        cells = cells_of(parts_of(self.probe.ask("show", line.at))["belief"])
         model = {1920: 2, 2560: 3, 3440: 4, 3564: 5}[len(cells)]
         self.ask(f"want {model} 00", line)
         self.ask(f"put 0 {' '.join(map(want_again, cells))}", line)
         self.ask("aim 0 false", line)
 
     def do_wanted(self, line: Line, words: list[str]) -> None:
-        answer, cells = self.probe.ask("wanted", line.at), tokens(" ".join(words[2:]))
+        answer, cells = plainly(self.probe.ask("wanted", line.at)), tokens(" ".join(words[2:]))
         came = [line_of(answer, it) for it in ("cursor", "reset", "cells", "each")]
         each = [it for both in zip(cells, [*cells[1:], *cells[:1]]) for it in both]
         same([words[:1], words[1:2], cells, each], came, line.at)
 
     def do_fits(self, line: Line, words: list[str]) -> None:
-        same(line.text, self.ask("fits", line), line.at)
+        same(line.text, f"fits {self.ask('fits', line)}", line.at)
 
     def paint(self, line: Line, room: str = "0", before: str = "-") -> bytes:
-        self.ask(f"out {room} {before}", line)
+        self.ask(f"vector {room} {before}", line)
         return appended(self.probe, "paint", line)
 
     def do_paints(self, line: Line, words: list[str]) -> None:

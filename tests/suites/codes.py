@@ -7,24 +7,10 @@ page 037.
 from collections.abc import Iterable, Iterator
 
 from harness.case import CASES, Case, of_functions, same
+from harness.cells import DISPLAYS, GRAPHIC
 from harness.probe import Probe
 from harness.tables import rows
 
-# The graphic codes of six-bit values, in their order: the first and the last of each run.
-RUNS = (
-    (0x40, 0x40),
-    (0xC1, 0xC9),
-    (0x4A, 0x4F),
-    (0x50, 0x50),
-    (0xD1, 0xD9),
-    (0x5A, 0x5F),
-    (0x60, 0x61),
-    (0xE2, 0xE9),
-    (0x6A, 0x6F),
-    (0xF0, 0xF9),
-    (0x7A, 0x7F),
-)
-GRAPHIC = [code for first, last in RUNS for code in range(first, last + 1)]
 # The rows and columns of each model's alternate size.
 SIZES = {2: (24, 80), 3: (32, 80), 4: (43, 80), 5: (27, 132)}
 CELLS = {model: height * width for model, (height, width) in SIZES.items()}
@@ -33,10 +19,7 @@ PF = dict(
 )
 PA = {1: 0x6C, 2: 0x6E, 3: 0x6B}
 KEYS = {0x60: "NoAid", 0x7D: "Enter", 0x6D: "Clear"}
-KEYS |= {code: f"PF{number}" for number, code in PF.items()} | {
-    code: f"PA{number}" for number, code in PA.items()
-}
-DISPLAYS = ("Normal", "Detectable", "Bright", "Hidden")
+KEYS |= {code: f"PF{number}" for number, code in PF.items()} | {code: f"PA{number}" for number, code in PA.items()}
 # The control codes that a cell can hold; FF is one.
 STORED_CONTROLS = {0x00, 0x0C, 0x0D, 0x15, 0x19, 0x1C, 0x1E, 0x3F, 0xFF}
 # Code page 037 from 40 on, sixteen codes to a row.

@@ -6,4 +6,4 @@ from harness.cells import rows_in_part
 
 
 def cases() -> Iterator[Case]:
-    return rows_in_part(CASES / "inbound.rows", "inbound")
+    return rows_in_part(CASES / "inbound.rows", "commands")

@@ -103,10 +103,10 @@ def where_there_is_room_no_memory_is_taken() -> None:
     with Probe("messages") as probe:
         for line, (command, answer) in written:
             spelling = answer.partition("; bytes ")[2]
-            probe.ask(f"out {len(spelling) // 2}")
-            room = probe.ask("room")
+            probe.ask(f"vector {len(spelling) // 2} -")
+            room = probe.ask("capacity")
             same(f"bytes {spelling}", probe.ask(command, line.at)[1], line.at)
-            same(room, probe.ask("room"), line.at)
+            same(room, probe.ask("capacity"), line.at)
 
 
 def cases() -> Iterator[Case]:

@@ -27,7 +27,7 @@ import functools
 from collections.abc import Iterator
 
 from harness.case import CASES, TOP, Case, of_function, same
-from harness.cells import line_of, steps_of, take_step, tokens
+from harness.cells import line_of, plainly, steps_of, take_step, tokens
 from harness.data import Line, blocks_of
 from harness.probe import Probe
 from harness.sights import plain
@@ -49,7 +49,7 @@ class Screen:
     def cells(self, size: int) -> list[str]:
         found = ["00"] * size
         for attr, code, text in self.items:
-            found[attr : attr + 1 + len(text)] = [f"sf:{code}", *(f"{it:02X}" for it in text)]
+            found[attr : attr + 1 + len(text)] = [f"1D{code}", *(f"{it:02X}" for it in text)]
         for first, end in self.kept:
             found[first:end] = ["keep"] * (end - first)
         return found
@@ -80,7 +80,7 @@ class Panels:
             self.check(screen, self.ask(f"wanted true {screen.message}", screen.line)[4:], "false")
 
     def check(self, screen: Screen, answer: list[str], reset: str) -> None:
-        cells = line_of(answer, "cells")
+        cells = line_of(plainly(answer), "cells")
         for place, (wanted, came) in enumerate(zip(screen.cells(len(cells)), cells)):
             same(f"{place}: {wanted}", f"{place}: {came}", screen.line.at)
         same([reset], line_of(answer, "reset"), screen.line.at)

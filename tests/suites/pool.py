@@ -24,7 +24,7 @@ def read(probe: Probe, texts: list[str]) -> list[str]:
 def a_pool_has_at_most_64_lus() -> None:
     with Probe("pool") as probe:
         for count in (1, 2, MOST):
-            same(["ok"], read(probe, names(count)))
+            same(["done"], read(probe, names(count)))
             same(names(count), [probe.ask(f"ask {conn}")[0] for conn in range(count)])
             same(["DEVICE-IN-USE"], probe.ask(f"ask {count}"))
         same(["lu: BadCount"], read(probe, names(MOST + 1)))

@@ -23,9 +23,9 @@ import functools
 from collections.abc import Iterator
 
 from harness.case import CASES, Case, Difference, Place
-from harness.cells import line_of
 from harness.data import Line, lines_of
 from harness.probe import Probe
+from harness.sights import cells_of, parts_of
 
 PARTS = 4
 FORMS = ("modified", "all", "buffer")
@@ -64,18 +64,14 @@ class Pair:
 
 
 def comparable(answer: list[str]) -> list[str]:
-    """An answer without what reference doesn't have: lock, insert mode, a belief's size, and the
-    cells of a screen of which nothing is known."""
-    lines = [it for it in answer if it.split(" ")[0] not in ("lock", "inserting", "size")]
-    return [
-        "cells" if it.startswith("cells") and set(it.split()[1:]) == {"?"} else it for it in lines
-    ]
+    """An answer without the cells of a screen of which nothing is known: reference has none."""
+    return ["belief" if it.startswith("belief") and not it[7:].strip(" ?") else it for it in answer]
 
 
 def is_open_at_first(cells: list[str]) -> bool:
     """Whether the cells up to the first attribute are in an unprotected field, round the end."""
-    last = next((it for it in reversed(cells) if it.startswith("sf:")), None)
-    return last is not None and not int(last[3:], 16) & 0x20
+    last = next((it for it in reversed(cells) if len(it) == 4), None)
+    return last is not None and not int(last[2:], 16) & 0x20
 
 
 def wants(cells: list[str], is_changed: bool, keeps: bool) -> list[str]:
@@ -83,15 +79,15 @@ def wants(cells: list[str], is_changed: bool, keeps: bool) -> list[str]:
     of unprotected fields kept."""
     found, is_open = [], is_open_at_first(cells)
     for place, cell in enumerate(cells):
-        if cell.startswith("sf:"):
-            is_open = not int(cell[3:], 16) & 0x20
+        if len(cell) == 4:
+            is_open = not int(cell[2:], 16) & 0x20
             found.append(cell)
         elif keeps and is_open:
             found.append("keep")
         elif is_changed and place % CHANGED_EVERY == 0:
             found.append("C2")
         else:
-            found.append("00" if cell == "?" else cell)
+            found.append("00" if cell == "??" else cell)
     return found
 
 
@@ -101,17 +97,9 @@ def paints(cells: list[str]) -> list[str]:
     commands = []
     for is_changed, keeps in ((False, False), (True, False), (False, True)):
         wanted = " ".join(wants(cells, is_changed, keeps))
-        commands += [
-            "want 2 00",
-            f"put 0 {wanted}",
-            f"aim {CHANGED_EVERY} {str(is_changed).lower()}",
-            "fits",
-            "out 0 -",
-            "paint",
-            "left",
-        ]
-    for want in ("00", "sf:E8", "keep"):
-        commands += [f"want 2 {want}", "fits", "out 0 -", "paint", "left"]
+        commands += ["want 2 00", f"put 0 {wanted}", f"aim {CHANGED_EVERY} {str(is_changed).lower()}", "fits", "vector 0 -", "paint", "appended"]
+    for want in ("00", "1DE8", "keep"):
+        commands += [f"want 2 {want}", "fits", "vector 0 -", "paint", "appended"]
     return commands
 
 
@@ -127,7 +115,7 @@ class Held:
 
     def write(self, data: str, line: Line) -> None:
         answer = self.screens.ask([f"apply {data}"], line)[0][0]
-        if not answer.startswith("fault"):
+        if answer.startswith("Ok"):
             self.beliefs.ask([f"take 2 {data}"], line)
 
     def type_at(self, data: bytes, line: Line) -> None:
@@ -144,7 +132,7 @@ class Held:
         elif word in FORMS:
             self.hear(word, data.hex() or "-", line)
         elif word.startswith("answer-") and word[7:] in FORMS:
-            answer = self.screens.ask(["out 0 -", f"read {word[7:]}", "left"], line)[2][0]
+            answer = self.screens.ask(["vector 0 -", f"read {word[7:]}", "appended"], line)[2][0]
             self.hear(word[7:], answer.partition(" ")[2], line)
         elif word == "type":
             self.type_at(data, line)
@@ -160,13 +148,10 @@ class Held:
         word = line.text.split()[0]
         if word in (*CHANGES, "press"):
             looks = ["show", "look"] if word in CHANGES else ["show"]
-            self.screens.ask(
-                [*looks, *(it for form in FORMS for it in ("out 0 -", f"read {form}", "left"))],
-                line,
-            )
+            self.screens.ask([*looks, *(it for form in FORMS for it in ("vector 0 -", f"read {form}", "appended"))], line)
         if word == "write" or word not in (*CHANGES, "press"):
-            cells = line_of(self.beliefs.ask(["show"], line)[0], "cells")
-            for command in paints(cells + ["?"] * (1920 - len(cells))):
+            cells = cells_of(parts_of(self.beliefs.ask(["show"], line)[0])["belief"])
+            for command in paints(cells + ["??"] * (1920 - len(cells))):
                 self.beliefs.ask([command], line)
 
 

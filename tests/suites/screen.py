@@ -27,15 +27,19 @@ The steps of a case, for a screen with a keyboard that waits at first:
 """
 import dataclasses
 import functools
+import re
 from collections.abc import Iterator
 
 from harness.case import CASES, Case, Difference, of_function, same
-from harness.cells import appended, steps_of, take_step
+from harness.cells import appended, plainly, steps_of, take_step
 from harness.data import Line, blocks_of, lines_of
 from harness.probe import Probe
 
 FILL = "apply 7EC33C40405C"
 DUP, FIELD_MARK = 0x1C, 0x1E
+SIZES = {"M2": "24 80", "M3": "32 80", "M4": "43 80", "M5": "27 132"}
+SHOWN = re.compile(r"Shown { size: Size { model: (?P<size>M.) }, cursor: (?P<cursor>\d+), home: (?P<home>\d+), .*}")
+LOOK = re.compile(r"Look { cell: (\w+), field: (\S+), over: (\w+), glyph: (\d+) }")
 
 
 @dataclasses.dataclass(frozen=True)
@@ -49,7 +53,7 @@ class Cell:
 
     @property
     def attribute(self) -> int | None:
-        return int(self.token[3:], 16) if self.token.startswith("sf:") else None
+        return int(self.token[2:], 16) if len(self.token) == 4 else None
 
 
 class Display:
@@ -60,17 +64,19 @@ class Display:
         self.probe.ask(f"new {model}")
 
     def ask(self, command: str, line: Line) -> str:
-        return "\n".join(self.probe.ask(command, line.at))
+        return "\n".join(plainly(self.probe.ask(command, line.at)))
 
     def show(self, line: Line) -> dict[str, str]:
-        lines = self.probe.ask("show", line.at)
-        return {word: rest for word, _, rest in (it.partition(" ") for it in lines)}
+        shown = SHOWN.fullmatch(self.ask("show", line)).groupdict()
+        return {**shown, "size": SIZES[shown["size"]], "fields": self.ask("fields", line).removeprefix("fields").strip()}
 
     def look(self, line: Line) -> list[Cell]:
-        rows = (it.split() for it in self.probe.ask("look", line.at))
+        rows = [LOOK.fullmatch(it).groups() for it in self.ask("look", line).split("\n")]
+        glyphs = self.ask("glyphs", line).split()[1:]
+        same(len(rows), len(glyphs), line.at)
         return [
-            Cell(token, field, over, (int(one), int(other)))
-            for token, field, over, one, other in rows
+            Cell(token, field.replace("none", "-"), "-" if over == "none" else f"1D{over}", (int(glyph), int(walked)))
+            for (token, field, over, glyph), walked in zip(rows, glyphs)
         ]
 
     def press(self, key: str, line: Line) -> str:
@@ -78,7 +84,7 @@ class Display:
         return self.ask(f"char {ord(letter)}" if colon else f"press {kind}", line)
 
     def do_apply(self, line: Line, words: list[str]) -> None:
-        same("restore", self.ask(f"apply {' '.join(words)}", line).split()[0], line.at)
+        same("Ok", self.ask(f"apply {' '.join(words)}", line)[:2], line.at)
 
     def do_times(self, line: Line, words: list[str]) -> None:
         for _ in range(int(words[0])):
@@ -87,14 +93,10 @@ class Display:
     def do_asks(self, line: Line, words: list[str]) -> None:
         asked = {"nothing": (False, False), "alarm": (False, True), "restore": (True, False)}
         restore, alarm = (str(it).lower() for it in asked[words[0]])
-        same(
-            f"restore {restore} alarm {alarm}",
-            self.ask(f"apply {' '.join(words[1:])}", line),
-            line.at,
-        )
+        same(f"Ok(Applied {{ restore: {restore}, alarm: {alarm} }})", self.ask(f"apply {' '.join(words[1:])}", line), line.at)
 
     def do_beyond(self, line: Line, words: list[str]) -> None:
-        same("fault BadAddress", self.ask(f"apply {' '.join(words)}", line), line.at)
+        same("Err(BadAddress)", self.ask(f"apply {' '.join(words)}", line), line.at)
 
     def change(self, line: Line, words: list[str]) -> None:
         self.ask(line.text, line)
@@ -102,14 +104,14 @@ class Display:
     do_store = do_erase_input = do_clear = change
 
     def do_moves(self, line: Line, words: list[str]) -> None:
-        same("done", self.press(words[0], line), line.at)
+        same("Done", self.press(words[0], line), line.at)
         same(words[1], self.show(line)["cursor"], line.at)
 
     def do_refuses(self, line: Line, words: list[str]) -> None:
-        same(f"refused {words[1]}", self.press(words[0], line), line.at)
+        same(f"Refused({words[1].title().replace('-', '')})", self.press(words[0], line), line.at)
 
     def do_sends(self, line: Line, words: list[str]) -> None:
-        same("sends", self.press(words[0], line).split()[0], line.at)
+        same("Send", self.press(words[0], line).split("(")[0], line.at)
 
     def shown(self, line: Line, words: list[str]) -> None:
         word = line.text.split()[0]
@@ -137,15 +139,11 @@ class Display:
     def do_reads(self, line: Line, words: list[str]) -> None:
         wanted = line.data(" ".join(words[1:]))
         for before, room in ((b"", 0), (b"\7\7", 2), (b"\7\7", 2 + len(wanted))):
-            self.ask(f"out {room} {before.hex() or '-'}", line)
-            same(
-                (before + wanted).hex().upper(),
-                appended(self.probe, f"read {words[0]}", line).hex().upper(),
-                line.at,
-            )
+            self.ask(f"vector {room} {before.hex() or '-'}", line)
+            same((before + wanted).hex().upper(), appended(self.probe, f"read {words[0]}", line).hex().upper(), line.at)
 
     def do_buffer_length(self, line: Line, words: list[str]) -> None:
-        self.ask("out 0 -", line)
+        self.ask("vector 0 -", line)
         same(int(words[0]), len(appended(self.probe, "read buffer", line)), line.at)
 
     def do_copied(self, line: Line, words: list[str]) -> None:
@@ -223,7 +221,7 @@ def of_block(head: Line, name: str, lines: list[Line]) -> Iterator[Case]:
 
 
 def may_be_typed_into(cell: Cell) -> bool:
-    return cell.attribute is None and (cell.over == "-" or not int(cell.over[3:], 16) & 0x20)
+    return cell.attribute is None and (cell.over == "-" or not int(cell.over[2:], 16) & 0x20)
 
 
 def new_line_goes(line: Line) -> None:
@@ -239,10 +237,8 @@ def new_line_goes(line: Line) -> None:
         wanted = next((it for it in order if may_be_typed_into(cells[it])), 0)
         for place in (row * columns, (row + 1) * columns - 1):
             display.ask(f"cursor {place}", line)
-            same(f"from {place}: done", f"from {place}: {display.press('newline', line)}", line.at)
-            same(
-                f"from {place}: {wanted}", f"from {place}: {display.show(line)['cursor']}", line.at
-            )
+            same(f"from {place}: Done", f"from {place}: {display.press('newline', line)}", line.at)
+            same(f"from {place}: {wanted}", f"from {place}: {display.show(line)['cursor']}", line.at)
     display.probe.close()
 
 

@@ -109,7 +109,7 @@ def answers(
 
 
 def check_item(before: list[str], command: str, wanted: str) -> None:
-    with Probe("talks") as probe:
+    with Probe("messages") as probe:
         for step in before:
             probe.ask(step)
         same(wanted, named("; ".join(probe.ask(command))))
@@ -140,7 +140,7 @@ def items_in_states() -> Iterator[tuple[str, list[str], str, str]]:
 
 
 def cases() -> Iterator[Case]:
-    yield from blocks(CASES / "talks.blocks", "talks", named)
+    yield from blocks(CASES / "talks.blocks", "messages", named)
     at = Place("tests/suites/talks.py", items_in_states.__code__.co_firstlineno)
     for state, before, command, wanted in items_in_states():
         yield Case(

@@ -112,13 +112,13 @@ def check_written(line: Line) -> None:
     command, spelling = row_of(line)
     with Probe("wire") as probe:
         for old in ("-", "0707"):
-            probe.ask(f"out {len(old) // 2} {old}")
-            same(["ok"], probe.ask(command, line.at))
-            same([f"out {old.strip('-')}{spelling}"], probe.ask("left"))
-        probe.ask(f"out {len(spelling) // 2} -")
-        room = probe.ask("room")
+            probe.ask(f"vector {len(old) // 2} {old}")
+            same(["done"], probe.ask(command, line.at))
+            same([f"appended {old.strip('-')}{spelling}"], probe.ask("appended"))
+        probe.ask(f"vector {len(spelling) // 2} -")
+        room = probe.ask("capacity")
         probe.ask(command, line.at)
-        same(room, probe.ask("room"))
+        same(room, probe.ask("capacity"))
 
 
 def item_of(line: Line) -> str:

@@ -5,7 +5,6 @@ mod codes;
 mod commands;
 mod four;
 mod host;
-mod inbound;
 mod lines;
 mod links;
 mod messages;
@@ -14,13 +13,14 @@ mod pool;
 mod reports;
 mod screen;
 mod streams;
-mod talks;
 mod terminal;
-mod wanted;
 mod wire;
 mod world;
 
 use crate::talk::{Fault, Talk};
+use belief::{Belief, Present};
+use codes3270::Model;
+use reference::{AnyScreen, ReferenceBelief, ReferenceScreen};
 use std::alloc::AllocError;
 use std::io::{self, BufRead, BufReader, Write};
 
@@ -32,7 +32,9 @@ pub(crate) trait Subject {
 
 /// Does the command of a whole line.
 fn take_all<S: Subject>(subject: &mut S, talk: &mut Talk<'_>) -> Result<(), Fault> {
-    subject.take(talk)?;
+    if !talk.take_vector()? {
+        subject.take(talk)?;
+    }
     talk.end()
 }
 
@@ -50,17 +52,16 @@ fn put_answer<S: Subject>(subject: &mut S, talk: &mut Talk<'_>) -> Result<(), Al
 fn answer_line<S: Subject>(
     rt: &HostRuntime,
     subject: &mut S,
-    line: &str,
-    answer: &mut String,
+    talk: &mut Talk<'_>,
 ) -> io::Result<()> {
-    answer.clear();
-    match line.strip_prefix("! ") {
+    match talk.rest.strip_prefix("! ") {
         Some(line) => {
+            talk.rest = line;
             eprintln!(rt; "begin")?;
-            put_answer(subject, &mut Talk::new(rt.alloc(), line, answer))?;
+            put_answer(subject, talk)?;
             eprintln!(rt; "end")
         }
-        None => Ok(put_answer(subject, &mut Talk::new(rt.alloc(), line, answer))?),
+        None => Ok(put_answer(subject, talk)?),
     }
 }
 
@@ -68,8 +69,17 @@ fn answer_line<S: Subject>(
 fn serve<S: Subject + Drop>(rt: &HostRuntime, mut subject: S) -> io::Result<bool> {
     // Answers have room, so that want of memory is but that of calls.
     let mut answer = String::with_capacity(rt.alloc(), 1 << 16)?;
+    let mut out = Vec::new(rt.alloc());
     for line in BufReader::new(rt.alloc(), rt.reader())?.lines(rt.alloc()) {
-        answer_line(rt, &mut subject, line?.as_str(), &mut answer)?;
+        let line = line?;
+        answer.clear();
+        let mut talk = Talk {
+            alloc: rt.alloc(),
+            rest: line.as_str(),
+            answer: &mut answer,
+            out: &mut out,
+        };
+        answer_line(rt, &mut subject, &mut talk)?;
         rt.stdout().write_all(answer.as_bytes())?;
     }
     Ok(true)
@@ -79,21 +89,19 @@ fn serve<S: Subject + Drop>(rt: &HostRuntime, mut subject: S) -> io::Result<bool
 pub(crate) fn run(rt: &HostRuntime, name: &str) -> io::Result<bool> {
     let alloc = rt.alloc();
     match name {
-        "belief" => serve(rt, belief::Belief::new(alloc)),
+        "belief" => serve(rt, Belief::<Present>::new()),
         "codes" => serve(rt, codes::Codes),
-        "commands" => serve(rt, commands::Commands::new(alloc)),
+        "commands" => serve(rt, commands::Commands),
         "host" => serve(rt, host::Hosts::new(alloc)),
-        "inbound" => serve(rt, inbound::Inbounds),
         "lines" => serve(rt, lines::Lines),
-        "messages" => serve(rt, messages::Messages::new(alloc)),
+        "messages" => serve(rt, messages::Messages::new()),
         "panel" => serve(rt, panel::Panels::new(alloc)),
-        "pool" => serve(rt, pool::Pools::new()),
-        "reference-belief" => serve(rt, belief::Belief::listed(alloc)),
-        "reference-screen" => serve(rt, screen::Display::listed(alloc)),
+        "pool" => serve(rt, pool::Pools { pool: None }),
+        "reference-belief" => serve(rt, Belief::<ReferenceBelief>::new()),
+        "reference-screen" => serve(rt, ReferenceScreen::blank(Model::M2)),
         "reports" => serve(rt, reports::Reports),
-        "screen" => serve(rt, screen::Display::new(alloc)),
+        "screen" => serve(rt, screen::Display::blank(Model::M2)),
         "streams" => serve(rt, streams::Streams),
-        "talks" => serve(rt, talks::Talks::new()),
         "terminal" => serve(rt, terminal::Terminals::new(alloc)),
         "wire" => serve(rt, wire::Wire::new(alloc)?),
         "world" => serve(rt, world::Worlds::new(alloc)),

@@ -1,4 +1,6 @@
 //! A line of standard input, as words, numbers and bytes, and the lines of its answer.
+ghost use Rattle.std.specs.Iterator.{IsFinite};
+
 use codes3270::Model;
 use hex::FromHexError;
 use std::alloc::{AllocError, Global};
@@ -19,21 +21,34 @@ pub(crate) enum Fault {
 
 const BYTES: &str = "bytes: pairs of hexadecimal digits, PAIRS*N, \"TEXT\", or - for none";
 
-/// What a subject makes of a line: the words that it hasn't taken yet, and its answer so far.
+/// The words of a line that weren't taken yet, its answer so far, and the vector that calls append to.
 #[derive(Drop)]
 pub(crate) struct Talk<'a> {
     pub(crate) alloc: Global,
-    rest: &'a str,
+    pub(crate) rest: &'a str,
     pub(crate) answer: &'a mut String,
+    pub(crate) out: &'a mut Vec<u8>,
 }
 
 impl<'a> Talk<'a> {
-    pub(crate) fn new(alloc: Global, line: &'a str, answer: &'a mut String) -> Talk<'a> {
-        Talk {
-            alloc,
-            rest: line,
-            answer,
+    /// Does a command on the vector: `vector ROOM BYTES` makes a new one with this room and these bytes, `appended` shows
+    /// what it has, and `capacity` its capacity. Whether it is one of these.
+    pub(crate) fn take_vector(&mut self) -> Result<bool, Fault> {
+        let line = self.rest;
+        match self.word()? {
+            "vector" => {
+                *self.out = Vec::with_capacity(self.alloc, self.number()?)?;
+                let bytes = self.all_bytes()?;
+                self.out.extend_from_slice(bytes.as_slice())?;
+            }
+            "appended" => put_named(self.answer, "appended", self.out.as_slice())?,
+            "capacity" => writeln!(self.answer, "{}", self.out.capacity())?,
+            _ => {
+                self.rest = line;
+                return Ok(false);
+            }
         }
+        Ok(true)
     }
 
     /// The next word.
@@ -71,10 +86,7 @@ impl<'a> Talk<'a> {
     where
         T::Err: Drop,
     {
-        match self.word()?.parse::<T>() {
-            Ok(number) => Ok(number),
-            Err(_) => Err(Fault::Needs("a number in range")),
-        }
+        self.word()?.parse::<T>().map_err(|_| Fault::Needs("a number in range"))
     }
 
     /// The next word as a byte, two hexadecimal digits.
@@ -95,30 +107,42 @@ impl<'a> Talk<'a> {
 
     /// The bytes of the next word.
     pub(crate) fn bytes(&mut self) -> Result<Vec<u8>, Fault> {
-        let mut bytes = Vec::new(self.alloc);
-        put_word(self.alloc, &mut bytes, self.word()?)?;
-        Ok(bytes)
+        bytes_of(self.alloc, self.word()?)
     }
 
     /// The bytes of all words that are left, one after the other.
     pub(crate) fn all_bytes(&mut self) -> Result<Vec<u8>, Fault> {
         let mut bytes = Vec::new(self.alloc);
         for word in self.rest().split_whitespace() {
-            put_word(self.alloc, &mut bytes, word)?;
+            bytes.extend_from_slice(bytes_of(self.alloc, word)?.as_slice())?;
         }
         Ok(bytes)
     }
 
     /// Puts a line: a name, and bytes in hexadecimal, `-` for none.
     pub(crate) fn name(&mut self, name: &str, bytes: &[u8]) -> Result<(), AllocError> {
-        write!(self.answer, "{name} ")?;
-        put_hex(self.answer, bytes)?;
-        self.answer.push('\n')
+        put_named(self.answer, name, bytes)
     }
 
     /// Puts a line: a value by `{:?}`.
     pub(crate) fn line<T: Debug>(&mut self, value: &T) -> Result<(), AllocError> {
         writeln!(self.answer, "{value:?}")
+    }
+
+    /// Puts a line: a name, and each item by `{:?}`.
+    pub(crate) fn each<T: Debug + Drop, I: Iterator<Item = T> + Drop>(
+        &mut self,
+        name: &str,
+        items: I,
+    ) -> Result<(), AllocError>
+        requires can { I.can_next items }
+        requires ends { IsFinite (I.remaining items) }
+    {
+        self.answer.push_str(name)?;
+        for item in items {
+            write!(self.answer, " {item:?}")?;
+        }
+        self.answer.push('\n')
     }
 
     /// Puts whether a call had the memory that it wanted.
@@ -151,29 +175,32 @@ pub(crate) fn put_hex(answer: &mut String, bytes: &[u8]) -> Result<(), AllocErro
     Ok(())
 }
 
+/// Puts a line: a name and bytes.
+pub(crate) fn put_named(answer: &mut String, name: &str, bytes: &[u8]) -> Result<(), AllocError> {
+    write!(answer, "{name} ")?;
+    put_hex(answer, bytes)?;
+    answer.push('\n')
+}
+
 /// A byte of two hexadecimal digits.
 pub(crate) fn byte_of(digits: &str) -> Result<u8, Fault> {
-    match u8::from_str_radix(digits, 16) {
-        Ok(byte) => Ok(byte),
-        Err(_) => Err(Fault::Needs("two hexadecimal digits")),
-    }
+    u8::from_str_radix(digits, 16).map_err(|_| Fault::Needs("two hexadecimal digits"))
 }
 
 /// The text that bytes spell in UTF-8.
 pub(crate) fn text_of(bytes: &[u8]) -> Result<&str, Fault> {
-    match str::from_utf8(bytes) {
-        Ok(text) => Ok(text),
-        Err(_) => Err(Fault::Needs("bytes of UTF-8")),
-    }
+    str::from_utf8(bytes).map_err(|_| Fault::Needs("bytes of UTF-8"))
 }
 
-/// Appends the bytes that a word says.
-pub(crate) fn put_word(alloc: Global, bytes: &mut Vec<u8>, word: &str) -> Result<(), Fault> {
+/// The bytes that a word says.
+pub(crate) fn bytes_of(alloc: Global, word: &str) -> Result<Vec<u8>, Fault> {
+    let mut bytes = Vec::new(alloc);
     if word == "-" {
-        return Ok(());
+        return Ok(bytes);
     }
     if let Some(text) = word.strip_prefix('"').and_then(|text| text.strip_suffix('"')) {
-        return Ok(bytes.extend_from_slice(text.as_bytes())?);
+        bytes.extend_from_slice(text.as_bytes())?;
+        return Ok(bytes);
     }
     let (pairs, times) = word.split_once('*').unwrap_or((word, "1"));
     let Ok(times) = times.parse::<u32>() else {
@@ -187,5 +214,5 @@ pub(crate) fn put_word(alloc: Global, bytes: &mut Vec<u8>, word: &str) -> Result
     for _ in 0..times {
         bytes.extend_from_slice(some.as_slice())?;
     }
-    Ok(())
+    Ok(bytes)
 }

@@ -2,12 +2,15 @@
 use crate::fields::{Cells, Chars, Fields, Known, fields_of, laid_out, push_chars};
 use crate::hearing::{after_attention, any_other, heard_fields};
 use crate::painting::{fits_fields, put_cells, wants_of};
+use crate::{AnyBelief, put_cell};
 use arrayvec::ArrayVec;
-use codes3270::{Aid, CELL_COUNT, Cell, Wcc};
+use codes3270::{Aid, CELL_COUNT, Cell, Model, Size, Wcc};
 use datastream::{
-    Command, CommandCode, CommandWriter, Form, Inbound, Memory, Order, Orders, Wanted,
+    Command, CommandCode, CommandFault, CommandWriter, Form, Inbound, InboundFault, Memory, Order,
+    Orders, Want, Wanted, read_command, read_inbound,
 };
-use shadow::{Fact, HeardFault, MdtState};
+use shadow::{HeardFault, MdtState, plain};
+use std::alloc::AllocError;
 
 /// What is believed of a screen.
 #[derive(Drop)]
@@ -118,17 +121,12 @@ impl ReferenceBelief {
         }
     }
 
-    /// Takes in a plain write that was carried out.
-    pub fn sent_taken(&mut self, command: &Command<'_>) {
-        *self = self.taken(command);
-    }
-
     fn after_short(&self, aid: Aid) -> ReferenceBelief {
         match (aid, self) {
             (Aid::Clear, _) => ReferenceBelief::Unformatted(nulls_known()),
-            (_, ReferenceBelief::Formatted(fields)) => ReferenceBelief::Formatted(after_attention(
-                fields,
-            )),
+            (_, ReferenceBelief::Formatted(fields)) => {
+                ReferenceBelief::Formatted(after_attention(fields))
+            }
             _ => ReferenceBelief::Nothing,
         }
     }
@@ -167,15 +165,12 @@ impl ReferenceBelief {
         Ok(belief_of(&Fields::new(), cells.as_slice()))
     }
 
-    /// Takes in what a terminal sent; on an error nothing changes.
-    pub fn heard(&mut self, inbound: &Inbound<'_>) -> Result<(), HeardFault> {
-        let next = match inbound.form() {
+    fn heard(&self, inbound: &Inbound<'_>) -> Result<ReferenceBelief, HeardFault> {
+        match inbound.form() {
             Form::Modified if inbound.aid().is_short() => Ok(self.after_short(inbound.aid())),
             Form::Modified | Form::All => self.after_long(inbound),
             Form::Buffer => self.after_buffer(inbound),
-        };
-        *self = next?;
-        Ok(())
+        }
     }
 
     /// All cells, as far as they are known; none if nothing is.
@@ -186,43 +181,49 @@ impl ReferenceBelief {
             ReferenceBelief::Formatted(fields) => laid_out(fields),
         }
     }
+}
 
-    /// Each cell, if it is known; none if nothing is. An attribute whose MDT isn't known has it off.
-    pub fn known(&self) -> ArrayVec<Option<Cell>, CELL_COUNT> {
-        let mut known = ArrayVec::new();
+impl AnyBelief for ReferenceBelief {
+    fn blank() -> ReferenceBelief {
+        ReferenceBelief::Nothing
+    }
+
+    fn take(&mut self, _model: Model, bytes: &[u8]) -> Result<bool, CommandFault> {
+        let command = read_command(bytes, Size::base(), Size::base())?;
+        let is_taken = plain(&command);
+        if is_taken {
+            *self = self.taken(&command);
+        }
+        Ok(is_taken)
+    }
+
+    fn hear(&mut self, form: Form, bytes: &[u8]) -> Result<Option<HeardFault>, InboundFault> {
+        match self.heard(&read_inbound(bytes, form, Size::base())?) {
+            Ok(next) => {
+                *self = next;
+                Ok(None)
+            }
+            Err(fault) => Ok(Some(fault)),
+        }
+    }
+
+    fn put(&self, answer: &mut String) -> Result<(), AllocError> {
+        answer.push_str("belief ")?;
         for cell in self.laid_out().as_slice() {
-            let _full = known.try_push(match *cell {
+            let known = match *cell {
                 Known::Attr(attr, mark) => Some(Cell::Attr(attr.with_mdt(mark == MdtState::On))),
                 Known::Char(char, _) => char.map(Cell::Char),
-            });
+            };
+            put_cell(answer, known)?;
         }
-        known
-    }
-
-    /// The fact of the field whose attribute is at an address.
-    pub fn fact(&self, place: u16) -> Option<Fact> {
+        answer.push('\n')?;
         match self {
-            ReferenceBelief::Formatted(fields) => {
-                let head = fields.field_with(usize::from(place))?;
-                Some(head.fact)
-            }
-            _ => None,
+            ReferenceBelief::Formatted(fields) => put_fields(answer, fields),
+            _ => Ok(()),
         }
     }
 
-    /// The text that the fact of a field speaks of.
-    pub fn text(&self, place: u16) -> &[u8] {
-        match self {
-            ReferenceBelief::Formatted(fields) => match fields.field_with(usize::from(place)) {
-                Some(head) => fields.lent(head).text,
-                None => &[],
-            },
-            _ => &[],
-        }
-    }
-
-    /// Whether Keep stands only where it may.
-    pub fn fits(&self, wanted: &Wanted) -> bool {
+    fn fits(&self, wanted: &Wanted) -> bool {
         let wants = wants_of(wanted);
         match self {
             ReferenceBelief::Formatted(fields) => fits_fields(fields, &wants),
@@ -230,8 +231,10 @@ impl ReferenceBelief {
         }
     }
 
-    /// Appends what paints a wanted screen, which fits or keeps nothing.
-    pub fn paint(&self, out: &mut Vec<u8>, wanted: &Wanted) -> Result<(), Memory> {
+    fn paint(&self, out: &mut Vec<u8>, wanted: &Wanted) -> Option<Result<(), Memory>> {
+        if wanted.cells().any(|want| want == Want::Keep) && !self.fits(wanted) {
+            return None;
+        }
         let (code, mut cells) = match self {
             ReferenceBelief::Formatted(fields) => (CommandCode::Write, laid_out(fields)),
             _ => (
@@ -242,12 +245,33 @@ impl ReferenceBelief {
         if wanted.reset() {
             marks_off(cells.as_mut_slice());
         }
-        let wcc = Wcc {
-            alarm: false,
-            restore: true,
-            reset: wanted.reset(),
-        };
-        CommandWriter::new(out).begin(code, wcc)?;
-        put_cells(out, &wants_of(wanted), wanted.cursor(), cells.as_slice())
+        Some(put_paint(out, code, wanted, cells.as_slice()))
     }
+}
+
+fn put_paint(
+    out: &mut Vec<u8>,
+    code: CommandCode,
+    wanted: &Wanted,
+    known: &[Known],
+) -> Result<(), Memory> {
+    let wcc = Wcc {
+        alarm: false,
+        restore: true,
+        reset: wanted.reset(),
+    };
+    CommandWriter::new(out).begin(code, wcc)?;
+    put_cells(out, &wants_of(wanted), wanted.cursor(), known)
+}
+
+/// Puts the fact and the text of each field.
+fn put_fields(answer: &mut String, fields: &Fields) -> Result<(), AllocError> {
+    for head in fields.heads() {
+        write!(answer, "field {} {:?} ", head.place, head.fact)?;
+        for code in fields.lent(*head).text {
+            write!(answer, "{code:02X}")?;
+        }
+        answer.push('\n')?;
+    }
+    Ok(())
 }

@@ -118,7 +118,8 @@ impl Fields {
 
     /// Adds a field, of whose characters that is known. There is room for as many as a screen has cells.
     pub(crate) fn push(&mut self, head: Head, lent: Lent<'_>) {
-        let start = if lent.fact == Fact::Any {
+        let is_partly = lent.fact == Fact::Any;
+        let start = if is_partly {
             self.chars.len()
         } else {
             self.texts.len()
@@ -133,14 +134,6 @@ impl Fields {
             ..head
         });
     }
-
-    /// The field whose attribute is at an address.
-    pub(crate) fn field_with(&self, place: usize) -> Option<Head> {
-        self.heads()
-            .iter()
-            .find(|head| head.place == place)
-            .copied()
-    }
 }
 
 /// Characters, as far as they are known.
@@ -148,11 +141,6 @@ pub type Chars = ArrayVec<Option<u8>, CELL_COUNT>;
 
 /// Each cell of a screen.
 pub(crate) type Cells = ArrayVec<Known, CELL_COUNT>;
-
-const RING: usize = 2 * CELL_COUNT;
-
-/// The cells twice.
-type Ring = ArrayVec<Known, RING>;
 
 /// Adds characters, as far as they are known.
 pub(crate) fn push_chars(cells: &mut Cells, chars: &[Option<u8>]) {
@@ -202,11 +190,12 @@ struct Gathered {
     fresh: bool,
 }
 
-fn gather(gathered: &mut Gathered, behind: &[Known]) {
+/// Gathers the characters behind an attribute, among these cells and then among all.
+fn gather(gathered: &mut Gathered, behind: &[Known], whole: &[Known]) {
     gathered.chars.clear();
     gathered.text.clear();
     gathered.fresh = false;
-    for cell in behind {
+    for cell in behind.iter().chain(whole) {
         let Known::Char(char, fresh) = *cell else {
             return;
         };
@@ -246,16 +235,8 @@ fn push_field(after: &mut Fields, gathered: &Gathered, before: &Fields, head: He
     after.push(Head { length, ..head }, lent);
 }
 
-fn ring_of(cells: &[Known]) -> Ring {
-    let mut ring = ArrayVec::new();
-    let _first = ring.try_extend_from_slice(cells);
-    let _second = ring.try_extend_from_slice(cells);
-    ring
-}
-
 /// The fields that the cells make, of which some may keep the facts that they had.
 pub(crate) fn fields_of(fields: &Fields, cells: &[Known]) -> Fields {
-    let ring = ring_of(cells);
     let mut gathered = Gathered {
         chars: ArrayVec::new(),
         text: ArrayVec::new(),
@@ -264,10 +245,14 @@ pub(crate) fn fields_of(fields: &Fields, cells: &[Known]) -> Fields {
     let mut after = Fields::new();
     for (place, cell) in cells.iter().enumerate() {
         if let Known::Attr(attr, mark) = *cell {
-            let behind = ring.as_slice().get(place.saturating_add(1)..);
-            gather(&mut gathered, behind.unwrap_or(&[]));
-            let head = Head::new(place, attr, mark, 0);
-            push_field(&mut after, &gathered, fields, head);
+            let behind = cells.get(place.saturating_add(1)..).unwrap_or(&[]);
+            gather(&mut gathered, behind, cells);
+            push_field(
+                &mut after,
+                &gathered,
+                fields,
+                Head::new(place, attr, mark, 0),
+            );
         }
     }
     after

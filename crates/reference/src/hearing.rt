@@ -8,36 +8,16 @@ use shadow::{Fact, HeardFault, MdtState};
 /// The returned text of each field.
 type Texts<'a> = ArrayVec<Option<&'a [u8]>, CELL_COUNT>;
 
-/// Nulls, and characters of which none is known.
-#[derive(Drop)]
-struct Blank {
-    nulls: [u8; CELL_COUNT],
-    unknown: [Option<u8>; CELL_COUNT],
+static NULLS: [u8; CELL_COUNT] = [0; CELL_COUNT];
+
+static UNKNOWN: [Option<u8>; CELL_COUNT] = [None; CELL_COUNT];
+
+fn null(count: usize) -> Lent<'static> {
+    Lent::told(Fact::Exact, NULLS.get(..count).unwrap_or(&[]))
 }
 
-fn nulls() -> [u8; CELL_COUNT] {
-    [0; CELL_COUNT]
-}
-
-fn unknown() -> [Option<u8>; CELL_COUNT] {
-    [None; CELL_COUNT]
-}
-
-impl Blank {
-    fn new() -> Blank {
-        Blank {
-            nulls: nulls(),
-            unknown: unknown(),
-        }
-    }
-
-    fn null(&self, count: usize) -> Lent<'_> {
-        Lent::told(Fact::Exact, self.nulls.get(..count).unwrap_or(&[]))
-    }
-
-    fn unknown(&self, count: usize) -> Lent<'_> {
-        Lent::partly(self.unknown.get(..count).unwrap_or(&[]))
-    }
+fn unknown(count: usize) -> Lent<'static> {
+    Lent::partly(UNKNOWN.get(..count).unwrap_or(&[]))
 }
 
 fn first_address(place: usize) -> usize {
@@ -135,37 +115,30 @@ fn any_erased(fields: &Fields, texts: &Texts<'_>) -> bool {
 }
 
 /// What is known of a field that a terminal didn't return.
-fn or_nulls<'a>(length: usize, lent: Lent<'a>, blank: &'a Blank) -> Lent<'a> {
+fn or_nulls<'a>(length: usize, lent: Lent<'a>) -> Lent<'a> {
     match lent.fact {
         Fact::Exact if lent.text.iter().any(|char| *char != 0) => {
             Lent::told(Fact::ExactOrNulls, lent.text)
         }
         Fact::Text => Lent::told(Fact::TextOrNulls, lent.text),
-        Fact::Any => blank.unknown(length),
+        Fact::Any => unknown(length),
         _ => lent,
     }
 }
 
 /// What is known of a field after its data was heard.
-fn lent_after<'a>(
-    head: Head,
-    lent: Lent<'a>,
-    erased: bool,
-    came: Option<&'a [u8]>,
-    blank: &'a Blank,
-) -> Lent<'a> {
+fn lent_after<'a>(head: Head, lent: Lent<'a>, erased: bool, came: Option<&'a [u8]>) -> Lent<'a> {
     match came {
         _ if head.attr.protected => lent,
-        Some([]) => blank.null(head.length),
+        Some([]) => null(head.length),
         Some(text) => Lent::told(Fact::Text, text),
-        None if erased => blank.null(head.length),
-        None => or_nulls(head.length, lent, blank),
+        None if erased => null(head.length),
+        None => or_nulls(head.length, lent),
     }
 }
 
 /// The fields after data that lists those with MDT on.
 fn after_long(fields: &Fields, texts: &Texts<'_>) -> Fields {
-    let blank = Blank::new();
     let erased = any_erased(fields, texts);
     let mut after = Fields::new();
     for (head, text) in fields.heads().iter().zip(texts.as_slice()) {
@@ -174,7 +147,7 @@ fn after_long(fields: &Fields, texts: &Texts<'_>) -> Fields {
         } else {
             MdtState::Off
         };
-        let lent = lent_after(*head, fields.lent(*head), erased, *text, &blank);
+        let lent = lent_after(*head, fields.lent(*head), erased, *text);
         after.push(Head { mark, ..*head }, lent);
     }
     after
@@ -182,18 +155,20 @@ fn after_long(fields: &Fields, texts: &Texts<'_>) -> Fields {
 
 /// The fields after a key that sends none.
 pub(crate) fn after_attention(fields: &Fields) -> Fields {
-    let blank = Blank::new();
     let mut after = Fields::new();
     for head in fields.heads() {
         if head.attr.protected {
             after.push(*head, fields.lent(*head));
-        } else if head.length == 0 {
-            let mark = MdtState::Unknown;
-            after.push(Head { mark, ..*head }, blank.null(0));
-        } else {
-            let mark = MdtState::Unknown;
-            after.push(Head { mark, ..*head }, blank.unknown(head.length));
+            continue;
         }
+        let mark = MdtState::Unknown;
+        // Of no characters all is known.
+        let lent = if head.length == 0 {
+            null(0)
+        } else {
+            unknown(head.length)
+        };
+        after.push(Head { mark, ..*head }, lent);
     }
     after
 }

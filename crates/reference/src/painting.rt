@@ -21,10 +21,7 @@ fn is_attribute(want: &Want) -> bool {
 /// Whether there is a Keep before the first attribute, in these and then in all wants.
 fn keeps_round(behind: &[Want], whole: &[Want]) -> bool {
     let ends = |want: &&Want| !matches!(want, Want::Char(_));
-    match behind.iter().chain(whole).find(ends) {
-        Some(Want::Keep) => true,
-        _ => false,
-    }
+    matches!(behind.iter().chain(whole).find(ends), Some(Want::Keep))
 }
 
 /// The number of cells before the first attribute, in these and then in all wants.

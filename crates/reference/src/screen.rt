@@ -1,11 +1,14 @@
 //! A screen as the list of its cells, which is searched for attributes.
-use crate::at;
+use crate::{AnyScreen, Look, Shown, at};
 use codes3270::{
-    Aid, Attr, CELL_COUNT, CELLS, Cell, Display, Wcc, addr_to_bytes, aid_byte, attr_code, storable,
-    to_latin1,
+    Aid, Attr, CELL_COUNT, CELLS, Cell, Display, Model, Size, Wcc, addr_to_bytes, aid_byte,
+    attr_code, storable, to_latin1,
 };
-use datastream::{Command, CommandCode, Memory, Order, Orders, SET_BUFFER_ADDRESS, START_FIELD};
-use presentation::Applied;
+use datastream::{
+    CommandCode, CommandFault, Form, Memory, Order, Orders, SET_BUFFER_ADDRESS, START_FIELD,
+    read_command,
+};
+use presentation::{Applied, Field};
 
 fn next_of(place: u16) -> u16 {
     place.wrapping_add(1) % CELLS
@@ -105,30 +108,30 @@ fn home_of(cells: &[Cell]) -> u16 {
     0
 }
 
-/// The number of cells of the field whose attribute is at an address.
-fn field_length(cells: &[Cell], at: u16) -> usize {
-    let back = cells_from(cells, at.saturating_add(1));
-    let count = count_characters(back);
-    if count == back.len() {
-        count.saturating_add(count_characters(cells))
-    } else {
-        count
+/// The field whose attribute is at an address.
+fn field_of(cells: &[Cell], attr: u16) -> Field {
+    let back = cells_from(cells, attr.saturating_add(1));
+    let count = back
+        .iter()
+        .chain(cells)
+        .take_while(|cell| cell.is_character())
+        .count();
+    Field {
+        attr: at(attr),
+        length: u16::try_from(count).unwrap_or(CELLS),
     }
 }
 
-const NOTHING: Applied = Applied {
-    restore: false,
-    alarm: false,
-};
+const fn asked(restore: bool, alarm: bool) -> Applied {
+    Applied { restore, alarm }
+}
 
 /// A screen of 24 by 80: its cells, the cursor and the AID.
 #[derive(Drop)]
 pub struct ReferenceScreen {
     cells: [Cell; CELL_COUNT],
-    /// The address of the cursor.
-    pub cursor: u16,
-    /// The AID.
-    pub aid: Aid,
+    cursor: u16,
+    aid: Aid,
 }
 
 /// Where a write is, and whether a PT nulls that comes next.
@@ -146,9 +149,8 @@ const fn moved_to(place: u16) -> Pen {
     }
 }
 
-impl ReferenceScreen {
-    /// A screen of nulls.
-    pub fn blank() -> ReferenceScreen {
+impl AnyScreen for ReferenceScreen {
+    fn blank(_model: Model) -> ReferenceScreen {
         ReferenceScreen {
             cells: [Cell::Char(0); CELL_COUNT],
             cursor: 0,
@@ -156,40 +158,53 @@ impl ReferenceScreen {
         }
     }
 
-    /// The cell at an address; a null beyond the screen.
-    pub fn cell(&self, at: u16) -> Cell {
-        cell_at(&self.cells, at)
+    fn apply(&mut self, bytes: &[u8]) -> Result<Applied, CommandFault> {
+        let command = read_command(bytes, Size::base(), Size::base())?;
+        match command.code() {
+            CommandCode::Write => {}
+            CommandCode::EraseWrite | CommandCode::EraseWriteAlternate => self.clear(),
+            CommandCode::EraseAllUnprotected => {
+                self.erase_unprotected();
+                self.aid = Aid::NoAid;
+                return Ok(asked(true, false));
+            }
+            _ => return Ok(asked(false, false)),
+        }
+        Ok(match command.wcc() {
+            Some(wcc) => self.write(wcc, command.orders()),
+            None => asked(false, false),
+        })
     }
 
-    /// Stores characters from an address on, as far as the cells have characters, and sets MDT in the first one's field.
-    pub fn store(&mut self, first: u16, chars: &[u8]) {
+    fn store(&mut self, first: u16, chars: &[u8]) {
         let mut place = first;
         for char in chars {
-            if storable(*char) && self.cell(place).is_character() {
+            if storable(*char) && cell_at(&self.cells, place).is_character() {
                 put(&mut self.cells, place, Cell::Char(*char));
             }
             place = next_of(place);
         }
-        if let Some((place, _)) = self.field_at(first) {
-            if let Cell::Attr(attr) = self.cell(place) {
+        if let Some(place) = attribute_place(&self.cells, first) {
+            if let Cell::Attr(attr) = cell_at(&self.cells, place) {
                 put(&mut self.cells, place, Cell::Attr(attr.with_mdt(true)));
             }
         }
     }
 
-    /// Where Home goes.
-    pub fn home(&self) -> u16 {
-        home_of(&self.cells)
+    fn set_cursor(&mut self, place: u16) {
+        self.cursor = place;
     }
 
-    /// The Clear key.
-    pub fn clear(&mut self) {
+    fn set_aid(&mut self, aid: Aid) {
+        self.aid = aid;
+    }
+
+    fn clear(&mut self) {
         fill(&mut self.cells, 0, CELLS, Cell::Char(0));
         self.cursor = 0;
     }
 
-    /// The Erase Input key.
-    pub fn erase_unprotected(&mut self) {
+    fn erase_unprotected(&mut self) {
         self.cursor = home_of(&self.cells);
         erase_unprotected_in(&mut self.cells, 0, CELLS);
         for cell in self.cells.iter_mut() {
@@ -199,28 +214,47 @@ impl ReferenceScreen {
         }
     }
 
-    /// Executes a command that was read for 24 by 80.
-    pub fn apply(&mut self, command: &Command<'_>) -> Applied {
-        match command.code() {
-            CommandCode::Write => self.write(command.wcc(), command.orders()),
-            CommandCode::EraseWrite | CommandCode::EraseWriteAlternate => {
-                self.clear();
-                self.write(command.wcc(), command.orders())
-            }
-            CommandCode::EraseAllUnprotected => {
-                self.erase_unprotected();
-                self.aid = Aid::NoAid;
-                Applied {
-                    restore: true,
-                    alarm: false,
-                }
-            }
-            _ => NOTHING,
+    fn shown(&self) -> Shown {
+        Shown {
+            size: Size::base(),
+            cursor: at(self.cursor),
+            home: at(home_of(&self.cells)),
+            aid: self.aid,
         }
     }
 
-    fn write(&mut self, wcc: Option<Wcc>, orders: Orders<'_>) -> Applied {
-        let Some(wcc) = wcc else { return NOTHING };
+    fn look(&self, place: u16) -> Look {
+        let cell = cell_at(&self.cells, place);
+        let attr = attribute_place(&self.cells, place);
+        let over = attr.and_then(|attr| cell_at(&self.cells, attr).attribute());
+        let is_hidden = over.is_some_and(|attr| attr.display == Display::Hidden);
+        let glyph = if is_hidden { ' ' } else { glyph_of(cell) };
+        Look {
+            cell,
+            field: attr.map(|attr| field_of(&self.cells, attr)),
+            over,
+            glyph: glyph.into(),
+        }
+    }
+
+    fn put_read(&self, out: &mut Vec<u8>, form: Form) -> Result<(), Memory> {
+        out.push(aid_byte(self.aid))?;
+        if form == Form::Modified && self.aid.is_short() {
+            return Ok(());
+        }
+        out.extend_from_slice(&addr_to_bytes(at(self.cursor)))?;
+        if form == Form::Buffer {
+            put_buffer(out, &self.cells)
+        } else if last_attribute(&self.cells).is_none() {
+            put_text(out, &self.cells, &[])
+        } else {
+            put_modified_fields(out, &self.cells)
+        }
+    }
+}
+
+impl ReferenceScreen {
+    fn write(&mut self, wcc: Wcc, orders: Orders<'_>) -> Applied {
         if wcc.reset {
             self.reset_mdt();
         }
@@ -231,10 +265,7 @@ impl ReferenceScreen {
         if wcc.restore {
             self.aid = Aid::NoAid;
         }
-        Applied {
-            restore: wcc.restore,
-            alarm: wcc.alarm,
-        }
+        asked(wcc.restore, wcc.alarm)
     }
 
     fn reset_mdt(&mut self) {
@@ -266,19 +297,14 @@ impl ReferenceScreen {
                 moved_to(place)
             }
             Order::Ra(stop, byte) => {
-                let stop = stop.get();
-                fill(
-                    &mut self.cells,
-                    place,
-                    distance_to(place, stop),
-                    Cell::Char(byte),
-                );
-                moved_to(stop)
+                let count = distance_to(place, stop.get());
+                fill(&mut self.cells, place, count, Cell::Char(byte));
+                moved_to(stop.get())
             }
             Order::Eua(stop) => {
-                let stop = stop.get();
-                erase_unprotected_in(&mut self.cells, place, distance_to(place, stop));
-                moved_to(stop)
+                let count = distance_to(place, stop.get());
+                erase_unprotected_in(&mut self.cells, place, count);
+                moved_to(stop.get())
             }
             Order::Pt => self.tab(pen),
         }
@@ -297,32 +323,13 @@ impl ReferenceScreen {
             None => 0,
         };
         let to_end = ahead.iter().all(|cell| cell.is_character());
-        let count = count_characters(ahead);
+        let count = u16::try_from(count_characters(ahead)).unwrap_or(CELLS);
         if pen.nulls {
-            fill(
-                &mut self.cells,
-                pen.place,
-                u16::try_from(count).unwrap_or(CELLS),
-                Cell::Char(0),
-            );
+            fill(&mut self.cells, pen.place, count, Cell::Char(0));
         }
         Pen {
             place: (stop % CELL_COUNT) as u16,
             nulls: pen.nulls && to_end,
-        }
-    }
-
-    /// The place of the attribute that governs a cell, and how many cells its field has.
-    pub fn field_at(&self, at: u16) -> Option<(u16, usize)> {
-        let place = attribute_place(&self.cells, at)?;
-        Some((place, field_length(&self.cells, place)))
-    }
-
-    /// The character that is printed for a cell under an attribute.
-    pub fn glyph_at(&self, at: u16, over: Option<Attr>) -> char {
-        match over {
-            Some(attr) if attr.display == Display::Hidden => ' ',
-            _ => glyph_of(self.cell(at)),
         }
     }
 }
@@ -336,63 +343,41 @@ fn glyph_of(cell: Cell) -> char {
     }
 }
 
-/// The characters before the first attribute, without nulls. Answers whether there are characters alone.
-fn put_text(out: &mut Vec<u8>, cells: &[Cell]) -> Result<bool, Memory> {
-    for cell in cells {
+/// The characters before the first attribute, in some cells and then in others, without nulls.
+fn put_text(out: &mut Vec<u8>, cells: &[Cell], others: &[Cell]) -> Result<(), Memory> {
+    for cell in cells.iter().chain(others) {
         match *cell {
-            Cell::Attr(_) => return Ok(false),
+            Cell::Attr(_) => return Ok(()),
             Cell::Char(0) => {}
             Cell::Char(byte) => out.push(byte)?,
         }
     }
-    Ok(true)
-}
-
-/// SBA, the field's first address and its text, round the end.
-fn put_field(out: &mut Vec<u8>, cells: &[Cell], place: u16) -> Result<(), Memory> {
-    let [high, low] = addr_to_bytes(at(next_of(place)));
-    out.extend_from_slice(&[SET_BUFFER_ADDRESS, high, low])?;
-    if put_text(out, cells_from(cells, place.saturating_add(1)))? {
-        put_text(out, cells_before(cells, place))?;
-    }
     Ok(())
 }
 
+/// SBA, the first address and the text of each field with MDT, round the end.
 fn put_modified_fields(out: &mut Vec<u8>, cells: &[Cell]) -> Result<(), Memory> {
     for place in 0..CELLS {
-        match cell_at(cells, place) {
-            Cell::Attr(attr) if attr.mdt => put_field(out, cells, place)?,
-            _ => {}
+        if cell_at(cells, place)
+            .attribute()
+            .is_some_and(|attr| attr.mdt)
+        {
+            let [high, low] = addr_to_bytes(at(next_of(place)));
+            out.extend_from_slice(&[SET_BUFFER_ADDRESS, high, low])?;
+            let behind = cells_from(cells, place.saturating_add(1));
+            put_text(out, behind, cells_before(cells, place))?;
         }
     }
     Ok(())
 }
 
-impl ReferenceScreen {
-    /// Appends what Read Buffer is answered.
-    pub fn put_read_buffer(&self, out: &mut Vec<u8>) -> Result<(), Memory> {
-        out.push(aid_byte(self.aid))?;
-        out.extend_from_slice(&addr_to_bytes(at(self.cursor)))?;
-        for cell in self.cells.iter() {
-            match *cell {
-                Cell::Char(byte) => out.push(byte)?,
-                Cell::Attr(attr) => out.extend_from_slice(&[START_FIELD, attr_code(attr)])?,
-            }
+/// Each cell as Read Buffer is answered.
+fn put_buffer(out: &mut Vec<u8>, cells: &[Cell]) -> Result<(), Memory> {
+    for cell in cells {
+        match *cell {
+            Cell::Char(byte) => out.push(byte)?,
+            Cell::Attr(attr) => out.extend_from_slice(&[START_FIELD, attr_code(attr)])?,
         }
-        Ok(())
     }
-
-    /// Appends what Read Modified, or Read Modified All, is answered.
-    pub fn put_read_modified(&self, out: &mut Vec<u8>, all: bool) -> Result<(), Memory> {
-        out.push(aid_byte(self.aid))?;
-        if self.aid.is_short() && !all {
-            return Ok(());
-        }
-        out.extend_from_slice(&addr_to_bytes(at(self.cursor)))?;
-        if self.cells.iter().all(|cell| cell.is_character()) {
-            put_text(out, &self.cells)?;
-            return Ok(());
-        }
-        put_modified_fields(out, &self.cells)
-    }
+    Ok(())
 }

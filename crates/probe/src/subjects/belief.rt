@@ -1,41 +1,50 @@
-//! What shadow believes of a screen, and the paint of a wanted screen.
+//! What shadow believes of a screen, and the paint of a wanted screen; and the belief of reference, on 24 by 80.
 //!
 //! ```text
-//! new; doubt             nothing is known; the operator may have typed
-//! take MODEL BYTES       a terminal of a model carried out a command: taken; or not plain, or the fault
-//! hear FORM BYTES        inbound data of a form from a screen of the believed size: heard, or the fault
-//! show                   the size, none if nothing is known; each cell as far as it is known; each field's fact: the
-//!                        address of its attribute, its kind, and its text
-//! at ADDR                the fact of the field whose attribute is there; the cell; the text character by character
-//! want, put, aim         the wanted screen (`wanted`)
-//! wanted                 shows it
-//! fits
-//! out ROOM BYTES         a new vector for paints, with room for ROOM bytes and these in it
-//! paint                  appends what paints the wanted screen: ok or memory
-//! left                   the vector's bytes
+//! new                    nothing is known
+//! take MODEL BYTES       a terminal of a model carried out a command: whether it is plain, or the fault
+//! hear FORM BYTES        inbound data of a form from a screen of the believed size: whether it can be, or the fault
+//! show                   each cell as far as it is known, and each field's fact: the address of its attribute, its kind,
+//!                        and its text
+//! want, put, aim         the wanted screen (`cells`)
+//! fits                   whether what is to be kept is believed to be there
+//! paint                  appends what paints the wanted screen
+//! doubt                  the operator may have typed
+//! size                   that of the screen of which something is known
+//! at ADDR                the fact of the field whose attribute is there; the cell; the text, in one walk and by its places
+//! wanted                 the wanted screen, in one walk and by its addresses, each with the one behind it
 //! ```
-ghost use Rattle.std.specs.Prelude.{◌<◌, ◌≡◌, IsTrue};
+//!
+//! That of reference has the commands down to `paint`.
+ghost use Rattle.std.specs.Prelude.{◌≡◌, IsTrue};
+ghost use Rattle.std.specs.List.{list_any};
 ghost use Rattle.codes3270.specs.Size.{cells_in};
 ghost use Rattle.shadow.specs.Belief.{HasCell, IsOfSize};
-ghost use Rattle.shadow.specs.Fits.{is_paintable};
+ghost use Rattle.shadow.specs.Fits.{is_keep, is_paintable};
 
-use crate::fault::Fault;
-use crate::line::Words;
-use crate::subject::Subject;
-use crate::subjects::cells::{Out, at, form, model, put_called, put_cell};
-use crate::subjects::wanted::{change, keeps_any, put_each, put_wanted};
-use codes3270::{Addr, Size};
-use datastream::{Command, CommandCode, Inbound, Want, Wanted, read_command, read_inbound};
-use shadow::{Shadow, plain};
-use std::alloc::{AllocError, Global};
+use crate::subjects::Subject;
+use crate::subjects::cells::{at, change, form, put_belief, put_wanted};
+use crate::talk::{Fault, Talk};
+use codes3270::{Addr, Model, Size};
+use datastream::{
+    CommandCode, CommandFault, Form, InboundFault, Memory, Want, Wanted, Wants, read_command,
+    read_inbound,
+};
+use reference::{AnyBelief, ReferenceBelief};
+use shadow::{HeardFault, Shadow, plain};
+use std::alloc::AllocError;
 
-/// A belief, a wanted screen, and the vector that paints are appended to.
+/// A belief, and a wanted screen.
 #[derive(Drop)]
-pub(crate) struct Belief {
-    alloc: Global,
-    shadow: Shadow,
+pub(crate) struct Belief<B> {
+    belief: B,
     wanted: Wanted,
-    out: Out,
+}
+
+/// The belief of shadow.
+#[derive(Drop)]
+pub(crate) struct Present {
+    shadow: Shadow,
 }
 
 /// The size of the screen of which something is known; 24 by 80 if nothing is.
@@ -55,26 +64,6 @@ fn has_size(shadow: &Shadow, size: Size) -> bool
     size_of(shadow).cells() == size.cells()
 }
 
-/// Takes in a plain command for a screen of the believed size. Whether it is one.
-fn take_command(shadow: &mut Shadow, command: &Command<'_>) -> bool {
-    let is_sized = command.code() != CommandCode::Write || has_size(shadow, command.size());
-    let is_taken = is_sized && plain(command);
-    if is_taken {
-        shadow.sent_taken(command);
-    }
-    is_taken
-}
-
-fn hear(shadow: &mut Shadow, inbound: &Inbound<'_>, answer: &mut String) -> Result<(), AllocError> {
-    if !has_size(shadow, inbound.size()) {
-        return answer.push_str("another size\n");
-    }
-    match shadow.heard(inbound) {
-        Ok(()) => answer.push_str("heard\n"),
-        Err(fault) => write!(answer, "refused {fault:?}\n"),
-    }
-}
-
 /// The address of a cell of the screen of which something is known; the first one's, if it has no such cell.
 fn cell_at(shadow: &Shadow, place: u16) -> Addr
     ensures { HasCell result shadow.now }
@@ -82,113 +71,149 @@ fn cell_at(shadow: &Shadow, place: u16) -> Addr
     at(place, size_of(shadow))
 }
 
-/// Puts the fact of the field whose attribute is at a place, if there is one, and its text in one walk.
-fn put_fact(answer: &mut String, shadow: &Shadow, place: u16) -> Result<(), AllocError> {
-    let Some(fact) = shadow.fact(cell_at(shadow, place)) else {
-        return Ok(());
-    };
-    write!(answer, "{place} {fact:?} ")?;
-    for code in shadow.text(cell_at(shadow, place)) {
-        write!(answer, "{code:02X}")?;
+/// Whether some cell is to be kept.
+fn keeps_any(cells: Wants<'_>) -> bool
+    ensures { result ≡ list_any is_keep cells.entry }
+{
+    for want in cells {
+        match want {
+            Want::Keep => return true,
+            Want::Attr(_) => {}
+            Want::Char(_) => {}
+        }
     }
-    answer.push('\n')
+    false
 }
 
-/// Puts what is known of a cell, and the characters of the text of a field whose attribute it is, one by one.
-fn put_place(answer: &mut String, shadow: &Shadow, place: u16) -> Result<(), AllocError> {
-    put_fact(answer, shadow, place)?;
-    answer.push_str("known")?;
-    put_cell(answer, shadow.known(cell_at(shadow, place)))?;
-    answer.push_str("\nvalues ")?;
+impl AnyBelief for Present {
+    fn blank() -> Present {
+        Present {
+            shadow: Shadow::blank(),
+        }
+    }
+
+    fn take(&mut self, model: Model, bytes: &[u8]) -> Result<bool, CommandFault> {
+        let command = read_command(bytes, size_of(&self.shadow), model.alternate())?;
+        let is_sized =
+            command.code() != CommandCode::Write || has_size(&self.shadow, command.size());
+        let is_taken = is_sized && plain(&command);
+        if is_taken {
+            self.shadow.sent_taken(&command);
+        }
+        Ok(is_taken)
+    }
+
+    fn hear(&mut self, form: Form, bytes: &[u8]) -> Result<Option<HeardFault>, InboundFault> {
+        let inbound = read_inbound(bytes, form, size_of(&self.shadow))?;
+        // It has that size.
+        if !has_size(&self.shadow, inbound.size()) {
+            return Ok(Some(HeardFault::Contradiction));
+        }
+        Ok(self.shadow.heard(&inbound).err())
+    }
+
+    fn put(&self, answer: &mut String) -> Result<(), AllocError> {
+        put_belief(answer, &self.shadow)
+    }
+
+    fn fits(&self, wanted: &Wanted) -> bool {
+        self.shadow.fits(wanted)
+    }
+
+    fn paint(&self, out: &mut Vec<u8>, wanted: &Wanted) -> Option<Result<(), Memory>> {
+        if keeps_any(wanted.cells()) && !self.shadow.fits(wanted) {
+            return None;
+        }
+        Some(self.shadow.paint(out, wanted))
+    }
+}
+
+impl<B: AnyBelief + Drop> Belief<B> {
+    pub(crate) fn new() -> Belief<B> {
+        Belief {
+            belief: B::blank(),
+            wanted: Wanted::filled(Want::Keep, Size::base()),
+        }
+    }
+
+    /// Does a command on either belief.
+    fn take_any(&mut self, talk: &mut Talk<'_>, word: &str) -> Result<(), Fault> {
+        match word {
+            "new" => self.belief = B::blank(),
+            "take" => {
+                let model = talk.model()?;
+                let bytes = talk.all_bytes()?;
+                talk.line(&self.belief.take(model, bytes.as_slice()))?;
+            }
+            "hear" => {
+                let form = form(talk)?;
+                let bytes = talk.all_bytes()?;
+                talk.line(&self.belief.hear(form, bytes.as_slice()))?;
+            }
+            "show" => self.belief.put(talk.answer)?,
+            "fits" => talk.line(&self.belief.fits(&self.wanted))?,
+            "paint" => match self.belief.paint(talk.out, &self.wanted) {
+                Some(called) => talk.done(called)?,
+                None => talk.none()?,
+            },
+            _ => change(talk, &mut self.wanted, word)?,
+        }
+        Ok(())
+    }
+}
+
+/// Puts what is believed of a cell, and of the field whose attribute it is.
+fn put_place(talk: &mut Talk<'_>, shadow: &Shadow, place: u16) -> Result<(), AllocError> {
+    talk.line(&shadow.fact(cell_at(shadow, place)))?;
+    talk.line(&shadow.known(cell_at(shadow, place)))?;
+    talk.each("text", shadow.text(cell_at(shadow, place)))?;
+    talk.answer.push_str("text")?;
     for index in 0..usize::MAX {
         match shadow.value(cell_at(shadow, place), index) {
-            Some(code) => write!(answer, "{code:02X}")?,
+            Some(code) => write!(talk.answer, " {code}")?,
             None => break,
         }
     }
-    answer.push('\n')
+    talk.answer.push('\n')
 }
 
-fn put_belief(answer: &mut String, shadow: &Shadow) -> Result<(), AllocError> {
-    match shadow.size() {
-        Some(size) => write!(answer, "size {} {}\ncells", size.rows(), size.cols())?,
-        None => answer.push_str("size none\ncells")?,
+/// Puts each cell as it is looked up by its address, and the one behind it, round the end.
+fn put_each(talk: &mut Talk<'_>, wanted: &Wanted) -> Result<(), AllocError> {
+    let size = wanted.size();
+    talk.answer.push_str("each")?;
+    for place in 0..size.cells() {
+        let at = at(place, size);
+        let behind = wanted.ahead(at.get().into()).next();
+        write!(talk.answer, " {:?} {behind:?}", wanted.want(at))?;
     }
-    for place in 0..size_of(shadow).cells() {
-        put_cell(answer, shadow.known(cell_at(shadow, place)))?;
-    }
-    answer.push('\n')?;
-    for place in 0..size_of(shadow).cells() {
-        put_fact(answer, shadow, place)?;
-    }
-    Ok(())
+    talk.answer.push('\n')
 }
 
-/// Whether a wanted screen can be painted: it fits what is believed, or keeps nothing.
-fn can_paint(shadow: &Shadow, wanted: &Wanted) -> bool
-    ensures { result ≡ is_paintable shadow.now wanted.now }
-{
-    !keeps_any(wanted.cells()) || shadow.fits(wanted)
-}
-
-impl Belief {
-    pub(crate) fn new(alloc: Global) -> Belief {
-        Belief {
-            alloc,
-            shadow: Shadow::blank(),
-            wanted: Wanted::filled(Want::Keep, Size::base()),
-            out: Out::new(alloc),
-        }
-    }
-
-    fn take_write(&mut self, line: &mut Words<'_>, answer: &mut String) -> Result<(), Fault> {
-        let alternate = model(line)?.alternate();
-        let bytes = line.all_bytes(self.alloc)?;
-        match read_command(bytes.as_slice(), size_of(&self.shadow), alternate) {
-            Ok(command) => {
-                let is_taken = take_command(&mut self.shadow, &command);
-                Ok(answer.push_str(if is_taken { "taken\n" } else { "not plain\n" })?)
+impl Subject for Belief<Present> {
+    fn take(&mut self, talk: &mut Talk<'_>) -> Result<(), Fault> {
+        match talk.word()? {
+            "doubt" => self.belief.shadow.doubt(),
+            "size" => match self.belief.shadow.size() {
+                Some(size) => writeln!(talk.answer, "{} {}", size.rows(), size.cols())?,
+                None => talk.none()?,
+            },
+            "at" => {
+                let place = talk.number()?;
+                put_place(talk, &self.belief.shadow, place)?;
             }
-            Err(fault) => Ok(write!(answer, "fault {fault:?}\n")?),
-        }
-    }
-
-    fn hear(&mut self, line: &mut Words<'_>, answer: &mut String) -> Result<(), Fault> {
-        let form = form(line)?;
-        let bytes = line.all_bytes(self.alloc)?;
-        match read_inbound(bytes.as_slice(), form, size_of(&self.shadow)) {
-            Ok(inbound) => Ok(hear(&mut self.shadow, &inbound, answer)?),
-            Err(fault) => Ok(write!(answer, "fault {fault:?}\n")?),
-        }
-    }
-
-    fn paint(&mut self, answer: &mut String) -> Result<(), Fault> {
-        if !can_paint(&self.shadow, &self.wanted) {
-            return Ok(answer.push_str("no paint\n")?);
-        }
-        let called = self.shadow.paint(&mut self.out.bytes, &self.wanted);
-        put_called(answer, called)
-    }
-}
-
-impl Subject for Belief {
-    fn take(&mut self, line: &mut Words<'_>, answer: &mut String) -> Result<(), Fault> {
-        match line.word()? {
-            "new" => Ok(self.shadow = Shadow::blank()),
-            "doubt" => Ok(self.shadow.doubt()),
-            "take" => self.take_write(line, answer),
-            "hear" => self.hear(line, answer),
-            "show" => Ok(put_belief(answer, &self.shadow)?),
-            "at" => Ok(put_place(answer, &self.shadow, line.number()?)?),
             "wanted" => {
-                put_wanted(answer, &self.wanted)?;
-                Ok(put_each(answer, &self.wanted)?)
+                put_wanted(talk, &self.wanted)?;
+                put_each(talk, &self.wanted)?;
             }
-            "fits" => Ok(write!(answer, "fits {}\n", self.shadow.fits(&self.wanted))?),
-            "out" => self.out.make(line),
-            "left" => self.out.left(answer),
-            "paint" => self.paint(answer),
-            word => change(&mut self.wanted, word, line),
+            word => self.take_any(talk, word)?,
         }
+        Ok(())
+    }
+}
+
+impl Subject for Belief<ReferenceBelief> {
+    fn take(&mut self, talk: &mut Talk<'_>) -> Result<(), Fault> {
+        let word = talk.word()?;
+        self.take_any(talk, word)
     }
 }

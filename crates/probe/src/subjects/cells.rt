@@ -1,44 +1,33 @@
-//! What lines and answers of several subjects have: models, forms, addresses, cells (`C1` a character, `sf:60` an
-//! attribute), and the vector that calls append to.
-ghost use Rattle.std.specs.Prelude.{◌<◌, ◌≡◌, true, All, IfOk};
+//! What lines and answers of several subjects say of cells, screens, beliefs and wanted screens.
+//!
+//! A cell is `C1`, a character, or `1D60`, an attribute; `??` isn't known.
+//!
+//! ```text
+//! want MODEL WANT            a screen of a model's alternate size full of one thing: keep, C1 or 1D60
+//! put ADDR WANT ..           wants from an address on; WANT*N is N of them
+//! aim ADDR BOOL              its cursor, and whether it resets MDT
+//! ```
+ghost use Rattle.std.specs.Prelude.{◌<◌, ◌≡◌, true, All, IfOk, IfSome};
 ghost use Rattle.codes3270.specs.Size.{cells_in};
 ghost use Rattle.codes3270.specs.Storable.{is_storable};
+ghost use Rattle.datastream.specs.Wanted.{IsProper};
+ghost use Rattle.shadow.specs.Belief.{HasCell};
 
-use crate::answer::put_named;
-use crate::fault::Fault;
-use crate::line::Words;
-use codes3270::{Addr, Attr, Cell, Model, Size, attr_code, storable};
-use datastream::{Form, Memory};
-use std::alloc::{AllocError, Global};
-
-/// The model with a number.
-pub(crate) fn model(line: &mut Words<'_>) -> Result<Model, Fault> {
-    match line.word()? {
-        "2" => Ok(Model::M2),
-        "3" => Ok(Model::M3),
-        "4" => Ok(Model::M4),
-        "5" => Ok(Model::M5),
-        _ => Err(Fault::Needs("a model, 2 to 5")),
-    }
-}
+use crate::talk::{Fault, Talk, byte_of};
+use codes3270::{Addr, Attr, Cell, Size, aid_byte, attr_code, storable};
+use datastream::{Form, Want, Wanted};
+use presentation::Screen;
+use shadow::Shadow;
+use std::alloc::AllocError;
 
 /// The form of inbound data.
-pub(crate) fn form(line: &mut Words<'_>) -> Result<Form, Fault> {
-    match line.word()? {
+pub(crate) fn form(talk: &mut Talk<'_>) -> Result<Form, Fault> {
+    match talk.word()? {
         "modified" => Ok(Form::Modified),
         "all" => Ok(Form::All),
         "buffer" => Ok(Form::Buffer),
         _ => Err(Fault::Needs("modified, all or buffer")),
     }
-}
-
-/// The place of a cell of a screen of a size.
-pub(crate) fn place_on(line: &mut Words<'_>, size: Size) -> Result<u16, Fault> {
-    let place = line.number()?;
-    if place < size.cells() {
-        return Ok(place);
-    }
-    Err(Fault::Needs("an address on the screen"))
 }
 
 /// The address of a cell; the first one's beyond a screen of this size.
@@ -53,19 +42,11 @@ pub(crate) fn at(place: u16, size: Size) -> Addr
     }
 }
 
-/// A byte of two hexadecimal digits.
-pub(crate) fn code(digits: &str) -> Result<u8, Fault> {
-    match u8::from_str_radix(digits, 16) {
-        Ok(code) => Ok(code),
-        Err(_) => Err(Fault::Needs("two hexadecimal digits")),
-    }
-}
-
 /// A byte that can be stored as a character.
 pub(crate) fn character(digits: &str) -> Result<u8, Fault>
     ensures { IfOk result (λ code. is_storable code ≡ true) }
 {
-    let code = code(digits)?;
+    let code = byte_of(digits)?;
     if storable(code) {
         return Ok(code);
     }
@@ -79,56 +60,127 @@ pub(crate) fn are_storable(bytes: &[u8]) -> bool
     bytes.iter().all(|byte| storable(*byte))
 }
 
-/// Puts a space and an attribute.
-pub(crate) fn put_attr(answer: &mut String, attr: Attr) -> Result<(), AllocError> {
-    write!(answer, " sf:{:02X}", attr_code(attr))
-}
-
-/// Puts a space and a cell, `?` if it isn't known.
-pub(crate) fn put_cell(answer: &mut String, cell: Option<Cell>) -> Result<(), AllocError> {
+fn put_cell(answer: &mut String, cell: Option<Cell>) -> Result<(), AllocError> {
     match cell {
-        Some(Cell::Char(code)) => write!(answer, " {code:02X}"),
-        Some(Cell::Attr(attr)) => put_attr(answer, attr),
-        None => answer.push_str(" ?"),
+        Some(Cell::Char(code)) => write!(answer, "{code:02X}"),
+        Some(Cell::Attr(attr)) => write!(answer, "1D{:02X}", attr_code(attr)),
+        None => answer.push_str("??"),
     }
 }
 
-/// Puts a space and the characters of a text, `-` if there are none.
-pub(crate) fn put_chars(answer: &mut String, text: &[u8]) -> Result<(), AllocError> {
-    answer.push_str(if text.is_empty() { " -" } else { " " })?;
-    for code in text {
+/// Puts size, cursor and AID of a screen.
+pub(crate) fn put_screen(answer: &mut String, screen: &Screen) -> Result<(), AllocError> {
+    let (size, aid) = (screen.size(), aid_byte(screen.aid()));
+    writeln!(answer, "size {} {}", size.rows(), size.cols())?;
+    writeln!(answer, "cursor {}\naid {aid:02X}", screen.cursor().get())
+}
+
+/// Puts the cells of a screen.
+pub(crate) fn put_cells(answer: &mut String, screen: &Screen) -> Result<(), AllocError> {
+    answer.push_str("cells ")?;
+    for place in 0..screen.size().cells() {
+        put_cell(answer, Some(screen.cell(at(place, screen.size()))))?;
+    }
+    answer.push('\n')
+}
+
+/// The address of a cell of a screen of which something is known.
+fn address_on(shadow: &Shadow, place: u16) -> Option<Addr>
+    ensures { IfSome result (λ addr. HasCell addr shadow.now) }
+{
+    match shadow.size() {
+        Some(size) => Addr::new(place, size),
+        None => None,
+    }
+}
+
+/// Puts the fact of the field whose attribute is at a place, if one is believed to be there, and its text.
+fn put_field(answer: &mut String, shadow: &Shadow, place: u16) -> Result<(), AllocError> {
+    let Some(at) = address_on(shadow, place) else {
+        return Ok(());
+    };
+    let Some(fact) = shadow.fact(at) else {
+        return Ok(());
+    };
+    write!(answer, "field {place} {fact:?} ")?;
+    for code in shadow.text(at) {
         write!(answer, "{code:02X}")?;
+    }
+    answer.push('\n')
+}
+
+/// Puts a belief: the cells as far as they are known, and a line for each field.
+pub(crate) fn put_belief(answer: &mut String, shadow: &Shadow) -> Result<(), AllocError> {
+    let count = shadow.size().map_or(0, |size| size.cells());
+    answer.push_str("belief ")?;
+    for place in 0..count {
+        if let Some(at) = address_on(shadow, place) {
+            put_cell(answer, shadow.known(at))?;
+        }
+    }
+    answer.push('\n')?;
+    for place in 0..count {
+        put_field(answer, shadow, place)?;
     }
     Ok(())
 }
 
-/// Puts what a call answered that takes memory.
-pub(crate) fn put_called(answer: &mut String, called: Result<(), Memory>) -> Result<(), Fault> {
-    Ok(answer.push_str(if called.is_ok() { "ok\n" } else { "memory\n" })?)
+/// What a word wants of a cell.
+fn want_of(word: &str) -> Result<Want, Fault>
+    ensures { IfOk result IsProper }
+{
+    if word == "keep" {
+        return Ok(Want::Keep);
+    }
+    match word.strip_prefix("1D") {
+        Some(digits) => Ok(Want::Attr(Attr::from_code(byte_of(digits)?))),
+        None => Ok(Want::Char(character(word)?)),
+    }
 }
 
-/// A vector that calls append to.
-#[derive(Drop)]
-pub(crate) struct Out {
-    alloc: Global,
-    pub(crate) bytes: Vec<u8>,
+/// Wants the same of `times` cells from a place on.
+fn put_times(wanted: &mut Wanted, place: usize, want: Want, times: u16)
+    requires { IsProper want }
+{
+    for step in 0..usize::from(times) {
+        let cell = place.saturating_add(step);
+        if cell < usize::from(wanted.size().cells()) {
+            wanted.put(cell, want);
+        }
+    }
 }
 
-impl Out {
-    pub(crate) fn new(alloc: Global) -> Out {
-        let bytes = Vec::new(alloc);
-        Out { alloc, bytes }
+/// Changes a wanted screen as a line says.
+pub(crate) fn change(talk: &mut Talk<'_>, wanted: &mut Wanted, word: &str) -> Result<(), Fault> {
+    match word {
+        "want" => {
+            let size = talk.model()?.alternate();
+            *wanted = Wanted::filled(want_of(talk.word()?)?, size);
+        }
+        "put" => {
+            let mut place = talk.number::<usize>()?;
+            for word in talk.rest().split_whitespace() {
+                let (want, times) = word.split_once('*').unwrap_or((word, "1"));
+                let Ok(times) = times.parse::<u16>() else {
+                    return Err(Fault::Needs("a number"));
+                };
+                put_times(wanted, place, want_of(want)?, times);
+                place = place.saturating_add(times.into());
+            }
+        }
+        "aim" => {
+            let cursor = at(talk.number()?, wanted.size());
+            wanted.set_cursor_and_reset(cursor, talk.number()?);
+        }
+        _ => return Err(Fault::Needs("a command of this subject")),
     }
+    Ok(())
+}
 
-    /// Begins again, with room for a number of bytes, and some in it.
-    pub(crate) fn make(&mut self, line: &mut Words<'_>) -> Result<(), Fault> {
-        self.bytes = Vec::with_capacity(self.alloc, line.number::<u16>()?.into())?;
-        let bytes = line.all_bytes(self.alloc)?;
-        Ok(self.bytes.extend_from_slice(bytes.as_slice())?)
-    }
-
-    /// Puts the bytes.
-    pub(crate) fn left(&self, answer: &mut String) -> Result<(), Fault> {
-        Ok(put_named(self.alloc, answer, "left", self.bytes.as_slice())?)
-    }
+/// Puts size, cursor, reset, and what each cell is wanted to have.
+pub(crate) fn put_wanted(talk: &mut Talk<'_>, wanted: &Wanted) -> Result<(), AllocError> {
+    let (size, cursor) = (wanted.size(), wanted.cursor().get());
+    writeln!(talk.answer, "size {} {}\ncursor {cursor}", size.rows(), size.cols())?;
+    writeln!(talk.answer, "reset {}", wanted.reset())?;
+    talk.each("cells", wanted.cells())
 }

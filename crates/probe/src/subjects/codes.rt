@@ -104,16 +104,15 @@ fn put_wcc(talk: &mut Talk<'_>, wcc: Wcc) -> Result<(), AllocError> {
 }
 
 fn put_aid(talk: &mut Talk<'_>, aid: Option<Aid>) -> Result<(), AllocError> {
+    let Some(aid) = aid else {
+        return talk.none();
+    };
     match aid {
-        None => return talk.none(),
-        Some(Aid::Pf(key)) => write!(talk.answer, "PF{}", key.get())?,
-        Some(Aid::Pa(key)) => write!(talk.answer, "PA{}", key.get())?,
-        Some(aid) => write!(talk.answer, "{aid:?}")?,
+        Aid::Pf(key) => write!(talk.answer, "PF{}", key.get())?,
+        Aid::Pa(key) => write!(talk.answer, "PA{}", key.get())?,
+        _ => write!(talk.answer, "{aid:?}")?,
     }
-    match aid {
-        None => Ok(()),
-        Some(aid) => writeln!(talk.answer, " {:02X} {}", aid_byte(aid), aid.is_short()),
-    }
+    writeln!(talk.answer, " {:02X} {}", aid_byte(aid), aid.is_short())
 }
 
 /// Does a command on a byte.
@@ -167,7 +166,7 @@ impl Subject for Codes {
                 put_aid(talk, key.map(Aid::Pa))?;
             }
             "code" => {
-                let code = char::from_u32(talk.number()?).and_then(from_latin1);
+                let code = char::from_u32(talk.number()?).and_then(|it| from_latin1(it));
                 put_some(talk, code)?;
             }
             word if matches!(word, "size" | "addresses" | "address" | "read" | "walk") => {

@@ -1,159 +1,162 @@
-//! Commands of datastream, read and written.
+//! Data streams of datastream: commands, read and written, and inbound data.
 //!
 //! ```text
 //! read NOW ALTERNATE BYTES    a command for a screen of model NOW's alternate size, whose own model is ALTERNATE: its
-//!                             code, size, write control character and orders, one by one and with runs of
-//!                             characters; or the fault
-//! out ROOM BYTES              a new vector with room for ROOM bytes, with these in it
-//! begin CODE WCC; sba ADDR; sf BYTE; chars BYTES; ra ADDR BYTE; ic
-//!                             appends by a writer: ok or memory
-//! left                        the vector's bytes
+//!                             code, size, write control character and orders, one by one and with runs of characters
+//! inbound FORM MODEL BYTES    data of a form (modified, all, buffer) from a screen of a model's alternate size: form, size,
+//!                             AID, cursor, the text before any field, fields, parts, and each part as a cell; of a
+//!                             buffer the cells, one by one and with runs of characters
+//! begin CODE WCC; sba ADDR; sf BYTE; chars BYTES; ra ADDR BYTE; ic    a writer appends it
 //! ```
-use crate::fault::Fault;
-use crate::line::Words;
-use crate::subject::Subject;
-use crate::subjects::cells::{
-    Out, are_storable, at, character, code, model, place_on, put_attr, put_called, put_chars,
+use crate::subjects::Subject;
+use crate::subjects::cells::{are_storable, at, character, form};
+use crate::talk::{Fault, Talk, put_hex};
+use codes3270::{Attr, Size, Wcc, aid_byte};
+use datastream::{
+    Command, CommandCode, CommandWriter, Form, Inbound, read_command, read_inbound,
 };
-use codes3270::{Attr, Size, Wcc};
-use datastream::{Command, CommandCode, CommandWriter, Memory, Order, Orders, read_command};
-use std::alloc::{AllocError, Global};
+use std::alloc::AllocError;
+use std::fmt::Debug;
 
-/// Reads commands, and writes them.
 #[derive(Drop)]
-pub(crate) struct Commands {
-    alloc: Global,
-    out: Out,
-}
+pub(crate) struct Commands;
 
-fn command_code(name: &str) -> Result<CommandCode, Fault> {
-    match name {
-        "Write" => Ok(CommandCode::Write),
-        "EraseWrite" => Ok(CommandCode::EraseWrite),
-        "EraseWriteAlternate" => Ok(CommandCode::EraseWriteAlternate),
-        "ReadBuffer" => Ok(CommandCode::ReadBuffer),
-        "ReadModified" => Ok(CommandCode::ReadModified),
-        "ReadModifiedAll" => Ok(CommandCode::ReadModifiedAll),
-        "EraseAllUnprotected" => Ok(CommandCode::EraseAllUnprotected),
-        _ => Err(Fault::Needs("a command's name")),
+static CODES: [(&str, CommandCode); 7] = [
+    ("Write", CommandCode::Write),
+    ("EraseWrite", CommandCode::EraseWrite),
+    ("EraseWriteAlternate", CommandCode::EraseWriteAlternate),
+    ("ReadBuffer", CommandCode::ReadBuffer),
+    ("ReadModified", CommandCode::ReadModified),
+    ("ReadModifiedAll", CommandCode::ReadModifiedAll),
+    ("EraseAllUnprotected", CommandCode::EraseAllUnprotected),
+];
+
+fn code_named(name: &str) -> Result<CommandCode, Fault> {
+    match CODES.iter().find(|code| code.0 == name) {
+        Some(code) => Ok(code.1),
+        None => Err(Fault::Needs("a command's name")),
     }
 }
 
-/// Puts a space and an order.
-fn put_order(answer: &mut String, order: Order) -> Result<(), AllocError> {
-    match order {
-        Order::Sba(to) => write!(answer, " sba:{}", to.get()),
-        Order::Sf(attr) => put_attr(answer, attr),
-        Order::Ra(stop, code) => write!(answer, " ra:{}:{code:02X}", stop.get()),
-        Order::Eua(stop) => write!(answer, " eua:{}", stop.get()),
-        Order::Char(code) => write!(answer, " {code:02X}"),
-        Order::Pt => answer.push_str(" pt"),
-        Order::Ic => answer.push_str(" ic"),
-    }
+fn put_size(talk: &mut Talk<'_>, size: Size) -> Result<(), AllocError> {
+    writeln!(talk.answer, "size {} {}", size.rows(), size.cols())
 }
 
-fn put_orders(answer: &mut String, orders: Orders<'_>) -> Result<(), AllocError> {
-    answer.push_str("\norders")?;
-    for order in orders {
-        put_order(answer, order)?;
+/// Puts a run of characters, and the item behind it. Whether there is one.
+fn put_run<T: Debug + Drop>(
+    talk: &mut Talk<'_>,
+    run: &[u8],
+    item: Option<T>,
+) -> Result<bool, AllocError> {
+    put_hex(talk.answer, run)?;
+    match item {
+        Some(item) => write!(talk.answer, " {item:?} ")?,
+        None => {
+            talk.answer.push('\n')?;
+            return Ok(false);
+        }
+    }
+    Ok(true)
+}
+
+fn put_command(talk: &mut Talk<'_>, command: &Command<'_>) -> Result<(), AllocError> {
+    let code = command.code();
+    writeln!(talk.answer, "{code:?} has-orders {}", code.has_orders())?;
+    put_size(talk, command.size())?;
+    writeln!(talk.answer, "wcc {:?}", command.wcc())?;
+    talk.each("orders", command.orders())?;
+    talk.answer.push_str("runs ")?;
+    let mut orders = command.orders();
+    for _ in 0..u64::MAX {
+        if !put_run(talk, orders.characters(), orders.next())? {
+            break;
+        }
     }
     Ok(())
 }
 
-/// Puts runs of characters, and the order behind each.
-fn put_runs(answer: &mut String, orders: Orders<'_>) -> Result<(), AllocError> {
-    let mut orders = orders;
-    answer.push_str("\nruns")?;
+fn put_cells(talk: &mut Talk<'_>, inbound: &Inbound<'_>) -> Result<(), AllocError> {
+    talk.each("cells", inbound.cells())?;
+    talk.answer.push_str("runs ")?;
+    let mut cells = inbound.cells().copy();
     for _ in 0..u64::MAX {
-        put_chars(answer, orders.characters())?;
-        match orders.next() {
-            Some(order) => put_order(answer, order)?,
-            None => break,
+        if !put_run(talk, cells.characters(), cells.next())? {
+            break;
         }
     }
-    answer.push('\n')
+    Ok(())
 }
 
-fn put_command(answer: &mut String, command: &Command<'_>) -> Result<(), AllocError> {
-    let (code, size) = (command.code(), command.size());
-    write!(
-        answer,
-        "{code:?} has-orders {}\nsize {} {}\n",
-        code.has_orders(),
-        size.rows(),
-        size.cols()
-    )?;
-    match command.wcc() {
-        Some(wcc) => {
-            write!(
-                answer,
-                "wcc alarm {} restore {} reset {}",
-                wcc.alarm(),
-                wcc.restore(),
-                wcc.reset()
-            )?
-        }
-        None => answer.push_str("wcc none")?,
+fn put_inbound(talk: &mut Talk<'_>, inbound: &Inbound<'_>) -> Result<(), AllocError> {
+    talk.line(&inbound.form())?;
+    put_size(talk, inbound.size())?;
+    writeln!(talk.answer, "aid {:02X}", aid_byte(inbound.aid()))?;
+    writeln!(talk.answer, "cursor {:?}", inbound.cursor())?;
+    talk.name("leading", inbound.leading_text())?;
+    talk.each("fields", inbound.returned())?;
+    talk.each("parts", inbound.parts())?;
+    talk.each("as-cells", inbound.parts().map(|part| part.cell()))?;
+    if inbound.form() == Form::Buffer {
+        put_cells(talk, inbound)?;
     }
-    put_orders(answer, command.orders())?;
-    put_runs(answer, command.orders())
+    Ok(())
 }
 
-impl Commands {
-    pub(crate) fn new(alloc: Global) -> Commands {
-        let out = Out::new(alloc);
-        Commands { alloc, out }
-    }
-
-    fn read(&self, line: &mut Words<'_>, answer: &mut String) -> Result<(), Fault> {
-        let (now, alternate) = (model(line)?.alternate(), model(line)?.alternate());
-        let bytes = line.all_bytes(self.alloc)?;
-        match read_command(bytes.as_slice(), now, alternate) {
-            Ok(command) => Ok(put_command(answer, &command)?),
-            Err(fault) => Ok(write!(answer, "fault {fault:?}: {fault}\n")?),
+/// Appends by a writer.
+fn write(talk: &mut Talk<'_>, word: &str) -> Result<(), Fault> {
+    let called = match word {
+        "begin" => {
+            let code = code_named(talk.word()?)?;
+            let wcc = Wcc::from_byte(talk.byte()?);
+            CommandWriter::new(talk.out).begin(code, wcc)
         }
-    }
-
-    fn chars(&mut self, line: &mut Words<'_>) -> Result<Result<(), Memory>, Fault> {
-        let bytes = line.bytes(self.alloc)?;
-        if !are_storable(bytes.as_slice()) {
-            return Err(Fault::Needs("characters"));
+        "sba" => {
+            let to = at(talk.number()?, Size::base());
+            CommandWriter::new(talk.out).sba(to)
         }
-        Ok(CommandWriter::new(&mut self.out.bytes).chars(bytes.as_slice()))
-    }
-
-    fn write(&mut self, word: &str, line: &mut Words<'_>) -> Result<Result<(), Memory>, Fault> {
-        if word == "chars" {
-            return self.chars(line);
+        "sf" => {
+            let attr = Attr::from_code(talk.byte()?);
+            CommandWriter::new(talk.out).sf(attr)
         }
-        let mut writer = CommandWriter::new(&mut self.out.bytes);
-        match word {
-            "begin" => Ok(writer.begin(
-                command_code(line.word()?)?,
-                Wcc::from_byte(code(line.word()?)?),
-            )),
-            "sba" => Ok(writer.sba(at(place_on(line, Size::base())?, Size::base()))),
-            "sf" => Ok(writer.sf(Attr::from_code(code(line.word()?)?))),
-            "ra" => Ok(writer.ra(
-                at(place_on(line, Size::base())?, Size::base()),
-                character(line.word()?)?,
-            )),
-            "ic" => Ok(writer.ic()),
-            _ => Err(Fault::Needs("a command of this subject")),
+        "ra" => {
+            let stop = at(talk.number()?, Size::base());
+            let code = character(talk.word()?)?;
+            CommandWriter::new(talk.out).ra(stop, code)
         }
-    }
+        "ic" => CommandWriter::new(talk.out).ic(),
+        "chars" => {
+            let text = talk.bytes()?;
+            if !are_storable(text.as_slice()) {
+                return Err(Fault::Needs("characters"));
+            }
+            CommandWriter::new(talk.out).chars(text.as_slice())
+        }
+        _ => return Err(Fault::Needs("a command of this subject")),
+    };
+    Ok(talk.done(called)?)
 }
 
 impl Subject for Commands {
-    fn take(&mut self, line: &mut Words<'_>, answer: &mut String) -> Result<(), Fault> {
-        match line.word()? {
-            "read" => self.read(line, answer),
-            "out" => self.out.make(line),
-            "left" => self.out.left(answer),
-            word => {
-                let called = self.write(word, line)?;
-                put_called(answer, called)
+    fn take(&mut self, talk: &mut Talk<'_>) -> Result<(), Fault> {
+        match talk.word()? {
+            "read" => {
+                let (now, alternate) = (talk.model()?.alternate(), talk.model()?.alternate());
+                let bytes = talk.all_bytes()?;
+                match read_command(bytes.as_slice(), now, alternate) {
+                    Ok(command) => put_command(talk, &command)?,
+                    Err(fault) => writeln!(talk.answer, "fault {fault:?}: {fault}")?,
+                }
             }
+            "inbound" => {
+                let (form, size) = (form(talk)?, talk.model()?.alternate());
+                let bytes = talk.all_bytes()?;
+                match read_inbound(bytes.as_slice(), form, size) {
+                    Ok(inbound) => put_inbound(talk, &inbound)?,
+                    Err(fault) => writeln!(talk.answer, "fault {fault:?}: {fault}")?,
+                }
+            }
+            word => write(talk, word)?,
         }
+        Ok(())
     }
 }

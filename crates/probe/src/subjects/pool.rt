@@ -2,72 +2,46 @@
 //!
 //! ```text
 //! read BYTES BYTES ..     a pool of the LUs with these names, or why there is none
-//! ask CONN [BYTES]        a connection that holds none asks for an LU, of this name
+//! ask CONN BYTES          a connection that holds none asks for an LU, of this name, or any if there are no bytes
 //! held CONN               the LU that it holds
-//! give-back CONN
-//! free-all
+//! give-back CONN; free-all
 //! ```
-use crate::fault::Fault;
-use crate::line::Words;
-use crate::subject::Subject;
+use crate::subjects::Subject;
+use crate::talk::{Fault, Talk, bytes_of};
 use lu_pool::Pool;
-use std::alloc::Global;
-use tn3270e_msg::{Lu, Reason};
 
 #[derive(Drop)]
 pub(crate) struct Pools {
-    alloc: Global,
-    pool: Option<Pool>,
-}
-
-fn name_of(alloc: Global, word: &str) -> Result<String, Fault> {
-    match String::from_utf8(Words::new(word).bytes(alloc)?) {
-        Ok(name) => Ok(name),
-        Err(_) => Err(Fault::Needs("bytes of UTF-8")),
-    }
-}
-
-fn put_granted(granted: Result<Lu, Reason>, answer: &mut String) -> Result<(), Fault> {
-    match granted {
-        Ok(lu) => writeln!(answer, "{lu}")?,
-        Err(reason) => writeln!(answer, "{reason}")?,
-    }
-    Ok(())
+    pub(crate) pool: Option<Pool>,
 }
 
 /// Asks for a connection that holds none.
-fn ask(
-    pool: &mut Pool,
-    conn: usize,
-    name: Option<&[u8]>,
-    answer: &mut String,
-) -> Result<(), Fault> {
+fn ask(talk: &mut Talk<'_>, pool: &mut Pool, conn: usize) -> Result<(), Fault> {
+    let name = talk.all_bytes()?;
+    let name = match name.is_empty() {
+        true => None,
+        false => Some(name.as_slice()),
+    };
     match pool.lu_held_by(conn) {
         Some(_) => Err(Fault::Needs("a connection that holds no LU")),
-        None => put_granted(pool.ask(conn, name), answer),
+        None => match pool.ask(conn, name) {
+            Ok(lu) => Ok(writeln!(talk.answer, "{lu}")?),
+            Err(reason) => Ok(writeln!(talk.answer, "{reason}")?),
+        },
     }
 }
 
-fn take_on(
-    alloc: Global,
-    pool: &mut Pool,
-    word: &str,
-    line: &mut Words<'_>,
-    answer: &mut String,
-) -> Result<(), Fault> {
+fn take_on(talk: &mut Talk<'_>, pool: &mut Pool, word: &str) -> Result<(), Fault> {
     match word {
         "ask" => {
-            let conn = line.number()?;
-            match line.bytes_if_any(alloc)? {
-                Some(name) => ask(pool, conn, Some(name.as_slice()), answer)?,
-                None => ask(pool, conn, None, answer)?,
-            }
+            let conn = talk.number()?;
+            ask(talk, pool, conn)?;
         }
-        "held" => match pool.lu_held_by(line.number()?) {
-            Some(lu) => writeln!(answer, "{lu}")?,
-            None => answer.push_str("none\n")?,
+        "held" => match pool.lu_held_by(talk.number()?) {
+            Some(lu) => writeln!(talk.answer, "{lu}")?,
+            None => talk.none()?,
         },
-        "give-back" => pool.give_back(line.number()?),
+        "give-back" => pool.give_back(talk.number()?),
         "free-all" => pool.free_all(),
         _ => return Err(Fault::Needs("a command of pool")),
     }
@@ -75,35 +49,30 @@ fn take_on(
 }
 
 impl Pools {
-    pub(crate) fn new(alloc: Global) -> Pools {
-        Pools { alloc, pool: None }
-    }
-
-    fn read(&mut self, names: &str, answer: &mut String) -> Result<(), Fault> {
-        let mut texts = Vec::new(self.alloc);
-        for word in names.split_whitespace() {
-            texts.push(name_of(self.alloc, word)?)?;
+    fn read(&mut self, talk: &mut Talk<'_>) -> Result<(), Fault> {
+        let mut names = Vec::new(talk.alloc);
+        for word in talk.rest().split_whitespace() {
+            match String::from_utf8(bytes_of(talk.alloc, word)?) {
+                Ok(name) => names.push(name)?,
+                Err(_) => return Err(Fault::Needs("bytes of UTF-8")),
+            }
         }
-        match Pool::read(self.alloc, texts.as_slice()) {
+        match Pool::read(talk.alloc, names.as_slice()) {
             Ok(pool) => {
                 self.pool = Some(pool);
-                answer.push_str("ok\n")?;
+                Ok(talk.done(Ok(()))?)
             }
-            Err(fault) => writeln!(answer, "{fault}")?,
+            Err(fault) => Ok(writeln!(talk.answer, "{fault}")?),
         }
-        Ok(())
     }
 }
 
 impl Subject for Pools {
-    fn take(&mut self, line: &mut Words<'_>, answer: &mut String) -> Result<(), Fault> {
-        let word = line.word()?;
-        if word == "read" {
-            return self.read(line.rest(), answer);
-        }
-        match &mut self.pool {
-            Some(pool) => take_on(self.alloc, pool, word, line, answer),
-            None => Err(Fault::Needs("a pool")),
+    fn take(&mut self, talk: &mut Talk<'_>) -> Result<(), Fault> {
+        match (talk.word()?, &mut self.pool) {
+            ("read", _) => self.read(talk),
+            (word, Some(pool)) => take_on(talk, pool, word),
+            _ => Err(Fault::Needs("a pool")),
         }
     }
 }
