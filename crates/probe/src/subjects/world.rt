@@ -12,7 +12,7 @@
 //! text T                the terminal's screen as text
 //! queued C              the bytes under way up to the host, and down to the terminal
 //! ```
-ghost use Rattle.std.specs.Prelude.{◌≡◌, ◌<◌, IfOk, length};
+ghost use Rattle.std.specs.Prelude.{◌<◌, IfOk, length};
 
 use crate::subjects::cells::put_cells;
 use crate::subjects::host::{self, put_state, read_conn};
@@ -24,7 +24,7 @@ use host_core::{MOST_CONNECTIONS, Phase};
 use jobs3270::{ScriptCommand, typed_text};
 use keyboard::Key;
 use std::alloc::AllocError;
-use world3270::{Event, Ran, Stepped, World};
+use world3270::{Event, World};
 
 const MODELS: [Model; 4] = [Model::M2, Model::M3, Model::M4, Model::M5];
 
@@ -33,7 +33,6 @@ const MODELS: [Model; 4] = [Model::M2, Model::M3, Model::M4, Model::M5];
 pub(crate) struct Worlds {
     world: World,
     events: Vec<Event>,
-    ghost four: { length world.slots ≡ 4 },
 }
 
 fn read_event(line: &str) -> Result<Event, Fault> {
@@ -49,33 +48,20 @@ fn read_event(line: &str) -> Result<Event, Fault> {
     }
 }
 
-fn read_terminal(talk: &mut Talk<'_>) -> Result<usize, Fault>
-    ensures { IfOk result (λ terminal. terminal < 4) }
-{
-    let terminal = talk.number::<usize>()?;
-    if terminal < MODELS.len() {
-        Ok(terminal)
-    } else {
-        Err(Fault::Needs("a terminal's number"))
-    }
-}
-
 impl Worlds {
-    #[tactic(auto, using(crate::proofs::Terminals::four_after_step))]
-    fn step(&mut self, event: Event) -> Stepped {
-        self.world.step(event)
-    }
-
-    /// The list's events happen.
-    #[tactic(auto, using(crate::proofs::Terminals::four_after_run))]
-    fn run(&mut self) -> Ran {
-        let ran = self.world.run(self.events.as_slice());
-        self.events.clear();
-        ran
+    fn read_terminal(&self, talk: &mut Talk<'_>) -> Result<usize, Fault>
+        ensures { IfOk result (λ terminal. terminal < length self.now.world.slots) }
+    {
+        let terminal = talk.number::<usize>()?;
+        if terminal < self.world.terminals() {
+            Ok(terminal)
+        } else {
+            Err(Fault::Needs("a terminal's number"))
+        }
     }
 
     fn put_states(&self, talk: &mut Talk<'_>) -> Result<(), AllocError> {
-        for terminal in 0..4 {
+        for terminal in 0..self.world.terminals() {
             let phase = self.world.terminal(terminal).phase();
             writeln!(talk.answer, "terminal {phase}")?;
         }
@@ -97,16 +83,16 @@ impl Worlds {
                 host::put_all(talk, self.world.host(), conn)?;
             }
             "terminal" => {
-                let terminal = read_terminal(talk)?;
+                let terminal = self.read_terminal(talk)?;
                 terminal::put_all(talk, self.world.terminal(terminal))?;
             }
             "left" => {
-                let terminal = read_terminal(talk)?;
+                let terminal = self.read_terminal(talk)?;
                 writeln!(talk.answer, "erased {}", self.world.erased(terminal))?;
                 put_cells(talk.answer, self.world.last_restored(terminal))?;
             }
             "text" => {
-                let terminal = self.world.terminal(read_terminal(talk)?);
+                let terminal = self.world.terminal(self.read_terminal(talk)?);
                 put_page(talk, terminal.screen_text(talk.alloc))?;
             }
             "queued" => {
@@ -132,10 +118,14 @@ impl Made for Worlds {
         match word {
             "step" => {
                 let event = read_event(talk.rest())?;
-                talk.line(&self.step(event))?;
+                talk.line(&self.world.step(event))?;
             }
             "list" => self.events.push(read_event(talk.rest())?)?,
-            "run" => talk.line(&self.run())?,
+            "run" => {
+                let ran = self.world.run(self.events.as_slice());
+                self.events.clear();
+                talk.line(&ran)?;
+            }
             _ => self.look(word, talk)?,
         }
         Ok(())
