@@ -3,10 +3,10 @@ mod belief;
 mod cells;
 mod codes;
 mod commands;
-mod four;
 mod host;
 mod lines;
 mod links;
+mod made;
 mod messages;
 mod panel;
 mod pool;
@@ -20,9 +20,11 @@ mod world;
 use crate::talk::{Fault, Talk};
 use belief::{Belief, Present};
 use codes3270::Model;
+use host_core::Host;
 use reference::{AnyScreen, ReferenceBelief, ReferenceScreen};
 use std::alloc::AllocError;
 use std::io::{self, BufRead, BufReader, Write};
+use term_core::Terminal;
 
 /// Takes commands.
 pub(crate) trait Subject {
@@ -92,7 +94,7 @@ pub(crate) fn run(rt: &HostRuntime, name: &str) -> io::Result<bool> {
         "belief" => serve(rt, Belief::<Present>::new()),
         "codes" => serve(rt, codes::Codes),
         "commands" => serve(rt, commands::Commands),
-        "host" => serve(rt, host::Hosts::new(alloc)),
+        "host" => serve(rt, None::<Host>),
         "lines" => serve(rt, lines::Lines),
         "messages" => serve(rt, messages::Messages::new()),
         "panel" => serve(rt, panel::Panels::new(alloc)),
@@ -102,9 +104,9 @@ pub(crate) fn run(rt: &HostRuntime, name: &str) -> io::Result<bool> {
         "reports" => serve(rt, reports::Reports),
         "screen" => serve(rt, screen::Display::blank(Model::M2)),
         "streams" => serve(rt, streams::Streams),
-        "terminal" => serve(rt, terminal::Terminals::new(alloc)),
+        "terminal" => serve(rt, None::<Terminal>),
         "wire" => serve(rt, wire::Wire::new(alloc)?),
-        "world" => serve(rt, world::Worlds::new(alloc)),
+        "world" => serve(rt, None::<world::Worlds>),
         _ => Ok(false),
     }
 }

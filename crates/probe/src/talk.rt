@@ -86,7 +86,9 @@ impl<'a> Talk<'a> {
     where
         T::Err: Drop,
     {
-        self.word()?.parse::<T>().map_err(|_| Fault::Needs("a number in range"))
+        self.word()?
+            .parse::<T>()
+            .map_err(|_| Fault::Needs("a number in range"))
     }
 
     /// The next word as a byte, two hexadecimal digits.
@@ -147,7 +149,8 @@ impl<'a> Talk<'a> {
 
     /// Puts whether a call had the memory that it wanted.
     pub(crate) fn done(&mut self, called: Result<(), AllocError>) -> Result<(), AllocError> {
-        self.answer.push_str(if called.is_ok() { "done\n" } else { "memory\n" })
+        self.answer
+            .push_str(if called.is_ok() { "done\n" } else { "memory\n" })
     }
 
     /// Puts that there is nothing to show.
@@ -198,7 +201,10 @@ pub(crate) fn bytes_of(alloc: Global, word: &str) -> Result<Vec<u8>, Fault> {
     if word == "-" {
         return Ok(bytes);
     }
-    if let Some(text) = word.strip_prefix('"').and_then(|text| text.strip_suffix('"')) {
+    if let Some(text) = word
+        .strip_prefix('"')
+        .and_then(|text| text.strip_suffix('"'))
+    {
         bytes.extend_from_slice(text.as_bytes())?;
         return Ok(bytes);
     }

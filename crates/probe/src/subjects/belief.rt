@@ -94,8 +94,8 @@ impl AnyBelief for Present {
 
     fn take(&mut self, model: Model, bytes: &[u8]) -> Result<bool, CommandFault> {
         let command = read_command(bytes, size_of(&self.shadow), model.alternate())?;
-        let is_sized =
-            command.code() != CommandCode::Write || has_size(&self.shadow, command.size());
+        let is_sized = command.code() != CommandCode::Write
+            || has_size(&self.shadow, command.size());
         let is_taken = is_sized && plain(&command);
         if is_taken {
             self.shadow.sent_taken(&command);

@@ -180,7 +180,12 @@ pub(crate) fn change(talk: &mut Talk<'_>, wanted: &mut Wanted, word: &str) -> Re
 /// Puts size, cursor, reset, and what each cell is wanted to have.
 pub(crate) fn put_wanted(talk: &mut Talk<'_>, wanted: &Wanted) -> Result<(), AllocError> {
     let (size, cursor) = (wanted.size(), wanted.cursor().get());
-    writeln!(talk.answer, "size {} {}\ncursor {cursor}", size.rows(), size.cols())?;
+    writeln!(
+        talk.answer,
+        "size {} {}\ncursor {cursor}",
+        size.rows(),
+        size.cols()
+    )?;
     writeln!(talk.answer, "reset {}", wanted.reset())?;
     talk.each("cells", wanted.cells())
 }

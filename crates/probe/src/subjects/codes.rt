@@ -40,7 +40,13 @@ fn put_some<T: Display + Drop>(talk: &mut Talk<'_>, value: Option<T>) -> Result<
 }
 
 fn put_size(talk: &mut Talk<'_>, size: Size) -> Result<(), AllocError> {
-    writeln!(talk.answer, "{} {} {}", size.rows(), size.cols(), size.cells())
+    writeln!(
+        talk.answer,
+        "{} {} {}",
+        size.rows(),
+        size.cols(),
+        size.cells()
+    )
 }
 
 fn put_constants(talk: &mut Talk<'_>) -> Result<(), AllocError> {
@@ -82,7 +88,11 @@ fn put_walk(talk: &mut Talk<'_>, size: Size) -> Result<(), Fault> {
 fn put_attr(talk: &mut Talk<'_>, attr: Attr) -> Result<(), AllocError> {
     let without = attr_code(attr.with_mdt(false));
     let with = attr_code(attr.with_mdt(true));
-    write!(talk.answer, "{:02X} {without:02X} {with:02X}", attr_code(attr))?;
+    write!(
+        talk.answer,
+        "{:02X} {without:02X} {with:02X}",
+        attr_code(attr)
+    )?;
     write!(talk.answer, " {:?} {}", attr.display, attr.protected())?;
     write!(talk.answer, " {} {}", attr.numeric(), attr.autoskip())?;
     write!(talk.answer, " {} {}", attr.bright(), attr.hidden())?;

@@ -12,9 +12,7 @@ use crate::subjects::Subject;
 use crate::subjects::cells::{are_storable, at, character, form};
 use crate::talk::{Fault, Talk, put_hex};
 use codes3270::{Attr, Size, Wcc, aid_byte};
-use datastream::{
-    Command, CommandCode, CommandWriter, Form, Inbound, read_command, read_inbound,
-};
+use datastream::{Command, CommandCode, CommandWriter, Form, Inbound, read_command, read_inbound};
 use std::alloc::AllocError;
 use std::fmt::Debug;
 

@@ -82,7 +82,12 @@ fn put_sub(talk: &mut Talk<'_>, message: &SubMessage<'_>) -> Result<(), AllocErr
 
 fn put_device(talk: &mut Talk<'_>, device: Device, text: &[u8]) -> Result<(), AllocError> {
     put_hex(talk.answer, device.text())?;
-    writeln!(talk.answer, " {:?} {}", device.model(), device.has_text(text))
+    writeln!(
+        talk.answer,
+        " {:?} {}",
+        device.model(),
+        device.has_text(text)
+    )
 }
 
 fn item_of<'a>(word: &str, bytes: &'a [u8]) -> Result<Item<'a>, Fault> {
@@ -169,14 +174,29 @@ impl Messages {
     fn put_host(&self, talk: &mut Talk<'_>) -> Result<(), AllocError> {
         let host = &self.host;
         writeln!(talk.answer, "asking {}\nlu {:?}", host.asking(), host.lu())?;
-        writeln!(talk.answer, "agreed {} {:?}", host.is_agreed(), host.agreed_lu())?;
-        writeln!(talk.answer, "device {:?}\nmodel {:?}", host.device(), host.model())
+        writeln!(
+            talk.answer,
+            "agreed {} {:?}",
+            host.is_agreed(),
+            host.agreed_lu()
+        )?;
+        writeln!(
+            talk.answer,
+            "device {:?}\nmodel {:?}",
+            host.device(),
+            host.model()
+        )
     }
 
     fn put_terminal(&self, talk: &mut Talk<'_>) -> Result<(), AllocError> {
         let terminal = &self.terminal;
         writeln!(talk.answer, "lu {:?}", terminal.lu())?;
-        writeln!(talk.answer, "agreed {} {:?}", terminal.is_agreed(), terminal.agreed_lu())?;
+        writeln!(
+            talk.answer,
+            "agreed {} {:?}",
+            terminal.is_agreed(),
+            terminal.agreed_lu()
+        )?;
         writeln!(talk.answer, "refused {:?}", terminal.reason_refused())
     }
 

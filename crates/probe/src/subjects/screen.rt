@@ -68,7 +68,9 @@ impl AnyScreen for Display {
 
     fn apply(&mut self, bytes: &[u8]) -> Result<Applied, CommandFault> {
         let alternate = self.screen.model().alternate();
-        let applied = self.screen.apply(&read_command(bytes, self.screen.size(), alternate)?);
+        let applied = self
+            .screen
+            .apply(&read_command(bytes, self.screen.size(), alternate)?);
         if applied.restore {
             self.keyboard.restored();
         }
