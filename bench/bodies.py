@@ -43,7 +43,7 @@ def microseconds(probe: str, subject: str, before: str, command: str, data: str,
     def best(each: str) -> float:
         return min(seconds(probe, subject, [before, *[f"{each} {data}"] * COUNT]) for _ in range(rounds))
 
-    return 1e6 * (best(command) - best("out 0")) / COUNT
+    return 1e6 * (best(command) - best("vector 0")) / COUNT
 
 
 def main() -> None:

@@ -15,6 +15,7 @@ import tempfile
 import traceback
 from collections.abc import Iterator
 
+from harness import programs
 from harness.case import TOP, BadCase, Case, Difference, NotHere, Place, relative
 
 SUITES = TOP / "tests/suites"
@@ -181,6 +182,14 @@ def all_parts() -> tuple[list[Part], list[Failure]]:
     return [part for _, parts in sorted(found, key=lambda it: it[0]) for part in parts], failures
 
 
+def may_have_cases(part: Part, words: list[str]) -> bool:
+    """Whether the words choose a case of a part, or reading its cases fails."""
+    try:
+        return next(chosen(part, words), None) is not None
+    except Exception:
+        return True
+
+
 def run_apart(part: Part, words: list[str], slots: queue.SimpleQueue[int]) -> Outcome:
     """Runs a part in a process of its own. What it starts uses the ports of a slot, which no other
     part has meanwhile."""
@@ -293,6 +302,10 @@ def show(failure: Failure) -> None:
 def run_all(words: list[str], jobs: int) -> int:
     """Runs all suites. The exit status: 0 if no case failed, and one ran."""
     parts, failures = all_parts()
+    parts = [part for part in parts if not words or may_have_cases(part, words)]
+    if os.environ.get("TESTS_QUICK"):
+        # Each is compiled once, before parts that run side by side ask for it.
+        os.environ.update(PROBE=str(programs.probe()), PANEL3270=str(programs.panel3270()))
     passed, failed = 0, len(failures)
     for it in failures:
         show(it)

@@ -42,6 +42,15 @@ pub(crate) fn at(place: u16, size: Size) -> Addr
     }
 }
 
+/// The number of a cell on a screen of this size.
+pub(crate) fn place_on(talk: &mut Talk<'_>, size: Size) -> Result<u16, Fault> {
+    let place = talk.number()?;
+    if place < size.cells() {
+        return Ok(place);
+    }
+    Err(Fault::Needs("a cell of the screen"))
+}
+
 /// A byte that can be stored as a character.
 pub(crate) fn character(digits: &str) -> Result<u8, Fault>
     ensures { IfOk result (λ code. is_storable code ≡ true) }
@@ -169,7 +178,7 @@ pub(crate) fn change(talk: &mut Talk<'_>, wanted: &mut Wanted, word: &str) -> Re
             }
         }
         "aim" => {
-            let cursor = at(talk.number()?, wanted.size());
+            let cursor = at(place_on(talk, wanted.size())?, wanted.size());
             wanted.set_cursor_and_reset(cursor, talk.number()?);
         }
         _ => return Err(Fault::Needs("a command of this subject")),

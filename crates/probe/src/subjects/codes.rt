@@ -62,7 +62,11 @@ fn put_address(talk: &mut Talk<'_>, addr: Addr) -> Result<(), AllocError> {
 
 fn put_read(talk: &mut Talk<'_>, size: Size) -> Result<(), Fault> {
     let bytes = talk.all_bytes()?;
-    for pair in bytes.as_slice().as_chunks::<2>().0 {
+    let (pairs, rest) = bytes.as_slice().as_chunks::<2>();
+    if !rest.is_empty() {
+        return Err(Fault::Needs("pairs of bytes"));
+    }
+    for pair in pairs {
         match addr_from_bytes(*pair, size) {
             Ok(addr) => writeln!(talk.answer, "{}", addr.get())?,
             Err(fault) => writeln!(talk.answer, "{fault}")?,

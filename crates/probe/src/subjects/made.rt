@@ -13,19 +13,27 @@ pub(crate) trait Made {
     fn take(&mut self, word: &str, talk: &mut Talk<'_>) -> Result<(), Fault>;
 }
 
+/// Makes it anew.
+fn make<M: Made + Drop>(made: &mut Option<M>, talk: &mut Talk<'_>) -> Result<(), Fault> {
+    match M::new(talk) {
+        Ok(new) => {
+            *made = Some(new);
+            Ok(talk.done(Ok(()))?)
+        }
+        Err(Fault::NoMemory(fault)) => Ok(talk.done(Err(fault))?),
+        Err(fault) => Err(fault),
+    }
+}
+
 impl<M: Made + Drop> Subject for Option<M> {
     fn take(&mut self, talk: &mut Talk<'_>) -> Result<(), Fault> {
-        match (talk.word()?, self) {
-            ("new", made) => match M::new(talk) {
-                Ok(new) => {
-                    *made = Some(new);
-                    Ok(talk.done(Ok(()))?)
-                }
-                Err(Fault::NoMemory(fault)) => Ok(talk.done(Err(fault))?),
-                Err(fault) => Err(fault),
-            },
-            (word, Some(made)) => made.take(word, talk),
-            (_, None) => Err(Fault::Needs("new before it")),
+        let word = talk.word()?;
+        if word == "new" {
+            return make(self, talk);
+        }
+        match self {
+            Some(made) => made.take(word, talk),
+            None => Err(Fault::Needs("new before it")),
         }
     }
 }

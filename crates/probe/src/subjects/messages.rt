@@ -220,7 +220,11 @@ impl Messages {
             "terminal" => {
                 let model = talk.model()?;
                 let name = talk.all_bytes()?;
-                self.terminal = TermTalk::new(model, Lu::read(name.as_slice()));
+                let wanted = Lu::read(name.as_slice());
+                if wanted.is_none() && !name.is_empty() {
+                    return Err(Fault::Needs("the name of an LU"));
+                }
+                self.terminal = TermTalk::new(model, wanted);
             }
             "takes" => {
                 let word = talk.word()?;

@@ -17,7 +17,7 @@
 //!
 //! That of reference has the commands down to `read`.
 use crate::subjects::Subject;
-use crate::subjects::cells::{at, form};
+use crate::subjects::cells::{at, form, place_on};
 use crate::talk::{Fault, Talk};
 use codes3270::{Aid, Model, aid_from_byte, storable};
 use datastream::{CommandFault, Form, Memory, read_command};
@@ -143,10 +143,13 @@ fn take_any<S: AnyScreen + Drop>(
             talk.line(&screen.apply(bytes.as_slice()))?;
         }
         "store" => {
-            let first = talk.number()?;
+            let first = place_on(talk, screen.shown().size)?;
             screen.store(first, talk.bytes()?.as_slice());
         }
-        "cursor" => screen.set_cursor(talk.number()?),
+        "cursor" => {
+            let place = place_on(talk, screen.shown().size)?;
+            screen.set_cursor(place);
+        }
         "aid" => match aid_from_byte(talk.byte()?) {
             Some(aid) => screen.set_aid(aid),
             None => return Err(Fault::Needs("the byte of an AID")),
