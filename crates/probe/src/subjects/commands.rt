@@ -12,7 +12,9 @@ use crate::subjects::Subject;
 use crate::subjects::cells::{are_storable, at, character, form};
 use crate::talk::{Fault, Talk, put_hex};
 use codes3270::{Attr, Size, Wcc, aid_byte};
-use datastream::{Command, CommandCode, CommandWriter, Form, Inbound, read_command, read_inbound};
+use datastream::{
+    Cells, Command, CommandCode, CommandWriter, Form, Inbound, read_command, read_inbound,
+};
 use std::alloc::AllocError;
 use std::fmt::Debug;
 
@@ -73,12 +75,12 @@ fn put_command(talk: &mut Talk<'_>, command: &Command<'_>) -> Result<(), AllocEr
     Ok(())
 }
 
-fn put_cells(talk: &mut Talk<'_>, inbound: &Inbound<'_>) -> Result<(), AllocError> {
-    talk.each("cells", inbound.cells())?;
+fn put_cells(talk: &mut Talk<'_>, cells: Cells<'_>) -> Result<(), AllocError> {
+    let mut others = cells.copy();
+    talk.each("cells", cells)?;
     talk.answer.push_str("runs ")?;
-    let mut cells = inbound.cells().copy();
     for _ in 0..u64::MAX {
-        if !put_run(talk, cells.characters(), cells.next())? {
+        if !put_run(talk, others.characters(), others.next())? {
             break;
         }
     }
@@ -95,7 +97,7 @@ fn put_inbound(talk: &mut Talk<'_>, inbound: &Inbound<'_>) -> Result<(), AllocEr
     talk.each("parts", inbound.parts())?;
     talk.each("as-cells", inbound.parts().map(|part| part.cell()))?;
     if inbound.form() == Form::Buffer {
-        put_cells(talk, inbound)?;
+        put_cells(talk, inbound.cells())?;
     }
     Ok(())
 }

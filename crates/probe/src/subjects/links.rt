@@ -1,6 +1,6 @@
 //! The connection of a turn, in memory: what its reads give, and what its writes take.
 ghost use Rattle.std.specs.Prelude.{◌≡◌, ◌≤◌, ⊤, length};
-ghost use Rattle.host_core.specs.Serves.{GotWithin, ReadCounts, WriteCounts};
+ghost use Rattle.host_core.specs.Serves.{ReadCounts, WriteCounts};
 ghost use Rattle.probe.specs.Counts.{Raises, count_at};
 
 use crate::talk::{Fault, Talk, bytes_of};
@@ -59,12 +59,12 @@ impl Link {
     }
 
     /// Puts what was said into the buffer.
-    fn give(&self, buffer: &mut [u8]) -> LinkRead
-        ensures { GotWithin result (length buffer.new) }
+    fn give(&self, buffer: &mut [u8]) -> usize
+        ensures { result ≤ length buffer.new }
     {
         let count = self.said.len().min(buffer.len());
         buffer[..count].copy_from_slice(&self.said.as_slice()[..count]);
-        LinkRead::Got(count)
+        count
     }
 }
 
@@ -80,7 +80,7 @@ impl Links for Link {
     fn read(&mut self, conn: usize, buffer: &mut [u8]) -> LinkRead {
         self.reads = self.reads.saturating_add(1);
         match self.read {
-            LinkRead::Got(_) => self.give(buffer),
+            LinkRead::Got(_) => LinkRead::Got(self.give(buffer)),
             LinkRead::Ended if raise(&mut self.ends, conn) => LinkRead::Ended,
             LinkRead::Failed if raise(&mut self.failures, conn) => LinkRead::Failed,
             _ => LinkRead::NotNow,

@@ -159,10 +159,12 @@ fn put_live(talk: &mut Talk<'_>) -> Result<(), Fault> {
         Ok(()) => writeln!(talk.answer, "asked {}", session.take_asked() as u8)?,
         Err(fault) => writeln!(talk.answer, "{fault}")?,
     }
-    match session.into_parts() {
-        (Some(pipe), tty) => Ok(put_texts(talk, &tty.into_inner(), &pipe)?),
-        _ => Ok(writeln!(talk.answer, "no connection")?),
+    let (pipe, tty) = session.into_parts();
+    match pipe {
+        Some(pipe) => put_texts(talk, &tty.into_inner(), &pipe)?,
+        None => writeln!(talk.answer, "no connection")?,
     }
+    Ok(())
 }
 
 impl Subject for Streams {
