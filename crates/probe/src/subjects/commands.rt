@@ -87,7 +87,7 @@ fn put_cells(talk: &mut Talk<'_>, cells: Cells<'_>) -> Result<(), AllocError> {
     Ok(())
 }
 
-fn put_inbound(talk: &mut Talk<'_>, inbound: &Inbound<'_>) -> Result<(), AllocError> {
+fn put_parts(talk: &mut Talk<'_>, inbound: &Inbound<'_>) -> Result<(), AllocError> {
     talk.line(&inbound.form())?;
     put_size(talk, inbound.size())?;
     writeln!(talk.answer, "aid {:02X}", aid_byte(inbound.aid()))?;
@@ -95,7 +95,11 @@ fn put_inbound(talk: &mut Talk<'_>, inbound: &Inbound<'_>) -> Result<(), AllocEr
     talk.name("leading", inbound.leading_text())?;
     talk.each("fields", inbound.returned())?;
     talk.each("parts", inbound.parts())?;
-    talk.each("as-cells", inbound.parts().map(|part| part.cell()))?;
+    talk.each("as-cells", inbound.parts().map(|part| part.cell()))
+}
+
+fn put_inbound(talk: &mut Talk<'_>, inbound: &Inbound<'_>) -> Result<(), AllocError> {
+    put_parts(talk, inbound)?;
     if inbound.form() == Form::Buffer {
         put_cells(talk, inbound.cells())?;
     }
