@@ -1,8 +1,8 @@
 #!/usr/bin/env python3
 """Prints figures of the screen and the belief beside those of crates/reference, which are lists.
 
-usage: bodies.py PROBE [ROUNDS]. Each figure is the best of some rounds, in processor time, less that
-of as many commands that only read the same bytes.
+usage: bodies.py PROBE [ROUNDS]. Each figure is the best of some rounds, in processor time, less
+that of as many commands that only read the same bytes.
 """
 import os
 import subprocess
@@ -43,7 +43,9 @@ def works() -> Iterator[tuple[str, str, str, str, str]]:
         yield f"a buffer is heard, {fields} fields", "belief", before, "hear buffer", read
 
 
-def microseconds(probe: str, rounds: int, subject: str, before: str, command: str, data: str) -> float:
+def microseconds(
+    probe: str, rounds: int, subject: str, before: str, command: str, data: str
+) -> float:
     """The time of one command, without that of reading its line."""
 
     def best(each: str) -> float:

@@ -1,4 +1,5 @@
-"""The answers of the probe's subjects that speak of cells, as the cases say them: `C1` a character, `1D60` an attribute."""
+"""The answers of the probe's subjects that speak of cells, as the cases say them: `C1` a
+character, `1D60` an attribute."""
 import functools
 import pathlib
 import re
@@ -8,9 +9,10 @@ from harness.case import Case, same
 from harness.data import Line, blocks_of, lines_of
 from harness.probe import Probe
 
-# The graphic codes of six-bit values (GA23-0059-07), in their order: the first and the last of each run.
-RUNS = ((0x40, 0x40), (0xC1, 0xC9), (0x4A, 0x4F), (0x50, 0x50), (0xD1, 0xD9), (0x5A, 0x5F), (0x60, 0x61), (0xE2, 0xE9),
-        (0x6A, 0x6F), (0xF0, 0xF9), (0x7A, 0x7F))
+# The graphic codes of six-bit values (GA23-0059-07), in their order: the first and the last of
+# each run.
+RUNS = ((0x40, 0x40), (0xC1, 0xC9), (0x4A, 0x4F), (0x50, 0x50), (0xD1, 0xD9), (0x5A, 0x5F), (0x60, 0x61),
+        (0xE2, 0xE9),        (0x6A, 0x6F), (0xF0, 0xF9), (0x7A, 0x7F))
 GRAPHIC = [code for first, last in RUNS for code in range(first, last + 1)]
 DISPLAYS = ("Normal", "Detectable", "Bright", "Hidden")
 
@@ -18,7 +20,8 @@ DISPLAYS = ("Normal", "Detectable", "Bright", "Hidden")
 def attribute(found: re.Match[str]) -> str:
     """The code of an attribute that is printed by Debug."""
     protected, numeric, display, mdt = found.groups()
-    bits = 32 * (protected == "true") + 16 * (numeric == "true") + 4 * DISPLAYS.index(display) + (mdt == "true")
+    bits = 32 * (protected == "true") + 16 * (numeric == "true") + (mdt == "true")
+    bits += 4 * DISPLAYS.index(display)
     return f"{GRAPHIC[bits]:02X}"
 
 
@@ -30,7 +33,10 @@ def text_of(numbers: str) -> str:
 SPELLINGS = [(re.compile(pattern), said) for pattern, said in (
     (r"Addr \{ position: (\d+) \}", r"\1"),
     (r"Attr \{ protected: (\w+), numeric: (\w+), display: (\w+), mdt: (\w+) \}", attribute),
-    (r"ReturnedField \{ first: (\d+), text: \[([\d, ]*)\] \}", lambda it: f"{it[1]} {text_of(it[2])}"),
+    (
+        r"ReturnedField \{ first: (\d+), text: \[([\d, ]*)\] \}",
+        lambda it: f"{it[1]} {text_of(it[2])}",
+    ),
     (r"Field \{ attr: (\d+), length: (\d+) \}", r"\1+\2"),
     (r"Wcc \{ alarm: (\w+), restore: (\w+), reset: (\w+) \}", r"alarm \1 restore \2 reset \3"),
     (r"Ra\((\d+), (\d+)\)", lambda it: f"ra:{it[1]}:{text_of(it[2])}"),
@@ -103,7 +109,8 @@ def check_row(probe: Callable[[], Probe], line: Line) -> None:
     check_part(wanted.split("; "), answer, line)
     for single in ("orders", "cells"):
         if any(it.split(" ", 1)[0] == single for it in answer):
-            same(" ".join(in_runs(line_of(answer, single))), " ".join(line_of(answer, "runs")), line.at)
+            runs = " ".join(in_runs(line_of(answer, single)))
+            same(runs, " ".join(line_of(answer, "runs")), line.at)
     parts = ["none" if it.startswith("at:") else it for it in line_of(answer, "parts")]
     same(" ".join(parts), " ".join(line_of(answer, "as-cells")), line.at)
 

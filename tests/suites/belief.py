@@ -73,7 +73,8 @@ class Belief:
         same(line.text, f"size {self.ask('size', line)}", line.at)
 
     def place(self, line: Line, words: list[str]) -> list[str]:
-        """What is believed at an address: a fact, the cell, and the text, in one walk and by its places."""
+        """What is believed at an address: a fact, the cell, and the text, in one walk and by its
+        places."""
         return plainly(self.probe.ask(f"at {words[0]}", line.at))
 
     def do_fact(self, line: Line, words: list[str]) -> None:
@@ -81,7 +82,8 @@ class Belief:
         same(words[1], fact, line.at)
         if len(words) > 2:
             wanted = line.data(" ".join(words[2:])).hex().upper() or "-"
-            same([wanted] * 2, [text_of(it.removeprefix("text").strip().replace(" ", ", ")) for it in texts], line.at)
+            came = [text_of(it.removeprefix("text").strip().replace(" ", ", ")) for it in texts]
+            same([wanted] * 2, came, line.at)
 
     def do_known(self, line: Line, words: list[str]) -> None:
         same(words[1], self.place(line, words)[1].replace("none", "?"), line.at)

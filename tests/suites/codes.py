@@ -19,7 +19,8 @@ PF = dict(
 )
 PA = {1: 0x6C, 2: 0x6E, 3: 0x6B}
 KEYS = {0x60: "NoAid", 0x7D: "Enter", 0x6D: "Clear"}
-KEYS |= {code: f"PF{number}" for number, code in PF.items()} | {code: f"PA{number}" for number, code in PA.items()}
+KEYS |= {code: f"PF{number}" for number, code in PF.items()}
+KEYS |= {code: f"PA{number}" for number, code in PA.items()}
 # The control codes that a cell can hold; FF is one.
 STORED_CONTROLS = {0x00, 0x0C, 0x0D, 0x15, 0x19, 0x1C, 0x1E, 0x3F, 0xFF}
 # Code page 037 from 40 on, sixteen codes to a row.

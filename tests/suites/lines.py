@@ -46,7 +46,8 @@ def serve(job: dict) -> str:
     text += if_any(", metrics at {}", service["metrics"])
     text += ", own terminals" if service["terminals"] == "Waiting" else ""
     text += ", quiet" if service["quiet"] == "true" else ""
-    text += if_any(f", application [{{}}] in {application['reply_time']} seconds", application["url"])
+    limit = f", application [{{}}] in {application['reply_time']} seconds"
+    text += if_any(limit, application["url"])
     return text + if_any(" of [{}]", job["panels"])
 
 

@@ -97,7 +97,8 @@ def paints(cells: list[str]) -> list[str]:
     commands = []
     for is_changed, keeps in ((False, False), (True, False), (False, True)):
         wanted = " ".join(wants(cells, is_changed, keeps))
-        commands += ["want 2 00", f"put 0 {wanted}", f"aim {CHANGED_EVERY} {str(is_changed).lower()}", "fits", "vector 0 -", "paint", "appended"]
+        aim = f"aim {CHANGED_EVERY} {str(is_changed).lower()}"
+        commands += ["want 2 00", f"put 0 {wanted}", aim, "fits", "vector 0 -", "paint", "appended"]
     for want in ("00", "1DE8", "keep"):
         commands += [f"want 2 {want}", "fits", "vector 0 -", "paint", "appended"]
     return commands
@@ -148,7 +149,8 @@ class Held:
         word = line.text.split()[0]
         if word in (*CHANGES, "press"):
             looks = ["show", "look"] if word in CHANGES else ["show"]
-            self.screens.ask([*looks, *(it for form in FORMS for it in ("vector 0 -", f"read {form}", "appended"))], line)
+            reads = [it for form in FORMS for it in ("vector 0 -", f"read {form}", "appended")]
+            self.screens.ask([*looks, *reads], line)
         if word == "write" or word not in (*CHANGES, "press"):
             cells = cells_of(parts_of(self.beliefs.ask(["show"], line)[0])["belief"])
             for command in paints(cells + ["??"] * (1920 - len(cells))):

@@ -38,7 +38,9 @@ from harness.probe import Probe
 FILL = "apply 7EC33C40405C"
 DUP, FIELD_MARK = 0x1C, 0x1E
 SIZES = {"M2": "24 80", "M3": "32 80", "M4": "43 80", "M5": "27 132"}
-SHOWN = re.compile(r"Shown { size: Size { model: (?P<size>M.) }, cursor: (?P<cursor>\d+), home: (?P<home>\d+), .*}")
+SHOWN = re.compile(
+    r"Shown { size: Size { model: (?P<size>M.) }, cursor: (?P<cursor>\d+), home: (?P<home>\d+), .*}"
+)
 LOOK = re.compile(r"Look { cell: (\w+), field: (\S+), over: (\w+), glyph: (\d+) }")
 
 
@@ -68,14 +70,20 @@ class Display:
 
     def show(self, line: Line) -> dict[str, str]:
         shown = SHOWN.fullmatch(self.ask("show", line)).groupdict()
-        return {**shown, "size": SIZES[shown["size"]], "fields": self.ask("fields", line).removeprefix("fields").strip()}
+        fields = self.ask("fields", line).removeprefix("fields").strip()
+        return {**shown, "size": SIZES[shown["size"]], "fields": fields}
 
     def look(self, line: Line) -> list[Cell]:
         rows = [LOOK.fullmatch(it).groups() for it in self.ask("look", line).split("\n")]
         glyphs = self.ask("glyphs", line).split()[1:]
         same(len(rows), len(glyphs), line.at)
         return [
-            Cell(token, field.replace("none", "-"), "-" if over == "none" else f"1D{over}", (int(glyph), int(walked)))
+            Cell(
+                token,
+                field.replace("none", "-"),
+                "-" if over == "none" else f"1D{over}",
+                (int(glyph), int(walked)),
+            )
             for (token, field, over, glyph), walked in zip(rows, glyphs)
         ]
 
@@ -93,7 +101,8 @@ class Display:
     def do_asks(self, line: Line, words: list[str]) -> None:
         asked = {"nothing": (False, False), "alarm": (False, True), "restore": (True, False)}
         restore, alarm = (str(it).lower() for it in asked[words[0]])
-        same(f"Ok(Applied {{ restore: {restore}, alarm: {alarm} }})", self.ask(f"apply {' '.join(words[1:])}", line), line.at)
+        wanted = f"Ok(Applied {{ restore: {restore}, alarm: {alarm} }})"
+        same(wanted, self.ask(f"apply {' '.join(words[1:])}", line), line.at)
 
     def do_beyond(self, line: Line, words: list[str]) -> None:
         same("Err(BadAddress)", self.ask(f"apply {' '.join(words)}", line), line.at)
@@ -140,7 +149,8 @@ class Display:
         wanted = line.data(" ".join(words[1:]))
         for before, room in ((b"", 0), (b"\7\7", 2), (b"\7\7", 2 + len(wanted))):
             self.ask(f"vector {room} {before.hex() or '-'}", line)
-            same((before + wanted).hex().upper(), appended(self.probe, f"read {words[0]}", line).hex().upper(), line.at)
+            came = appended(self.probe, f"read {words[0]}", line)
+            same((before + wanted).hex().upper(), came.hex().upper(), line.at)
 
     def do_buffer_length(self, line: Line, words: list[str]) -> None:
         self.ask("vector 0 -", line)
@@ -238,7 +248,8 @@ def new_line_goes(line: Line) -> None:
         for place in (row * columns, (row + 1) * columns - 1):
             display.ask(f"cursor {place}", line)
             same(f"from {place}: Done", f"from {place}: {display.press('newline', line)}", line.at)
-            same(f"from {place}: {wanted}", f"from {place}: {display.show(line)['cursor']}", line.at)
+            came = display.show(line)["cursor"]
+            same(f"from {place}: {wanted}", f"from {place}: {came}", line.at)
     display.probe.close()
 
 

@@ -128,7 +128,8 @@ def term(
 ) -> tuple[str, str, bytes]:
     """How a terminal's script ends, what it prints, and what it sends."""
     end, out, sent = outcome(
-        f"term {str(fails).lower()} {room} {sends} {script.encode().hex()} {' '.join(reads)}".rstrip()
+        f"term {str(fails).lower()} {room} {sends} {script.encode().hex()} "
+        f"{' '.join(reads)}".rstrip()
     )
     return end, out.decode(), sent
 
