@@ -162,7 +162,7 @@ def the_code_page_is_the_published_one() -> None:
     same(191, len(set(CODE_PAGE_037)))
     same(bytes(LATIN).decode("cp037"), CODE_PAGE_037)
     check(of_bytes("latin", lambda byte: str(ord(LATIN[byte])) if byte in LATIN else "none"))
-    code_of = {ord(character): f"{code:02X}" for code, character in LATIN.items()}
+    code_of = {ord(character): str(code) for code, character in LATIN.items()}
     numbers = (*range(0x3000), 0xD7FF, 0xE000, 0xFFFF, 0x10FFFF)
     check((f"code {number}", code_of.get(number, "none")) for number in numbers)
 

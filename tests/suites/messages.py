@@ -56,7 +56,7 @@ def each_number_has_its_next() -> None:
 def each_byte_is_a_letter_of_a_name_or_none() -> None:
     def name(text: bytes, is_name: bool) -> tuple[str, str]:
         kept = text.upper()
-        printed = f"bytes {hexadecimal(kept)}; {kept.decode()}"
+        printed = f"bytes {hexadecimal(kept)}; {kept.decode('latin-1')}"
         return f"lu {hexadecimal(text)}", printed if is_name else "none"
 
     check(name(bytes([byte]), byte in FIRSTS) for byte in range(256))
