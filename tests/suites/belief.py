@@ -89,7 +89,9 @@ class Belief:
         same(words[1], self.place(line, words)[1].replace("none", "?"), line.at)
 
     def do_again(self, line: Line, words: list[str]) -> None:
-        cells = cells_of(parts_of(self.probe.ask("show", line.at))["belief"])
+        known = cells_of(parts_of(self.probe.ask("show", line.at))["belief"])
+        # Where nothing is known, it is a screen of model 2.
+        cells = known or ["??"] * 1920
         model = {1920: 2, 2560: 3, 3440: 4, 3564: 5}[len(cells)]
         self.ask(f"want {model} 00", line)
         self.ask(f"put 0 {' '.join(map(want_again, cells))}", line)

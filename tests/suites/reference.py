@@ -122,7 +122,7 @@ class Held:
     def type_at(self, data: bytes, line: Line) -> None:
         place = address_of(data[:2])
         self.screens.ask(
-            [f"store {place} {data[2:].hex()}", f"cursor {(place + len(data) - 2) % 1920}"], line
+            [f"store {place} {data[2:].hex() or '-'}", f"cursor {(place + len(data) - 2) % 1920}"], line
         )
 
     def take(self, line: Line) -> None:
