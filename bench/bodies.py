@@ -5,24 +5,24 @@ usage: bodies.py PROBE [ROUNDS]. Each figure is the best of some rounds, in proc
 that of as many commands that only read the same bytes.
 """
 import os
+import resource
 import subprocess
 import sys
 from collections.abc import Iterator
 
 CELLS = 1920
-COUNT = 2000
+COUNT = 5000
 
 
 def seconds(probe: str, subject: str, commands: list[str]) -> float:
     """The processor time of a run."""
-    before = os.times()
     text = "\n".join([*commands, ""])
+    before = resource.getrusage(resource.RUSAGE_CHILDREN)
     done = subprocess.run([probe, subject], input=text, capture_output=True, text=True, check=True)
-    after = os.times()
+    after = resource.getrusage(resource.RUSAGE_CHILDREN)
     if refused := [it for it in done.stdout.split("\n") if it.startswith("? ")]:
         sys.exit(f"{subject}: {refused[0]}")
-    took = after.children_user - before.children_user
-    return took + after.children_system - before.children_system
+    return after.ru_utime + after.ru_stime - before.ru_utime - before.ru_stime
 
 
 def cells(every: int) -> str:
