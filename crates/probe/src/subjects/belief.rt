@@ -12,7 +12,7 @@
 //! doubt                  the operator may have typed
 //! size                   that of the screen of which something is known
 //! at ADDR                the fact of the field whose attribute is there; the cell; the text, in one walk and by its places
-//! wanted                 the wanted screen, in one walk and by its addresses, each with the one behind it
+//! wanted                 the wanted screen, in one walk and by its addresses, each with the next one
 //! ```
 //!
 //! That of reference has the commands down to `paint`.
@@ -177,7 +177,7 @@ fn put_place(talk: &mut Talk<'_>, shadow: &Shadow, place: u16) -> Result<(), All
     talk.answer.push('\n')
 }
 
-/// Puts each cell as it is looked up by its address, and the one behind it, round the end.
+/// Puts each cell as it is looked up by its address, and the next one, round the end.
 fn put_each(talk: &mut Talk<'_>, wanted: &Wanted) -> Result<(), AllocError> {
     let size = wanted.size();
     talk.answer.push_str("each")?;

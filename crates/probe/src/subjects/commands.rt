@@ -42,7 +42,7 @@ fn put_size(talk: &mut Talk<'_>, size: Size) -> Result<(), AllocError> {
     writeln!(talk.answer, "size {} {}", size.rows(), size.cols())
 }
 
-/// Puts a run of characters, and the item behind it. Whether there is one.
+/// Puts a run of characters, and the item after it. Whether there is one.
 fn put_run<T: Debug + Drop>(
     talk: &mut Talk<'_>,
     run: &[u8],

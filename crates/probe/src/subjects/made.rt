@@ -13,7 +13,7 @@ pub(crate) trait Made {
     fn take(&mut self, word: &str, talk: &mut Talk<'_>) -> Result<(), Fault>;
 }
 
-/// Makes it anew.
+/// Makes a new one in its place.
 fn make<M: Made + Drop>(made: &mut Option<M>, talk: &mut Talk<'_>) -> Result<(), Fault> {
     match M::new(talk) {
         Ok(new) => {

@@ -5,7 +5,7 @@
 //! show FAILS ROOM INTERRUPTIONS READ ..       run_show, of model 2
 //! script FAILS ROOM INTERRUPTIONS READ ..     run_script
 //! term FAILS ROOM SENDS SCRIPT READ ..        operate, of model 2, for PNL01; SENDS is the room of the connection
-//! live N CAME .. / TYPED ..    N turns of an OperatorSession, with what comes and is typed; a read without bytes finds nothing
+//! live N CAME .. / TYPED ..    N turns of an OperatorSession, with the input from the host and the keys; an empty read finds nothing
 //! ```
 use crate::subjects::Subject;
 use crate::talk::{Fault, Talk, bytes_of, text_of};
