@@ -414,8 +414,9 @@ pub fn every_terminal()
 /// Law: the same over bytes, in the words of the calls of `Host`, whatever other clients do. The host is
 /// fed the bytes that come up, however they are cut; it hands bytes over, acts, is answered by the
 /// application, sends notes and NOPs, where memory may be refused; the terminal takes each byte as
-/// RFC 1647 and GA23-0059 say, spells what it sends as it likes, and sends NOPs. The bytes represent a
-/// connection over messages after moves that keep the rules, of which the law above speaks.
+/// RFC 1647 and GA23-0059 say, spells what it sends as it likes, and sends NOPs and other commands that
+/// the host takes as nothing. The bytes represent a connection over messages after moves that keep the
+/// rules, of which the law above speaks.
 pub fn every_terminal_over_bytes()
     ensures { EveryTerminalOverBytes }
 {
