@@ -128,7 +128,8 @@ impl Session {
         self.size
     }
 
-    /// The size by which a second key's data is read. While a paint is pending, the key may have been pressed on a larger screen.
+    /// The size by which a second key's data is read. While a paint is pending, the key may have been
+    /// pressed on a larger screen.
     fn second_key_size(&self) -> Size
         ensures { result ≡ second_key_size self.now self.now.pending }
     {
