@@ -13,7 +13,7 @@ from harness.hosts import (
 check = Checks()
 cases = check.cases
 
-CAUSES = ("NoTn3270e", "NoResponses", "BadTalk", "TooMany", "Wire", "BadRecord", "BadInbound", "BadResponse", "Negative")
+CAUSES = ("NoTn3270e", "NoResponses", "BadTalk", "TooMany", "Wire", "BadRecord", "BadInbound", "BadResponse", "Negative", "RuleBroken")
 REASONS = ("DEVICE-IN-USE", "INV-NAME", "INV-DEVICE-TYPE", "UNSUPPORTED-REQ", "other")
 
 

@@ -2,13 +2,14 @@
 //!
 //! ```text
 //! | TEXT              a line of the panel text
-//! serve [any]         a host begins to serve these panels, to terminals that wait or to any: done, or memory
+//! serve [WHICH]       a host begins to serve these panels, to terminals that wait; to any; or to any, verified: done, or memory
 //! restart
 //! open C              done, or memory
 //! feed C BYTES
 //! act C; keepalive C; note C BYTES
 //! out C; sent C N; closed C
 //! rejected C; dropped C    the oldest rejection, or dropped key, that wasn't reported
+//! broken C            the rule that the terminal broke, and the cell; or none
 //! question C          Nothing, memory, or the question's parts
 //! answer C SESSION TURN PANEL CURSOR MESSAGE [FIELD=BYTES]..    - for no panel, no cursor
 //! state C             phase, model, turn, and the command that waits for its answer
@@ -96,7 +97,8 @@ pub(crate) fn terminals_of(word: &str) -> Result<Terminals, Fault> {
     match word {
         "" => Ok(Terminals::Waiting),
         "any" => Ok(Terminals::Any),
-        _ => Err(Fault::Needs("any, or no word")),
+        "verified" => Ok(Terminals::Verified),
+        _ => Err(Fault::Needs("any, verified, or no word")),
     }
 }
 
@@ -287,6 +289,18 @@ impl Serving {
         }
     }
 
+    fn put_broken(&self, conn: usize, answer: &mut String) -> Result<(), AllocError>
+        requires { conn < most_connections }
+    {
+        match self.host.rule_break(conn) {
+            Some(broken) => {
+                let (rule, cell) = (broken.rule, broken.cell);
+                write!(answer, "{rule:?} {cell}\n")
+            }
+            None => answer.push_str("none\n"),
+        }
+    }
+
     fn ask(&self, conn: usize, answer: &mut String) -> Result<(), AllocError>
         requires { conn < most_connections }
     {
@@ -370,6 +384,7 @@ impl Serving {
             )?,
             "rejected" => self.put_rejected(conn, answer)?,
             "dropped" => self.put_dropped(conn, answer)?,
+            "broken" => self.put_broken(conn, answer)?,
             "question" => self.ask(conn, answer)?,
             "state" => put_state(answer, &self.host, conn)?,
             "see" => put_connection(self.alloc, answer, &self.host, conn)?,

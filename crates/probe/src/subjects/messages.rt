@@ -35,7 +35,7 @@ pub(crate) struct Messages {
     out: Vec<u8>,
 }
 
-static CAUSES: [Cause; 9] = [
+static CAUSES: [Cause; 10] = [
     Cause::NoTn3270e,
     Cause::NoResponses,
     Cause::BadTalk,
@@ -45,6 +45,7 @@ static CAUSES: [Cause; 9] = [
     Cause::BadInbound,
     Cause::BadResponse,
     Cause::Negative,
+    Cause::RuleBroken,
 ];
 
 fn put_causes(answer: &mut String) -> Result<(), AllocError> {
