@@ -267,7 +267,7 @@ sent_down answer before after sent = sent ∙ ap (λ (items : List WireItem). be
 
 -- the rejection of what came is kept, if the reply to it is one
 abbrev pub KeepsRejection : WireItem → Reply → Reports → Reports → Type 0
-KeepsRejection item answer kept keeps = (comes : Comes) → Hears item comes → keeps ≡ reported (rejection_by (lu_asked comes) answer) None kept
+KeepsRejection item answer kept keeps = (comes : Comes) → Hears item comes → keeps ≡ reported (rejection_by (lu_asked comes) answer) None None kept
 
 -- the talk replied by itself
 talked_by : (pool : Answers) (conn : Conn) (lu : Option (List ℕ)) (new : Talk HostState) (answer : Reply) → ((name : Option (List ℕ)) → answer ≡ reply.AskPool name → ⊥)
