@@ -32,7 +32,7 @@ use Rattle.tn3270e_msg.specs.declared.reply.OwnedMessage.TheVariants as sent
 use Rattle.host_core.specs.Items.{TakesItem, TakesRecord, TakesRecordIf, Talks}
 use Rattle.host_core.specs.Keeps.{ItemTaken, OthersHold, step_of}
 use Rattle.host_core.specs.declared.after_record.AfterRecord.{AfterRecord}
-use Rattle.host_core.specs.declared.after_record.AfterRecord.TheVariants.{GoesOn, Closes, Drops}
+use Rattle.host_core.specs.declared.after_record.AfterRecord.TheVariants.{GoesOn, Closes, Drops, Breaks}
 use Rattle.host_core.specs.Sound.{HoldsJust}
 use Rattle.host_core.specs.Parts.{TalkTaken}
 use Rattle.host_core.specs.Messages.{ToTerminal}

@@ -23,8 +23,8 @@ use crate::turn_reason::TurnReason;
 use crate::unheard::Unheard;
 use codes3270::{Addr, Aid, Size};
 use datastream::{Command, CommandCode, Form, Inbound, read_command, read_inbound};
-use shadow::{RuleBreak, Shadow};
 use shadow::laws::{what_is_believed_can_be_stored, what_is_believed_has_a_size};
+use shadow::{RuleBreak, Shadow};
 use tn3270e_msg::{Cause, DataType, HEADER_LENGTH, Header, POSITIVE, read_header};
 
 /// The screen of the key that was pressed last was read.

@@ -256,11 +256,7 @@ fn terminals_by(own: bool, verify: bool) -> Option<Terminals>
     ensures { result ≡ terminals_by own verify }
 {
     if verify {
-        return if own {
-            None
-        } else {
-            Some(Terminals::Verified)
-        };
+        return if own { None } else { Some(Terminals::Verified) };
     }
     Some(if own {
         Terminals::Waiting
@@ -274,7 +270,10 @@ fn terminals_by(own: bool, verify: bool) -> Option<Terminals>
 fn terminals_in(options: &ArgMatches<'_>) -> Option<Terminals>
     ensures { result ≡ given_terminals (rows_of (found_of options.now)) }
 {
-    terminals_by(is_given(options, "own-terminals"), is_given(options, "verify"))
+    terminals_by(
+        is_given(options, "own-terminals"),
+        is_given(options, "verify"),
+    )
 }
 
 /// Which terminals the host of a script serves: any if `--any-terminal` is given, else those that wait.

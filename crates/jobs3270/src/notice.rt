@@ -223,11 +223,7 @@ fn rule_word(rule: Rule) -> &'static str
 }
 
 /// Adds that a terminal broke a rule.
-fn put_rule_break(
-    text: &mut String,
-    client: &Client,
-    broken: RuleBreak,
-) -> Result<(), AllocError>
+fn put_rule_break(text: &mut String, client: &Client, broken: RuleBreak) -> Result<(), AllocError>
     ensures { OnOk result (string_bytes text.new ≡ string_bytes text.old ++ notice_text (Notice.RuleBroken client.now broken)) }
 {
     put_client(text, client)?;
