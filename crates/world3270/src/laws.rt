@@ -40,7 +40,7 @@ use shadow::laws::{
     painted_fields_are_there, what_a_note_leaves, what_is_believed_has_a_size, what_is_exact_is_so,
     what_is_in_doubt_is_allowed, what_is_known_is_exact, what_is_protected_is_exact,
     what_is_read_is_heard, what_is_sent_is_heard, what_is_wanted_is_painted,
-    what_is_written_is_taken, what_leaves_nothing_open,
+    rules_are_not_broken, what_is_written_is_taken, what_leaves_nothing_open,
 };
 use tn3270e_msg::laws::one_reading;
 
@@ -50,6 +50,7 @@ fn what_is_given()
 {
     what_is_sent_is_heard();
     what_is_read_is_heard();
+    rules_are_not_broken();
     what_is_wanted_is_painted();
     what_is_known_is_exact();
     what_is_protected_is_exact();
