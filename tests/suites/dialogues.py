@@ -209,8 +209,8 @@ class Host(Subject):
     """A host and its clients. C is a connection's number, 0 to 63.
 
     | TEXT                a line of the panel text
-    serve [any]           a new host begins to show the panels of that text, to terminals that wait,
-                          or to any
+    serve [WHICH]         a new host begins to show the panels of that text, to terminals that wait; to
+                          `any`; or to any, `verified`
     open C                a connection begins
     client C BYTES        its client sends these; the host takes all of them and goes on
     closes C CAUSE BYTES  its client sends these; at the last the host closes the connection, for
@@ -227,6 +227,7 @@ class Host(Subject):
                           none if there is none
     dropped C AID         removes the oldest dropped key that wasn't reported yet: its AID, or none
                           if there is none
+    broken C WHAT         the rule that the terminal broke, and the cell; or none
     phase C PHASE         free, talking, bound LU, or closed CAUSE
     model C M             the client's model, 2 to 5, or none before it asked for its type
     turn C WHOSE          host or terminal
@@ -289,6 +290,10 @@ class Host(Subject):
         conn, rest = self.split(words)
         cause, _, data = rest.partition(" ")
         self.hear(conn, data, f"closed {cause}")
+
+    def do_broken(self, words: str) -> None:
+        conn, wanted = self.split(words)
+        self.expect([wanted], self.ask(f"broken {conn}"))
 
     def do_deaf(self, words: str) -> None:
         conn, why = self.split(words)

@@ -36,6 +36,7 @@ CAUSES = (
     "BadInbound",
     "BadResponse",
     "Negative",
+    "RuleBroken",
 )
 REASONS = ("DEVICE-IN-USE", "INV-NAME", "INV-DEVICE-TYPE", "UNSUPPORTED-REQ", "other")
 

@@ -19,7 +19,7 @@ use Rattle.host_core.specs.Items.{IsNoSecondKey, IsOther, TakesData, may_be_seco
 use Rattle.host_core.specs.Keeps.{IsKept, IsPlainWrite, pending_in, silent, step_of}
 use Rattle.host_core.specs.Parts.{IsWrite}
 use Rattle.host_core.specs.Session.{Conn, Pending}
-use Rattle.host_core.specs.Takes.{HostStep, believed, buffer_came, data_came, form_awaited, hears, once_read, second_key}
+use Rattle.host_core.specs.Takes.{HostStep, believed, buffer_heard, data_came, form_awaited, hears, once_read, second_key}
 use Rattle.host_core.specs.declared.turn_reason.TurnReason.{TurnReason}
 use Rattle.host_core.specs.declared.pending.Pending.{Pending as Unanswered}
 use Rattle.host_core.specs.declared.pending.Pending.TheVariants as unanswered
@@ -44,13 +44,13 @@ refuses (Err fault) turn_reason cursor old mid cause came some = came
 
 pub buffer_believed : (parts : InboundParts) (turn_reason : TurnReason) (old mid : Conn) (cause : Option Cause) → turn_reason ≡ once_read old.turn_reason
     → silent mid cause ≡ believed turn_reason old.pending parts.cursor old (hears parts old) → is_some cause ≡ false
-    → silent (record mid { pending = Pending.Nothing }) cause ≡ buffer_came parts Buffer old
+    → silent (record mid { pending = Pending.Nothing }) cause ≡ buffer_heard parts old
 buffer_believed parts turn_reason old mid cause read came none =
     ends (hears parts old) turn_reason parts.cursor old mid cause came none ∙ ap (λ (o : TurnReason). believed o Pending.Nothing parts.cursor old (hears parts old)) read
 
 pub buffer_refused : (parts : InboundParts) (turn_reason : TurnReason) (old mid : Conn) (cause : Option Cause) → turn_reason ≡ once_read old.turn_reason
     → silent mid cause ≡ believed turn_reason old.pending parts.cursor old (hears parts old) → is_some cause ≡ true
-    → silent mid cause ≡ buffer_came parts Buffer old
+    → silent mid cause ≡ buffer_heard parts old
 buffer_refused parts turn_reason old mid cause read came some =
     refuses (hears parts old) turn_reason parts.cursor old mid cause came some ∙ ap (λ (o : TurnReason). believed o Pending.Nothing parts.cursor old (hears parts old)) read
 

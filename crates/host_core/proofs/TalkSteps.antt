@@ -32,7 +32,7 @@ use Rattle.tn3270e_msg.specs.declared.reply.OwnedMessage.TheVariants as sent
 use Rattle.host_core.specs.Items.{TakesItem, TakesRecord, TakesRecordIf, Talks}
 use Rattle.host_core.specs.Keeps.{ItemTaken, OthersHold, step_of}
 use Rattle.host_core.specs.declared.after_record.AfterRecord.{AfterRecord}
-use Rattle.host_core.specs.declared.after_record.AfterRecord.TheVariants.{GoesOn, Closes, Drops}
+use Rattle.host_core.specs.declared.after_record.AfterRecord.TheVariants.{GoesOn, Closes, Drops, Breaks}
 use Rattle.host_core.specs.Sound.{HoldsJust}
 use Rattle.host_core.specs.Parts.{TalkTaken}
 use Rattle.host_core.specs.Messages.{ToTerminal}
@@ -267,7 +267,7 @@ sent_down answer before after sent = sent ∙ ap (λ (items : List WireItem). be
 
 -- the rejection of what came is kept, if the reply to it is one
 abbrev pub KeepsRejection : WireItem → Reply → Reports → Reports → Type 0
-KeepsRejection item answer kept keeps = (comes : Comes) → Hears item comes → keeps ≡ reported (rejection_by (lu_asked comes) answer) None kept
+KeepsRejection item answer kept keeps = (comes : Comes) → Hears item comes → keeps ≡ reported (rejection_by (lu_asked comes) answer) None None kept
 
 -- the talk replied by itself
 talked_by : (pool : Answers) (conn : Conn) (lu : Option (List ℕ)) (new : Talk HostState) (answer : Reply) → ((name : Option (List ℕ)) → answer ≡ reply.AskPool name → ⊥)
@@ -392,7 +392,7 @@ pub talk_taken : (number : ℕ) (pool left : List Entry) (before old new : Conn)
 talk_taken number pool left before old new talk item said out closes other same kept keeps taken is =
     subst (λ (from : Conn). ItemTaken number pool from item said out closes left new kept keeps) same
     (record {
-      step = record { conn = with_talk before talk; sends = taken.sends; grants = taken.grants; rejects = taken.rejects; drops = None; closes = closes };
+      step = record { conn = with_talk before talk; sends = taken.sends; grants = taken.grants; rejects = taken.rejects; drops = None; breaks = None; closes = closes };
       takes = for_talk (answer_to pool) before item _ other (taken.talks before refl);
       conn = is;
       ends = refl;
@@ -415,7 +415,7 @@ none_sent bytes = sym (append-nil bytes)
 
 -- a record that is taken
 pub record_taken : (number : ℕ) (pool : List Entry) (old new : Conn) (item : WireItem) (bytes : List ℕ) (out : Vec ℕ Global) (after : AfterRecord) (closes : Option Cause) (kept keeps : Reports)
-    → item ≡ Record bytes → is_agreed old.talk.state ≡ true → TakesRecord old bytes (step_of new after) → closes ≡ (step_of new after).closes → keeps ≡ reported None (step_of new after).drops kept
+    → item ≡ Record bytes → is_agreed old.talk.state ≡ true → TakesRecord old bytes (step_of new after) → closes ≡ (step_of new after).closes → keeps ≡ reported None (step_of new after).drops (step_of new after).breaks kept
     → ItemTaken number pool old item out out closes pool new kept keeps
 record_taken number pool old new item bytes out GoesOn closes kept keeps is agreed takes ends reports = record {
   step = step_of new GoesOn;
@@ -438,6 +438,15 @@ record_taken number pool old new item bytes out (Closes cause) closes kept keeps
 record_taken number pool old new item bytes out (Drops aid) closes kept keeps is agreed takes ends reports = record {
   step = step_of new (Drops aid);
   takes = of_record (answer_to pool) old item bytes (step_of new (Drops aid)) is (if_agreed old.talk.state bytes old (step_of new (Drops aid)) agreed takes);
+  conn = refl;
+  ends = ends;
+  pool_is = refl;
+  sent = none_sent out.items;
+  reports = reports;
+}
+record_taken number pool old new item bytes out (Breaks broken) closes kept keeps is agreed takes ends reports = record {
+  step = step_of new (Breaks broken);
+  takes = of_record (answer_to pool) old item bytes (step_of new (Breaks broken)) is (if_agreed old.talk.state bytes old (step_of new (Breaks broken)) agreed takes);
   conn = refl;
   ends = ends;
   pool_is = refl;

@@ -1,5 +1,5 @@
 -- What a host does in its turn (our profile): the six rules.
-use Rattle.std.specs.Prelude.{◌==◌, ◌-◌, ◌&&◌, not, ℕ, Bool, true, false, List, [], ◌∷◌, Option, Some, None, option_and_then, unwrap_or, if◌then◌else◌}
+use Rattle.std.specs.Prelude.{◌==◌, ◌-◌, ◌&&◌, ◌||◌, not, ℕ, Bool, true, false, List, [], ◌∷◌, Option, Some, None, option_and_then, unwrap_or, if◌then◌else◌}
 use Rattle.std.specs.List.{list_any, list_all}
 use Rattle.std.specs.Option.{option_map_or}
 use Rattle.codes3270.specs.declared.attention.Aid.{Aid}
@@ -29,6 +29,7 @@ use Rattle.host_core.specs.declared.turn_reason.TurnReason.TheVariants as turn_r
 use Rattle.host_core.specs.declared.unheard.Unheard.{Unheard}
 use Rattle.host_core.specs.declared.unheard.Unheard.TheVariants as unheards
 use Rattle.host_core.specs.Session.{Conn, Pending, is_agreed, model_in}
+use Rattle.host_core.specs.Takes.{is_verified}
 
 -- what the host may do: read the whole screen, or show a panel, in the form for the terminal's model, with a message and with these
 -- values of fields; with `keep`, fields keep what the operator left in them, if the belief allows that
@@ -57,10 +58,11 @@ is_settled_fact (Fact.Any known) = false
 abbrev pub is_in_doubt : Shadow → Field → Bool
 is_in_doubt shadow field = not (option_map_or (λ belief. is_settled_fact belief.fact) (belief_of shadow field) false)
 
--- the screen is to be read before a key is answered: after PA, or where some field of the panel is in doubt
+-- the screen is to be read before a key is answered: after PA, if some field of the panel is in doubt, or if the host verifies that the
+-- terminal keeps the rules
 abbrev pub is_to_be_read : Application → Conn → Aid → Bool
 is_to_be_read app conn (Pa key) = true
-is_to_be_read app conn aid = list_any (is_in_doubt conn.shadow) (app.fields conn.panel)
+is_to_be_read app conn aid = is_verified conn || list_any (is_in_doubt conn.shadow) (app.fields conn.panel)
 
 -- the text of a field, without nulls, where it is known
 abbrev pub text_known : Shadow → Field → Option (List ℕ)

@@ -33,7 +33,7 @@ stepped number rest step old = record {
   connection = record {
     service = service_after rest step.conn step.closes;
     out = old.connection.out ++ sent_bytes (map item_sent step.sends);
-    reports = reported step.rejects step.drops old.connection.reports;
+    reports = reported step.rejects step.drops step.breaks old.connection.reports;
   };
 }
 

@@ -27,8 +27,8 @@ IsOther Data3270 = ⊥
 IsOther Response = ⊥
 IsOther _ = ⊤
 
--- While a paint or a read is pending, data that isn't in the form awaited may be a second key's, unless the host relies on the terminal's
--- wait.
+-- While a paint or a read is pending, data that isn't in the form awaited may be a second key's, unless the host
+-- relies on the terminal's wait.
 abbrev pub is_paint_or_read : Pending → Bool
 is_paint_or_read Pending.Nothing = false
 is_paint_or_read (Pending.Writing number command) = true
@@ -38,9 +38,10 @@ is_paint_or_read (Pending.Noting number command) = false
 abbrev pub may_be_second_key : Conn → Bool
 may_be_second_key conn = may_have_changed conn.unheard && is_paint_or_read conn.pending
 
--- The size by which a second key's data is read. While a paint is pending, the key may have been pressed on the screen before it, of another
--- size; the largest size of the terminal's model has the addresses of each. If none is pending, the terminal has answered each erase before
--- it sent the data, and so its screen has the size that the last erase set.
+-- The size by which a second key's data is read. While a paint is pending, the key may have been pressed on the
+-- screen before it, of another size; the largest size of the terminal's model has the addresses of each. If none is
+-- pending, the terminal has answered each erase before it sent the data, and so its screen has the size that the last
+-- erase set.
 abbrev pub second_key_size : Conn → Pending → Shape
 second_key_size conn (Pending.Writing number command) = alternate_of (model_in conn)
 second_key_size conn Pending.Nothing = conn.shape
@@ -51,13 +52,14 @@ abbrev pub IsNoSecondKey : Bool → Shape → List ℕ → Type 0
 IsNoSecondKey false size body = ⊤
 IsNoSecondKey true size body = (fault : InboundFault) × IsNoInbound size Modified fault body
 
--- Data comes. It is read in the form that the host awaits, by the size of the terminal's screen; or else as a second key's, of which the AID
--- alone counts.
+-- Data comes. It is read in the form that the host awaits, by the size of the terminal's screen; or else as a second
+-- key's, of which the AID alone counts.
 pub data TakesData (conn : Conn) (body : List ℕ) (step : HostStep) : Type 0 where
   hears : (parts : InboundParts) → parts.form ≡ form_awaited conn.pending → parts.size ≡ conn.shape → IsInbound parts body
       → step ≡ data_came parts conn.turn conn.pending conn → TakesData conn body step
-  is_second_key : (fault : InboundFault) (parts : InboundParts) → IsNoInbound conn.shape (form_awaited conn.pending) fault body
-      → may_be_second_key conn ≡ true → parts.form ≡ Modified → parts.size ≡ second_key_size conn conn.pending → IsInbound parts body
+  is_second_key : (fault : InboundFault) (parts : InboundParts)
+      → IsNoInbound conn.shape (form_awaited conn.pending) fault body → may_be_second_key conn ≡ true
+      → parts.form ≡ Modified → parts.size ≡ second_key_size conn conn.pending → IsInbound parts body
       → step ≡ second_key parts.aid conn.pending conn → TakesData conn body step
   no_data : (fault : InboundFault) → IsNoInbound conn.shape (form_awaited conn.pending) fault body
       → IsNoSecondKey (may_be_second_key conn) (second_key_size conn conn.pending) body

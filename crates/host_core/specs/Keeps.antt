@@ -32,7 +32,7 @@ use Rattle.host_core.specs.Reports.{Reports, reported}
 use Rattle.host_core.specs.Rooms.{room_for}
 use Rattle.host_core.specs.Says.{item_sent}
 use Rattle.host_core.specs.Session.{Conn, Pending}
-use Rattle.host_core.specs.Takes.{HostStep, closed_by, dropping, pool_after, quiet}
+use Rattle.host_core.specs.Takes.{HostStep, breaking, closed_by, dropping, pool_after, quiet}
 use Rattle.host_core.specs.declared.acting.Shown.{Shown}
 use Rattle.host_core.specs.declared.question.Answer.{Answer}
 use Rattle.host_core.specs.declared.acted.Acted.{Acted}
@@ -41,7 +41,7 @@ use Rattle.host_core.specs.declared.pending.Pending.{Pending as Unanswered}
 use Rattle.host_core.specs.declared.turn_reason.TurnReason.{TurnReason}
 use Rattle.host_core.specs.declared.turn_reason.TurnReason.TheVariants.{Agreement, Key, Refusal}
 use Rattle.host_core.specs.declared.after_record.AfterRecord.{AfterRecord}
-use Rattle.host_core.specs.declared.after_record.AfterRecord.TheVariants.{GoesOn, Closes, Drops}
+use Rattle.host_core.specs.declared.after_record.AfterRecord.TheVariants.{GoesOn, Closes, Drops, Breaks}
 use Rattle.host_core.specs.declared.pending.Pending.TheVariants as unanswered
 
 -- ---- a connection
@@ -96,13 +96,14 @@ BelievesTheSize shape (unanswered.Noting number) sent shadow = IsOfSize (cells_i
 
 -- a step that says and grants nothing
 abbrev pub silent : Conn → Option Cause → HostStep
-silent conn closes = record { conn = conn; sends = []; grants = None; rejects = None; drops = None; closes = closes }
+silent conn closes = record { conn = conn; sends = []; grants = None; rejects = None; drops = None; breaks = None; closes = closes }
 
 -- the step of a record
 abbrev pub step_of : Conn → AfterRecord → HostStep
 step_of conn GoesOn = quiet conn
 step_of conn (Closes cause) = closed_by cause conn
 step_of conn (Drops aid) = dropping aid conn
+step_of conn (Breaks broken) = breaking broken conn
 
 -- An item is taken: what it says is put behind what is there. Where the connection closes its LU is still held.
 pub record ItemTaken (number : ℕ) (pool : List Entry) (old : Conn) (item : WireItem) (before after : Vec ℕ Global) (closes : Option Cause) (left : List Entry) (new : Conn) (kept keeps : Reports) : Type 0 where
@@ -112,7 +113,7 @@ pub record ItemTaken (number : ℕ) (pool : List Entry) (old : Conn) (item : Wir
   pub ends : closes ≡ step.closes
   pub pool_is : left ≡ pool_after number (record step { closes = None }) pool
   pub sent : after.items ≡ before.items ++ sent_bytes (map item_sent step.sends)
-  pub reports : keeps ≡ reported step.rejects step.drops kept
+  pub reports : keeps ≡ reported step.rejects step.drops step.breaks kept
 
 -- the LU that was granted to a connection, which is free once the connection is closed
 abbrev pub claim : Option Cause → Conn → Option (List ℕ)

@@ -45,10 +45,10 @@ pub record TalkTaken (number : ℕ) (pool : List Entry) (old : Talk HostState) (
   pub sends : List ToTerminal
   pub grants : Option (List ℕ)
   pub rejects : Option Rejection
-  pub talks : (conn : Conn) → conn.talk ≡ old → Talks (answer_to pool) conn item (record { conn = with_talk conn new; sends = sends; grants = grants; rejects = rejects; drops = None; closes = closes })
+  pub talks : (conn : Conn) → conn.talk ≡ old → Talks (answer_to pool) conn item (record { conn = with_talk conn new; sends = sends; grants = grants; rejects = rejects; drops = None; breaks = None; closes = closes })
   pub pool_is : left ≡ granted_if number grants pool
   pub sent : after.items ≡ before.items ++ sent_bytes (map item_sent sends)
-  pub reports : keeps ≡ reported rejects None kept
+  pub reports : keeps ≡ reported rejects None None kept
 
 -- data that comes while nothing waits for an answer, or a note does
 abbrev pub key_data_in_turn : InboundParts → Turn → Conn → HostStep

@@ -1,5 +1,8 @@
--- What a connection keeps until it is reported (our profile): the requests for an LU that the host rejected, and the keys that it dropped.
+-- What a connection keeps until it is reported (our profile): the requests for an LU that the host rejected, the keys
+-- that it dropped, and the rule that the terminal broke.
 use Rattle.std.specs.Prelude.{ℕ, List, [], ◌∷◌, ◌++◌, Option, Some, None, length, ltb, if◌then◌else◌}
+use Rattle.std.specs.Option.{option_or}
+use Rattle.shadow.specs.declared.rule_break.RuleBreak.{RuleBreak}
 use Rattle.host_core.specs.declared.dropped_key.DroppedKey.{DroppedKey}
 use Rattle.host_core.specs.declared.rejection.Rejection.{Rejection}
 
@@ -7,9 +10,10 @@ use Rattle.host_core.specs.declared.rejection.Rejection.{Rejection}
 pub record Reports : Type 0 where
   pub rejections : List Rejection
   pub dropped_keys : List DroppedKey
+  pub rule_break : Option RuleBreak
 
 abbrev pub no_reports : Reports
-no_reports = record { rejections = []; dropped_keys = [] }
+no_reports = record { rejections = []; dropped_keys = []; rule_break = None }
 
 -- the most of each kind: a talk sends no more rejections
 abbrev pub most_reports : ℕ
@@ -20,8 +24,12 @@ abbrev pub kept_with : {A : Type 0} → Option A → List A → List A
 kept_with None kept = kept
 kept_with (Some one) kept = if ltb (length kept) most_reports then kept ++ one ∷ [] else kept
 
-abbrev pub reported : Option Rejection → Option DroppedKey → Reports → Reports
-reported rejection dropped reports = record { rejections = kept_with rejection reports.rejections; dropped_keys = kept_with dropped reports.dropped_keys }
+abbrev pub reported : Option Rejection → Option DroppedKey → Option RuleBreak → Reports → Reports
+reported rejection dropped broken reports = record {
+  rejections = kept_with rejection reports.rejections;
+  dropped_keys = kept_with dropped reports.dropped_keys;
+  rule_break = option_or broken reports.rule_break;
+}
 
 -- the one that is reported next
 abbrev pub oldest : {A : Type 0} → List A → Option A

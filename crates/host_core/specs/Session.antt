@@ -1,5 +1,5 @@
 -- One connection as the host has it (our profile).
-use Rattle.std.specs.Prelude.{ℕ, [], unwrap_or}
+use Rattle.std.specs.Prelude.{ℕ, Bool, true, false, [], unwrap_or}
 use Rattle.codes3270.specs.Size.{Shape}
 use Rattle.codes3270.specs.declared.size.Model.{Model}
 use Rattle.codes3270.specs.declared.size.Model.TheVariants.{M2}
@@ -10,7 +10,7 @@ use Rattle.panels.specs.declared.message.Message.TheVariants.{Fresh}
 use Rattle.panels.specs.Screen.{Values}
 use Rattle.host_core.specs.Application.{Application}
 use Rattle.host_core.specs.declared.terminals.Terminals.{Terminals}
-use Rattle.host_core.specs.declared.terminals.Terminals.TheVariants.{Waiting, Any}
+use Rattle.host_core.specs.declared.terminals.Terminals.TheVariants.{Waiting, Any, Verified}
 use Rattle.host_core.specs.declared.turn_reason.TurnReason.{TurnReason}
 use Rattle.host_core.specs.declared.turn_reason.TurnReason.TheVariants.{Agreement}
 use Rattle.host_core.specs.declared.turn.Turn.{Turn}
@@ -42,11 +42,19 @@ pub record Conn : Type 0 where
   pub turn_reason : TurnReason
   pub cursor : ℕ  -- where the terminal's cursor was when its last data was sent; 0 before
   pub unheard : Unheard  -- what may have happened to the screen since the host heard of it
+  pub verifies : Bool  -- the host reads the screen before it answers a key, to see that the terminal keeps the rules
 
 -- what may happen to the screens of such terminals unheard
 abbrev pub unheard_of : Terminals → Unheard
 unheard_of Waiting = unheards.Nothing
 unheard_of Any = unheards.Input
+unheard_of Verified = unheards.Input
+
+-- the host verifies that they keep the rules
+abbrev pub are_verified : Terminals → Bool
+are_verified Waiting = false
+are_verified Any = false
+are_verified Verified = true
 
 -- at the begin of a connection, when the host has offered TN3270E; nothing is shown yet, and the first panel is to be, in the form in
 -- which a model 2 is shown it
@@ -64,6 +72,7 @@ new_conn terminals app = record {
   turn_reason = Agreement;
   cursor = 0;
   unheard = unheard_of terminals;
+  verifies = are_verified terminals;
 }
 
 -- the model of the terminal, once it has asked for its type; all are like a model 2 before

@@ -1,10 +1,11 @@
 -- What a host makes of what a terminal sends: the connection after it, what it says, the LU that it grants, the request that it
 -- rejects, the key that it drops, and the cause by which it closes the connection, if it does (RFC 1647, sections 7, 8.1 and 10.4; turns, beliefs and causes are our profile).
-use Rattle.std.specs.Prelude.{◌==◌, ℕ, Bool, true, false, List, [], map, Option, Some, None, Result, Ok, Err, unwrap_or, if◌then◌else◌}
+use Rattle.std.specs.Prelude.{◌==◌, ◌&&◌, ℕ, Bool, true, false, List, [], map, Option, Some, None, Result, Ok, Err, unwrap_or, if◌then◌else◌}
 use Rattle.codes3270.specs.declared.attention.Aid.{Aid}
 use Rattle.codes3270.specs.declared.attention.Aid.TheVariants.{NoAid, Enter, Clear, Pf, Pa}
 use Rattle.codes3270.specs.Size.{cells_in}
 use Rattle.datastream.specs.Grammar.{CommandParts}
+use Rattle.datastream.specs.InboundFields.{cells_sent}
 use Rattle.datastream.specs.InboundText.{InboundParts}
 use Rattle.datastream.specs.declared.inbound_part.Form.{Form}
 use Rattle.datastream.specs.declared.inbound_part.Form.TheVariants.{Modified, All as AllModified, Buffer}
@@ -13,12 +14,14 @@ use Rattle.lu_pool.specs.declared.entry.Entry.{Entry}
 use Rattle.shadow.specs.Belief.{Shadow}
 use Rattle.shadow.specs.Exactness.{is_erase}
 use Rattle.shadow.specs.Heard.{heard}
+use Rattle.shadow.specs.RuleBreaks.{rule_break}
 use Rattle.shadow.specs.Taken.{taken}
+use Rattle.shadow.specs.declared.rule_break.RuleBreak.{RuleBreak}
 use Rattle.shadow.specs.declared.fault.HeardFault.{HeardFault}
 use Rattle.tn3270e_msg.specs.Talk.{Talk, Comes, follow, says, sayings, closing}
 use Rattle.tn3270e_msg.specs.HostTable.{host_transition, answer_transition}
 use Rattle.tn3270e_msg.specs.declared.cause.Cause.{Cause}
-use Rattle.tn3270e_msg.specs.declared.cause.Cause.TheVariants.{BadInbound, BadResponse, Negative as NegativeCause}
+use Rattle.tn3270e_msg.specs.declared.cause.Cause.TheVariants.{BadInbound, BadResponse, Negative as NegativeCause, RuleBroken}
 use Rattle.tn3270e_msg.specs.declared.host_talk.HostState.{HostState}
 use Rattle.tn3270e_msg.specs.declared.host_talk.HostState.TheVariants.{Asking, Closed}
 use Rattle.tn3270e_msg.specs.declared.reply.Reason.{Reason}
@@ -42,17 +45,22 @@ pub record HostStep : Type 0 where
   pub grants : Option (List ℕ)
   pub rejects : Option Rejection
   pub drops : Option DroppedKey
+  pub breaks : Option RuleBreak
   pub closes : Option Cause
 
 -- it sends nothing
 abbrev pub quiet : Conn → HostStep
-quiet conn = record { conn = conn; sends = []; grants = None; rejects = None; drops = None; closes = None }
+quiet conn = record { conn = conn; sends = []; grants = None; rejects = None; drops = None; breaks = None; closes = None }
 
 abbrev pub closed_by : Cause → Conn → HostStep
-closed_by cause conn = record { conn = conn; sends = []; grants = None; rejects = None; drops = None; closes = Some cause }
+closed_by cause conn = record { conn = conn; sends = []; grants = None; rejects = None; drops = None; breaks = None; closes = Some cause }
 
 abbrev pub dropping : Aid → Conn → HostStep
-dropping aid conn = record { conn = conn; sends = []; grants = None; rejects = None; drops = Some (record { aid = aid }); closes = None }
+dropping aid conn = record { conn = conn; sends = []; grants = None; rejects = None; drops = Some (record { aid = aid }); breaks = None; closes = None }
+
+-- the terminal broke a rule
+abbrev pub breaking : RuleBreak → Conn → HostStep
+breaking broken conn = record { conn = conn; sends = []; grants = None; rejects = None; drops = None; breaks = Some broken; closes = Some RuleBroken }
 
 -- ---- the talk
 
@@ -67,6 +75,7 @@ replied conn lu grants talked = record {
   grants = grants;
   rejects = rejection_by lu talked.1;
   drops = None;
+  breaks = None;
   closes = closing talked.1;
 }
 
@@ -143,9 +152,31 @@ second_key_data parts Buffer conn = closed_by BadInbound conn
 abbrev pub out_of_turn : InboundParts → Conn → HostStep
 out_of_turn parts conn = if may_have_changed conn.unheard then second_key_data parts parts.form conn else closed_by BadInbound conn
 
+-- the screen wasn't cleared since the host heard of it
+abbrev pub may_be_read : Unheard → Bool
+may_be_read unheards.Nothing = true
+may_be_read unheards.Input = true
+may_be_read unheards.Clear = false
+
+-- the host verifies that the terminal keeps the rules
+abbrev pub is_verified : Conn → Bool
+is_verified conn = conn.verifies && may_be_read conn.unheard
+
+-- the rule that this screen shows to be broken, if the host verifies that
+abbrev pub rule_broken_by : InboundParts → Conn → Option RuleBreak
+rule_broken_by parts conn = if is_verified conn then rule_break conn.shadow (cells_sent parts.parts) else None
+
+abbrev pub unless_broken : Conn → Option RuleBreak → HostStep → HostStep
+unless_broken conn None step = step
+unless_broken conn (Some broken) step = breaking broken conn
+
+-- the answer to Read Buffer is believed
+abbrev pub buffer_heard : InboundParts → Conn → HostStep
+buffer_heard parts conn = believed (once_read conn.turn_reason) Pending.Nothing parts.cursor conn (hears parts conn)
+
 -- the answer to Read Buffer, or a key that was pressed before it was read
 abbrev pub buffer_came : InboundParts → Form → Conn → HostStep
-buffer_came parts Buffer conn = believed (once_read conn.turn_reason) Pending.Nothing parts.cursor conn (hears parts conn)
+buffer_came parts Buffer conn = unless_broken conn (rule_broken_by parts conn) (buffer_heard parts conn)
 buffer_came parts Modified conn = out_of_turn parts conn
 buffer_came parts AllModified conn = out_of_turn parts conn
 

@@ -133,7 +133,8 @@ fn teaches(turn_reason: TurnReason) -> bool
 }
 
 impl Session {
-    /// Whether the screen is to be read before a key is answered: after PA, or where some field of the panel is in doubt.
+    /// Whether the screen is to be read before a key is answered: after PA, if some field of the panel is in doubt, or if the host
+    /// verifies that the terminal keeps the rules.
     fn is_to_be_read(&self, panels: &PanelSet, aid: &Aid) -> bool
         requires panel { self.now.panel < length panels.now.panels }
         requires fields { HaveFields self.now.shadow (panel_at panels.now self.now.panel).fields }
@@ -142,7 +143,8 @@ impl Session {
         match aid {
             Aid::Pa(_) => true,
             Aid::NoAid | Aid::Enter | Aid::Clear | Aid::Pf(_) => {
-                is_some_in_doubt(&self.shadow, panel_in(panels, self.panel).fields())
+                self.is_verified()
+                    || is_some_in_doubt(&self.shadow, panel_in(panels, self.panel).fields())
             }
         }
     }

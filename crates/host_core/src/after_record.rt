@@ -4,6 +4,7 @@ ghost use Rattle.host_core.specs.Keeps.{silent, step_of};
 ghost use Rattle.host_core.specs.Session.{Conn};
 
 use codes3270::Aid;
+use shadow::RuleBreak;
 use tn3270e_msg::Cause;
 
 /// What comes of a record, beside what the session is then.
@@ -14,6 +15,8 @@ pub(crate) enum AfterRecord {
     Closes(Cause),
     /// A key's data was dropped.
     Drops(Aid),
+    /// The terminal broke a rule, by which it closes the connection.
+    Breaks(RuleBreak),
 }
 
 impl AfterRecord {

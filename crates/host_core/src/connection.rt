@@ -33,7 +33,7 @@ use crate::turn::Turn;
 use codes3270::Model as TerminalModel;
 use lu_pool::Pool;
 use panels::PanelSet;
-use shadow::Shadow;
+use shadow::{RuleBreak, Shadow};
 use std::alloc::{AllocError, Global};
 use std::marker::Model;
 use telnet_wire::{Decoder, Memory};
@@ -310,6 +310,13 @@ impl Connection {
         ensures removed { self.new ≡ record self.old { reports = without_dropped_key self.old.reports } }
     {
         self.reports.next_dropped_key()
+    }
+
+    /// The rule that the terminal broke, by which the connection closed.
+    pub(crate) fn rule_break(&self) -> Option<RuleBreak>
+        ensures { result ≡ self.now.reports.rule_break }
+    {
+        self.reports.rule_break()
     }
 
     /// Frees the number, and hands back what wasn't sent.

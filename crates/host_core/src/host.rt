@@ -25,7 +25,7 @@ use crate::turn::Turn;
 use codes3270::Model as TerminalModel;
 use lu_pool::Pool;
 use panels::PanelSet;
-use shadow::Shadow;
+use shadow::{RuleBreak, Shadow};
 use std::alloc::Global;
 use std::marker::Model;
 use telnet_wire::Memory;
@@ -255,6 +255,15 @@ impl Host {
         ensures removed { self.new ≡ with_connection conn (record (connection_at conn self.old) { reports = without_dropped_key (connection_at conn self.old).reports }) self.old }
     {
         self.connections[conn].next_dropped_key()
+    }
+
+    /// The rule that the terminal of a connection has broken, by which the host closed it. Only a host that verifies its terminals
+    /// looks for that.
+    pub fn rule_break(&self, conn: usize) -> Option<RuleBreak>
+        requires number { conn < most_connections }
+        ensures { result ≡ (connection_at conn self.now).reports.rule_break }
+    {
+        self.connections[conn].rule_break()
     }
 
     /// A connection is lost, or its peer left: frees its number and its LU, and hands back what wasn't sent.

@@ -118,7 +118,7 @@ pub use question::{Answer, Question, Ticket};
 pub use rejection::Rejection;
 pub use room::OUT_ROOM;
 pub use serving::{READ_ROOM, Served, serve_turn};
-pub use shadow::{Fact, Shadow};
+pub use shadow::{Fact, Rule, RuleBreak, Shadow};
 pub use terminals::Terminals;
 pub use tn3270e_msg::{Cause, Fed, Lu, Reason, Stop};
 pub use turn::Turn;

@@ -13,7 +13,7 @@ ghost use Rattle.tn3270e_msg.specs.Header.{header_length};
 ghost use Rattle.host_core.specs.Items.{IsNoSecondKey, TakesData, TakesRecord, is_paint_or_read, may_be_second_key, second_key_size, verdict_of};
 ghost use Rattle.host_core.specs.Keeps.{IsPlainWrite, command_in, silent, step_of};
 ghost use Rattle.host_core.specs.Parts.{IsWrite, key_data_in_turn, write_of};
-ghost use Rattle.host_core.specs.Takes.{believed, buffer_came, data_came, form_awaited, hears, key_data_came, once_read, out_of_turn, second_key, refused, response_came, verdict_came};
+ghost use Rattle.host_core.specs.Takes.{believed, buffer_came, buffer_heard, data_came, form_awaited, hears, is_verified, key_data_came, once_read, out_of_turn, rule_broken_by, second_key, refused, response_came, verdict_came};
 
 use crate::after_record::AfterRecord;
 use crate::pending::Pending;
@@ -23,8 +23,8 @@ use crate::turn_reason::TurnReason;
 use crate::unheard::Unheard;
 use codes3270::{Addr, Aid, Size};
 use datastream::{Command, CommandCode, Form, Inbound, read_command, read_inbound};
-use shadow::Shadow;
 use shadow::laws::{what_is_believed_can_be_stored, what_is_believed_has_a_size};
+use shadow::{RuleBreak, Shadow};
 use tn3270e_msg::{Cause, DataType, HEADER_LENGTH, Header, POSITIVE, read_header};
 
 /// The screen of the key that was pressed last was read.
@@ -128,7 +128,8 @@ impl Session {
         self.size
     }
 
-    /// The size by which a second key's data is read. While a paint is pending, the key may have been pressed on a larger screen.
+    /// The size by which a second key's data is read. While a paint is pending, the key may have been
+    /// pressed on a larger screen.
     fn second_key_size(&self) -> Size
         ensures { result ≡ second_key_size self.now self.now.pending }
     {
@@ -227,7 +228,7 @@ impl Session {
         ensures shape { self.new.shape ≡ self.old.shape }
     {
         match inbound.form() {
-            Form::Buffer => AfterRecord::of(self.hear_buffer(inbound)),
+            Form::Buffer => self.take_buffer(inbound),
             Form::Modified => self.hear_out_of_turn(inbound),
             Form::All => self.hear_out_of_turn(inbound),
         }
@@ -248,12 +249,49 @@ impl Session {
         }
     }
 
+    /// Takes the whole screen: it is believed, unless it shows that the terminal broke a rule.
+    fn take_buffer(&mut self, inbound: &Inbound<'_>) -> AfterRecord
+        requires form { inbound.now.form ≡ Buffer }
+        requires size { inbound.now.size ≡ self.old.shape }
+        requires known { IsOfSize (cells_in self.old.shape) self.old.shadow }
+        ensures came { step_of self.new result ≡ buffer_came inbound.now Buffer self.old }
+        ensures talk { self.new.talk ≡ self.old.talk }
+        ensures panel { self.new.panel ≡ self.old.panel }
+        ensures shape { self.new.shape ≡ self.old.shape }
+    {
+        match self.rule_broken_by(inbound) {
+            Some(broken) => AfterRecord::Breaks(broken),
+            None => AfterRecord::of(self.hear_buffer(inbound)),
+        }
+    }
+
+    /// Whether the host verifies that the terminal keeps the rules. It doesn't once the screen was cleared out of turn.
+    pub(crate) fn is_verified(&self) -> bool
+        ensures { result ≡ is_verified self.now }
+    {
+        self.verifies && self.unheard.may_be_read()
+    }
+
+    /// The rule that the whole screen shows to be broken, if the host verifies that.
+    fn rule_broken_by(&self, inbound: &Inbound<'_>) -> Option<RuleBreak>
+        requires form { inbound.now.form ≡ Buffer }
+        requires size { inbound.now.size ≡ self.now.shape }
+        requires known { IsOfSize (cells_in self.now.shape) self.now.shadow }
+        ensures { result ≡ rule_broken_by inbound.now self.now }
+    {
+        if self.is_verified() {
+            self.shadow.rule_break(inbound)
+        } else {
+            None
+        }
+    }
+
     /// Hears the whole screen.
     fn hear_buffer(&mut self, inbound: &Inbound<'_>) -> Option<Cause>
         requires form { inbound.now.form ≡ Buffer }
         requires size { inbound.now.size ≡ self.old.shape }
         requires known { IsOfSize (cells_in self.old.shape) self.old.shadow }
-        ensures came { silent self.new result ≡ buffer_came inbound.now Buffer self.old }
+        ensures came { silent self.new result ≡ buffer_heard inbound.now self.old }
         ensures talk { self.new.talk ≡ self.old.talk }
         ensures panel { self.new.panel ≡ self.old.panel }
         ensures shape { self.new.shape ≡ self.old.shape }

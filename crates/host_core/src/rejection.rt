@@ -98,7 +98,7 @@ fn reason_in(reply: &Reply) -> Option<Reason>
 
 /// Keeps the rejection of what an item asks for, if this reply to the item rejects it.
 pub(crate) fn keep_rejection(reports: &mut Reports, reply: &Reply, item: &Item<'_>)
-    ensures { (comes : Comes) → Hears (item_of item.now) comes → reports.new ≡ reported (rejection_by (lu_asked comes) reply.now) None reports.old }
+    ensures { (comes : Comes) → Hears (item_of item.now) comes → reports.new ≡ reported (rejection_by (lu_asked comes) reply.now) None None reports.old }
 {
     match reason_in(reply) {
         Some(reason) => reports.keep_rejection(lu_asked(item), reason),

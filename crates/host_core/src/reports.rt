@@ -6,17 +6,20 @@ use crate::dropped_key::DroppedKey;
 use crate::rejection::Rejection;
 use arrayvec::ArrayVec;
 use codes3270::Aid;
+use shadow::RuleBreak;
 use std::marker::Model;
 use tn3270e_msg::{Lu, Reason};
 
 /// The most of each kind: a talk sends no more rejections.
 const MOST_REPORTS: usize = 8;
 
-/// The requests for an LU that the host rejected, and the keys that it dropped, the oldest first, until they are reported.
+/// The requests for an LU that the host rejected, and the keys that it dropped, the oldest first, until they are reported; and the
+/// rule that the terminal broke.
 #[derive(Drop)]
 pub(crate) struct Reports {
     rejections: ArrayVec<Rejection, MOST_REPORTS>,
     dropped_keys: ArrayVec<DroppedKey, MOST_REPORTS>,
+    rule_break: Option<RuleBreak>,
 }
 
 impl Model for Reports {
@@ -24,7 +27,7 @@ impl Model for Reports {
 
     ghost Value = { Kept };
 
-    ghost view = { λ reports. record { rejections = reports.rejections.items; dropped_keys = reports.dropped_keys.items } };
+    ghost view = { λ reports. record { rejections = reports.rejections.items; dropped_keys = reports.dropped_keys.items; rule_break = reports.rule_break } };
 }
 
 /// Keeps a rejection behind the others.
@@ -53,21 +56,36 @@ impl Reports {
         Reports {
             rejections: ArrayVec::new(),
             dropped_keys: ArrayVec::new(),
+            rule_break: None,
         }
     }
 
     /// Keeps the rejection of a request for an LU.
     pub(crate) fn keep_rejection(&mut self, lu: Option<Lu>, reason: Reason)
-        ensures { self.new ≡ reported (Some (record { lu = lu; reason = reason })) None self.old }
+        ensures { self.new ≡ reported (Some (record { lu = lu; reason = reason })) None None self.old }
     {
         add_rejection(&mut self.rejections, lu, reason);
     }
 
     /// Keeps a key that was dropped.
     pub(crate) fn keep_dropped_key(&mut self, aid: Aid)
-        ensures { self.new ≡ reported None (Some (record { aid = aid })) self.old }
+        ensures { self.new ≡ reported None (Some (record { aid = aid })) None self.old }
     {
         add_dropped_key(&mut self.dropped_keys, aid);
+    }
+
+    /// Keeps the rule that the terminal broke.
+    pub(crate) fn keep_rule_break(&mut self, broken: RuleBreak)
+        ensures { self.new ≡ reported None None (Some broken) self.old }
+    {
+        self.rule_break = Some(broken);
+    }
+
+    /// The rule that the terminal broke.
+    pub(crate) fn rule_break(&self) -> Option<RuleBreak>
+        ensures { result ≡ self.now.rule_break }
+    {
+        self.rule_break
     }
 
     /// Removes the oldest rejection, and hands it out.
@@ -92,5 +110,6 @@ impl Reports {
     {
         self.rejections.clear();
         self.dropped_keys.clear();
+        self.rule_break = None;
     }
 }

@@ -40,6 +40,8 @@ pub(crate) struct Session {
     pub(crate) cursor: Addr,
     // What may have happened to the screen since it was heard of.
     pub(crate) unheard: Unheard,
+    // Whether the screen is read before a key is answered, to see that the terminal keeps the rules.
+    pub(crate) verifies: bool,
     // The record that was sent last, its header first; it has room for the largest.
     pub(crate) sent: Vec<u8>,
 }
@@ -66,6 +68,7 @@ impl Model for Session {
       turn_reason = s.turn_reason;
       cursor = s.cursor;
       unheard = s.unheard;
+      verifies = s.verifies;
     } };
 
     ghost invariant = { λ s. IsKept s.size s.pending s.sent.items × (record_room ≤ vec_capacity s.sent) × CanBeStored s.shadow × BelievesTheSize s.size s.pending s.sent.items s.shadow };
@@ -96,6 +99,7 @@ impl Session {
             turn_reason: TurnReason::Agreement,
             cursor: Addr::first(),
             unheard: terminals.unheard(),
+            verifies: terminals.are_verified(),
             sent,
         })
     }

@@ -46,16 +46,17 @@ pub(crate) fn take_item(
     };
     if session.talk.is_agreed() {
         let after = session.take_record(bytes);
-        keep_dropped(reports, after)
+        keep_report(reports, after)
     } else {
         None
     }
 }
 
-/// Keeps the key that a record drops, if it drops one, and answers the cause by which the record closes the connection, if it does.
-fn keep_dropped(reports: &mut Reports, after: AfterRecord) -> Option<Cause>
+/// Keeps the key that a record drops, or the rule that it shows to be broken, if it does, and answers the cause by which the record
+/// closes the connection, if it does.
+fn keep_report(reports: &mut Reports, after: AfterRecord) -> Option<Cause>
     ensures closes { (conn : Conn) → result ≡ (step_of conn after).closes }
-    ensures kept { (conn : Conn) → reports.new ≡ reported None (step_of conn after).drops reports.old }
+    ensures kept { (conn : Conn) → reports.new ≡ reported None (step_of conn after).drops (step_of conn after).breaks reports.old }
 {
     match after {
         AfterRecord::GoesOn => None,
@@ -63,6 +64,10 @@ fn keep_dropped(reports: &mut Reports, after: AfterRecord) -> Option<Cause>
         AfterRecord::Drops(aid) => {
             reports.keep_dropped_key(aid);
             None
+        }
+        AfterRecord::Breaks(broken) => {
+            reports.keep_rule_break(broken);
+            Some(Cause::RuleBroken)
         }
     }
 }

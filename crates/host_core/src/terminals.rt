@@ -1,5 +1,5 @@
 ghost use Rattle.std.specs.Prelude.{◌≡◌};
-ghost use Rattle.host_core.specs.Session.{unheard_of};
+ghost use Rattle.host_core.specs.Session.{are_verified, unheard_of};
 
 use crate::unheard::Unheard;
 
@@ -10,6 +10,8 @@ pub enum Terminals {
     Waiting,
     /// Any: that wait may end before, as by x3270's Reset, so that input is changed and keys are pressed in it.
     Any,
+    /// Any, and the host verifies that they keep the rules: it reads the whole screen before it answers a key.
+    Verified,
 }
 
 impl Terminals {
@@ -19,7 +21,17 @@ impl Terminals {
     {
         match self {
             Terminals::Waiting => Unheard::Nothing,
-            Terminals::Any => Unheard::Input,
+            Terminals::Any | Terminals::Verified => Unheard::Input,
+        }
+    }
+
+    /// Whether the host verifies that they keep the rules.
+    pub(crate) fn are_verified(self) -> bool
+        ensures { result ≡ are_verified self }
+    {
+        match self {
+            Terminals::Waiting | Terminals::Any => false,
+            Terminals::Verified => true,
         }
     }
 }

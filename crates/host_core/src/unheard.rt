@@ -1,5 +1,5 @@
 ghost use Rattle.std.specs.Prelude.{◌≡◌};
-ghost use Rattle.host_core.specs.Takes.{may_have_changed};
+ghost use Rattle.host_core.specs.Takes.{may_be_read, may_have_changed};
 
 /// What may have happened to a terminal's screen since the host heard of it (our profile). Contracts speak of it: what the host
 /// believes when it shows a panel follows from it.
@@ -21,6 +21,16 @@ impl Unheard {
         match self {
             Unheard::Nothing => false,
             Unheard::Input | Unheard::Clear => true,
+        }
+    }
+
+    /// Whether the screen may still be read: it wasn't cleared.
+    pub(crate) fn may_be_read(self) -> bool
+        ensures { result ≡ may_be_read self }
+    {
+        match self {
+            Unheard::Nothing | Unheard::Input => true,
+            Unheard::Clear => false,
         }
     }
 }

@@ -23,7 +23,7 @@ use Rattle.jobs3270.specs.declared.metrics_page.Metric.TheVariants as metric
 -- ---- counting
 
 abbrev pub none_closed : ClosedCounts
-none_closed = record { no_tn3270e = 0; no_responses = 0; bad_talk = 0; too_many = 0; wire = 0; bad_record = 0; bad_inbound = 0; bad_response = 0; negative = 0 }
+none_closed = record { no_tn3270e = 0; no_responses = 0; bad_talk = 0; too_many = 0; wire = 0; bad_record = 0; bad_inbound = 0; bad_response = 0; negative = 0; rule_broken = 0 }
 
 -- all counts begin at 0
 abbrev pub nothing_counted : Metrics
@@ -34,6 +34,7 @@ nothing_counted = record {
   turned_away = 0;
   rejected = record { device_in_use = 0; inv_name = 0; inv_device_type = 0; unsupported_req = 0; other = 0 };
   dropped_keys = 0;
+  rule_breaks = 0;
   traffic = record { turns = 0; paints = 0; received = 0; sent = 0; whole_screens = 0 };
 }
 
@@ -51,6 +52,7 @@ closed_by cause.BadRecord counts = record counts { bad_record = raised counts.ba
 closed_by cause.BadInbound counts = record counts { bad_inbound = raised counts.bad_inbound 1 }
 closed_by cause.BadResponse counts = record counts { bad_response = raised counts.bad_response 1 }
 closed_by cause.Negative counts = record counts { negative = raised counts.negative 1 }
+closed_by cause.RuleBroken counts = record counts { rule_broken = raised counts.rule_broken 1 }
 
 abbrev pub ended_by : Ending → EndCounts → EndCounts
 ended_by (ending.Closed why) counts = record counts { closed = closed_by why counts.closed }
@@ -91,6 +93,7 @@ counted (notice.Connected client) counts = record counts { current = raised coun
 counted (notice.Rejected client rejection) counts = record counts { rejected = rejected_for rejection.reason counts.rejected }
 counted (notice.Bound client lu) counts = counts
 counted (notice.KeyDropped client dropped) counts = record counts { dropped_keys = raised counts.dropped_keys 1 }
+counted (notice.RuleBroken client broken) counts = record counts { rule_breaks = raised counts.rule_breaks 1 }
 counted (notice.Ended client how usage) counts = with_usage usage.turns usage.received usage.sent (with_end how counts)
 
 -- ---- names
@@ -102,6 +105,7 @@ metric_name metric.SessionEnds = codes "panel3270_session_ends_total"
 metric_name metric.TurnedAway = codes "panel3270_turned_away_total"
 metric_name metric.Rejections = codes "panel3270_rejections_total"
 metric_name metric.DroppedKeys = codes "panel3270_dropped_keys_total"
+metric_name metric.RuleBreaks = codes "panel3270_rule_breaks_total"
 metric_name metric.Turns = codes "panel3270_turns_total"
 metric_name metric.Paints = codes "panel3270_paints_total"
 metric_name metric.ReceivedBytes = codes "panel3270_received_bytes_total"
@@ -115,6 +119,7 @@ metric_help metric.SessionEnds = codes "Connections of terminals that ended, by 
 metric_help metric.TurnedAway = codes "Connections closed at once because no number was free."
 metric_help metric.Rejections = codes "Rejected requests for an LU, by reason."
 metric_help metric.DroppedKeys = codes "Keys that were dropped because the last one wasn't answered yet."
+metric_help metric.RuleBreaks = codes "Terminals that broke a rule that the host verifies."
 metric_help metric.Turns = codes "Screens sent after the first one of a connection."
 metric_help metric.Paints = codes "Screens sent."
 metric_help metric.ReceivedBytes = codes "Bytes received from terminals."
@@ -169,7 +174,7 @@ closed_lines counts =
     ++ labelled_line (label.Closed cause.BadTalk) counts.bad_talk ++ labelled_line (label.Closed cause.TooMany) counts.too_many
     ++ labelled_line (label.Closed cause.Wire) counts.wire ++ labelled_line (label.Closed cause.BadRecord) counts.bad_record
     ++ labelled_line (label.Closed cause.BadInbound) counts.bad_inbound ++ labelled_line (label.Closed cause.BadResponse) counts.bad_response
-    ++ labelled_line (label.Closed cause.Negative) counts.negative
+    ++ labelled_line (label.Closed cause.Negative) counts.negative ++ labelled_line (label.Closed cause.RuleBroken) counts.rule_broken
 
 unfoldable pub end_lines : EndCounts → List ℕ
 end_lines counts = head_lines metric.SessionEnds ++ closed_lines counts.closed
@@ -189,4 +194,4 @@ traffic_lines counts = number_lines metric.Turns counts.turns ++ number_lines me
 abbrev pub metrics_page : Metrics → List ℕ
 metrics_page counts = number_lines metric.Sessions counts.current ++ number_lines metric.SessionsTotal counts.begun ++ end_lines counts.ends
     ++ number_lines metric.TurnedAway counts.turned_away ++ rejected_lines counts.rejected ++ number_lines metric.DroppedKeys counts.dropped_keys
-    ++ traffic_lines counts.traffic
+    ++ number_lines metric.RuleBreaks counts.rule_breaks ++ traffic_lines counts.traffic

@@ -9,6 +9,8 @@ use Rattle.host_core.specs.declared.turn.Turn.{Turn}
 use Rattle.host_core.specs.declared.turn.Turn.TheVariants as turn
 use Rattle.host_core.specs.declared.serving.Served.{Served}
 use Rattle.host_core.specs.declared.serving.Served.TheVariants as served
+use Rattle.shadow.specs.declared.rule_break.Rule.{Rule}
+use Rattle.shadow.specs.declared.rule_break.Rule.TheVariants as rule
 use Rattle.tn3270e_msg.specs.declared.cause.Cause.{Cause}
 use Rattle.tn3270e_msg.specs.Words.{cause_name, cause_number, lu_text, reason_text}
 use Rattle.term_core.specs.ScreenText.{newline}
@@ -62,6 +64,12 @@ session_part true duration turns sent received =
 abbrev pub usage_part : Usage → List ℕ
 usage_part usage = session_part usage.bound usage.duration usage.turns usage.sent usage.received
 
+-- a rule that a terminal broke
+abbrev pub rule_word : Rule → List ℕ
+rule_word rule.Applies = codes "applies"
+rule_word rule.Edits = codes "edits"
+rule_word rule.Sends = codes "sends"
+
 -- what happened
 abbrev pub notice_text : Notice → List ℕ
 notice_text (notice.Listening at) = codes "listening on " ++ socket_text at
@@ -71,6 +79,8 @@ notice_text (notice.Rejected client rejection) =
     client_part client ++ codes " event=rejected" ++ lu_part rejection.lu ++ (codes " reason=" ++ reason_text rejection.reason)
 notice_text (notice.Bound client lu) = client_part client ++ (codes " event=bound lu=" ++ lu_text lu)
 notice_text (notice.KeyDropped client dropped) = client_part client ++ (codes " event=key-dropped key=" ++ key_name dropped.aid)
+notice_text (notice.RuleBroken client broken) =
+    client_part client ++ (codes " event=rule-broken rule=" ++ (rule_word broken.rule ++ (codes " cell=" ++ decimal broken.cell)))
 notice_text (notice.Ended client why usage) = client_part client ++ ending_part why ++ usage_part usage
 
 -- each notice is an event, whose line has its time, but that the server listens

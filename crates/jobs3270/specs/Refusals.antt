@@ -1,6 +1,6 @@
 -- The lines for arguments that are refused: which word is wrong, and where help is (our profile).
 use Rattle.std.specs.Prelude.{ℕ, ◌==◌, ◌||◌, ◌&&◌, not, Bool, true, false, List, [], ◌∷◌, ◌++◌, flat_map, Option, Some, None, is_some, bytes_eq, codes, nat_eq, if◌then◌else◌}
-use Rattle.std.specs.List.{after_first, before_first, starts_with}
+use Rattle.std.specs.List.{after_first, before_first, list_any, starts_with}
 use Rattle.std.specs.Option.{option_and_then, option_map_or}
 use Rattle.jobs3270.specs.OptionValues.{is_same_port, is_value, service_port_of}
 use Rattle.jobs3270.specs.Topics.{OptionRow, kind_named, name_of, options_of, takes_value, topic_named}
@@ -92,6 +92,10 @@ twice topic option = codes "error: '" ++ (option ++ (codes "' is given twice" ++
 abbrev pub one_port : List ℕ
 one_port = codes "error: '--metrics' has the port of '--port'" ++ help_line topic.Serve
 
+-- terminals that are all this project's own aren't verified
+abbrev pub own_verified : List ℕ
+own_verified = codes "error: '--verify' excludes '--own-terminals'" ++ help_line topic.Serve
+
 -- a word is missing
 abbrev pub incomplete : Topic → List ℕ
 incomplete topic = codes "error: expected 'panel3270" ++ (name_after topic ++ (options_after topic ++ (codes "'" ++ help_line topic)))
@@ -107,6 +111,7 @@ advice_text similar (refusal.Unexpected topic word) = unexpected similar topic w
 advice_text similar (refusal.Invalid topic option value) = invalid topic option.now value.now
 advice_text similar (refusal.Twice topic option) = twice topic option.now
 advice_text similar refusal.OnePort = one_port
+advice_text similar refusal.OwnVerified = own_verified
 advice_text similar (refusal.Incomplete topic) = incomplete topic
 advice_text similar refusal.NotText = not_text
 
@@ -164,9 +169,13 @@ port_given option awaited (word ∷ words) =
 abbrev pub has_one_port : List (List ℕ) → Bool
 has_one_port words = option_map_or (λ port. is_same_port port (port_given (codes "--metrics") false words)) (port_given (codes "--port") false words) false
 
+-- both `--own-terminals` and `--verify` are there
+abbrev pub is_own_verified : List (List ℕ) → Bool
+is_own_verified words = list_any (λ word. bytes_eq word (codes "--own-terminals")) words && list_any (λ word. bytes_eq word (codes "--verify")) words
+
 -- the words after `serve`
 abbrev pub of_serve : (name : List ℕ) → List (List ℕ) → List ℕ
-of_serve name words = if has_one_port words then one_port else of_words topic.Serve name words
+of_serve name words = if has_one_port words then one_port else if is_own_verified words then own_verified else of_words topic.Serve name words
 
 -- the words after `help`
 abbrev pub of_topics : List (List ℕ) → List ℕ

@@ -75,7 +75,8 @@ options_of topic.Serve =
     needed (codes "port") kind.ServicePort ∷ optional (codes "listen") kind.Address ∷ optional (codes "panels") kind.File
     ∷ optional (codes "negotiate") kind.Seconds ∷ optional (codes "keepalive") kind.Seconds ∷ optional (codes "idle") kind.Seconds
     ∷ optional (codes "application") kind.Url ∷ optional (codes "application-timeout") kind.ReplyTime
-    ∷ optional (codes "metrics") kind.ServicePort ∷ optional (codes "own-terminals") kind.Flag ∷ optional (codes "quiet") kind.Flag ∷ []
+    ∷ optional (codes "metrics") kind.ServicePort ∷ optional (codes "own-terminals") kind.Flag ∷ optional (codes "verify") kind.Flag
+    ∷ optional (codes "quiet") kind.Flag ∷ []
 options_of topic.Term = needed (codes "port") kind.Port ∷ optional (codes "lu") kind.LuName ∷ optional (codes "model") kind.Model ∷ []
 options_of topic.Operate =
     needed (codes "port") kind.Port ∷ optional (codes "lu") kind.LuName ∷ optional (codes "model") kind.Model ∷ optional (codes "raw") kind.TtySize ∷ []

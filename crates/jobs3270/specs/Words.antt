@@ -13,7 +13,7 @@ use Rattle.clap.specs.declared.error.kind.ErrorKind.{ErrorKind}
 use Rattle.clap.specs.declared.error.kind.ErrorKind.TheVariants as kind
 use Rattle.codes3270.specs.declared.size.Model.{Model}
 use Rattle.host_core.specs.declared.terminals.Terminals.{Terminals}
-use Rattle.host_core.specs.declared.terminals.Terminals.TheVariants.{Any, Waiting}
+use Rattle.host_core.specs.declared.terminals.Terminals.TheVariants.{Any, Verified, Waiting}
 use Rattle.tn3270e_msg.specs.Lu.{lu_of}
 use Rattle.jobs3270.specs.OptionValues.{address_of, is_same_port, model_of, port_of, reply_time_of, seconds_of, service_port_of, this_machine, tty_size_of, turns_of, usual_idle, usual_keepalive, usual_model, usual_negotiate, usual_reply_time, usual_turns}
 use Rattle.jobs3270.specs.Topics.{OptionRow, jobs, name_of, operand_of, options_of, takes_value, topic_named}
@@ -96,9 +96,13 @@ given_metrics options = option_map_or (λ word. option_map Some (service_port_of
 abbrev pub is_given : (flag : List ℕ) → List Row → Bool
 is_given flag options = option_map_or (λ word. bytes_eq word (codes "true")) (first_of flag options) false
 
--- which terminals connect: `--own-terminals` says that all are ours, which wait
-abbrev pub given_terminals : List Row → Terminals
-given_terminals options = if is_given (codes "own-terminals") options then Waiting else Any
+-- which terminals connect, by whether all are ours, which wait, and whether the host verifies them; none if both are said
+abbrev pub terminals_by : (own verify : Bool) → Option Terminals
+terminals_by own true = if own then None else Some Verified
+terminals_by own false = Some (if own then Waiting else Any)
+
+abbrev pub given_terminals : List Row → Option Terminals
+given_terminals options = terminals_by (is_given (codes "own-terminals") options) (is_given (codes "verify") options)
 
 -- which terminals the host of a script serves: the script's wait, but it need not rely on that
 abbrev pub given_script_terminals : List Row → Terminals
@@ -113,14 +117,14 @@ given_limits options =
 
 abbrev pub given_service : List Row → Option Service
 given_service options =
-    option_and_then (λ port. option_and_then (λ listen. option_and_then (λ limits. option_map (λ metrics. record {
+    option_and_then (λ port. option_and_then (λ listen. option_and_then (λ limits. option_and_then (λ metrics. option_map (λ terminals. record {
       listen = listen;
       port = port;
       limits = limits;
-      terminals = given_terminals options;
+      terminals = terminals;
       quiet = is_given (codes "quiet") options;
       metrics = metrics;
-    }) (given_metrics options)) (given_limits options)) (given_address options)) (given_service_port options)
+    }) (given_terminals options)) (given_metrics options)) (given_limits options)) (given_address options)) (given_service_port options)
 
 -- none if metrics were answered on the port that terminals connect to
 abbrev pub sound_service : List Row → Option Service

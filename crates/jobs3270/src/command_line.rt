@@ -5,7 +5,7 @@ ghost use Rattle.clap.specs.Simple.{new_rule, subcommand_rows_of};
 ghost use Rattle.clap.specs.Matches.{found_of};
 ghost use Rattle.jobs3270.specs.OptionValues.{is_same_port};
 ghost use Rattle.jobs3270.specs.Topics.{row_of};
-ghost use Rattle.jobs3270.specs.Words.{HasNoJob, IsJobOf, program, job_by, job_named, job_of, given_address, given_application, given_limits, given_live_options, given_lu, given_metrics, given_model, given_port, given_reply_time, given_script_terminals, given_seconds, given_service, given_service_port, given_terminals, given_topic, given_tty, given_turns, ends_by_dashes, is_given, job_shape, job_taken, operand_rules, option_rule, sound_service, topic_of};
+ghost use Rattle.jobs3270.specs.Words.{HasNoJob, IsJobOf, program, job_by, job_named, job_of, given_address, given_application, given_limits, given_live_options, given_lu, given_metrics, given_model, given_port, given_reply_time, given_script_terminals, given_seconds, given_service, given_service_port, given_terminals, given_topic, given_tty, given_turns, ends_by_dashes, is_given, job_shape, job_taken, operand_rules, option_rule, sound_service, topic_of, terminals_by};
 ghost use Rattle.jobs3270.specs.ClapCommands.{AddsArguments, AddsJobs, IsArgument, IsCommand, IsJob, IsMatch, MayFail, job_or_fault};
 
 use crate::help::VERSION;
@@ -251,15 +251,29 @@ fn is_given(options: &ArgMatches<'_>, flag: &str) -> bool
     }
 }
 
-/// Which terminals connect: those that wait if `--own-terminals` is given, else any.
-fn terminals_in(options: &ArgMatches<'_>) -> Terminals
-    ensures { result ≡ given_terminals (rows_of (found_of options.now)) }
+/// Which terminals connect, by whether all are ours and whether the host verifies them. None if both are said.
+fn terminals_by(own: bool, verify: bool) -> Option<Terminals>
+    ensures { result ≡ terminals_by own verify }
 {
-    if is_given(options, "own-terminals") {
+    if verify {
+        return if own { None } else { Some(Terminals::Verified) };
+    }
+    Some(if own {
         Terminals::Waiting
     } else {
         Terminals::Any
-    }
+    })
+}
+
+/// Which terminals connect: those that wait if `--own-terminals` is given, else any, which the host verifies if `--verify` is given.
+/// None if both are given.
+fn terminals_in(options: &ArgMatches<'_>) -> Option<Terminals>
+    ensures { result ≡ given_terminals (rows_of (found_of options.now)) }
+{
+    terminals_by(
+        is_given(options, "own-terminals"),
+        is_given(options, "verify"),
+    )
 }
 
 /// Which terminals the host of a script serves: any if `--any-terminal` is given, else those that wait.
@@ -282,7 +296,7 @@ fn service_in(options: &ArgMatches<'_>) -> Option<Service>
         listen: address_in(options)?,
         limits: limits_in(options)?,
         metrics: metrics_in(options)?,
-        terminals: terminals_in(options),
+        terminals: terminals_in(options)?,
         quiet: is_given(options, "quiet"),
     })
 }

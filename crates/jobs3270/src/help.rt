@@ -90,6 +90,7 @@ options:
                         the time that an answer may take, 1 to 3600 [default: 30]
   --metrics P           the port of 127.0.0.1 that answers with metrics, 1 to 65535, not that of --port
   --own-terminals       all terminals are this project's own, in which only the host ends the wait after a key
+  --verify              read the screen after each key, and drop a terminal that broke a rule; without --own-terminals
   --quiet               log no connection
 
 Other SECONDS are 0 to 1000000; 0 is no limit.

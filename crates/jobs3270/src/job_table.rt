@@ -100,7 +100,7 @@ static SELFRUN: [JobOption<'static>; 1] = [TURNS];
 
 static HOST: [JobOption<'static>; 2] = [PORT, TURNS];
 
-static SERVE: [JobOption<'static>; 11] = [
+static SERVE: [JobOption<'static>; 12] = [
     JobOption {
         name: "port",
         word: "--port",
@@ -158,6 +158,12 @@ static SERVE: [JobOption<'static>; 11] = [
     JobOption {
         name: "own-terminals",
         word: "--own-terminals",
+        kind: ValueKind::Flag,
+        required: false,
+    },
+    JobOption {
+        name: "verify",
+        word: "--verify",
         kind: ValueKind::Flag,
         required: false,
     },

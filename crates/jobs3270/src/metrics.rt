@@ -18,6 +18,7 @@ pub struct ClosedCounts {
     pub bad_inbound: u64,
     pub bad_response: u64,
     pub negative: u64,
+    pub rule_broken: u64,
 }
 
 /// How many sessions ended, by how they did.
@@ -69,6 +70,8 @@ pub struct Metrics {
     pub rejected: RejectedCounts,
     /// Keys that were dropped, since the last one wasn't answered yet.
     pub dropped_keys: u64,
+    /// Terminals that broke a rule, where the host verifies them.
+    pub rule_breaks: u64,
     pub traffic: TrafficCounts,
 }
 
@@ -94,6 +97,7 @@ impl ClosedCounts {
             bad_inbound: 0,
             bad_response: 0,
             negative: 0,
+            rule_broken: 0,
         }
     }
 
@@ -111,6 +115,7 @@ impl ClosedCounts {
             Cause::BadInbound => raise(&mut self.bad_inbound, 1),
             Cause::BadResponse => raise(&mut self.bad_response, 1),
             Cause::Negative => raise(&mut self.negative, 1),
+            Cause::RuleBroken => raise(&mut self.rule_broken, 1),
         }
     }
 }
@@ -167,6 +172,7 @@ impl Metrics {
                 other: 0,
             },
             dropped_keys: 0,
+            rule_breaks: 0,
             traffic: TrafficCounts {
                 turns: 0,
                 paints: 0,
@@ -204,6 +210,7 @@ impl Metrics {
             Notice::Rejected(_, rejection) => self.rejected.count(rejection.reason),
             Notice::Bound(_, _) => {}
             Notice::KeyDropped(_, _) => raise(&mut self.dropped_keys, 1),
+            Notice::RuleBroken(_, _) => raise(&mut self.rule_breaks, 1),
             Notice::Ended(_, ending, usage) => {
                 self.end(*ending);
                 self.count_usage(usage.turns, usage.received, usage.sent);

@@ -21,6 +21,8 @@ pub enum Metric {
     Rejections,
     /// Keys that were dropped.
     DroppedKeys,
+    /// Terminals that broke a rule.
+    RuleBreaks,
     /// Screens sent after the first one of a connection.
     Turns,
     /// Screens sent.
@@ -45,6 +47,7 @@ impl Metric {
             Metric::TurnedAway => "panel3270_turned_away_total",
             Metric::Rejections => "panel3270_rejections_total",
             Metric::DroppedKeys => "panel3270_dropped_keys_total",
+            Metric::RuleBreaks => "panel3270_rule_breaks_total",
             Metric::Turns => "panel3270_turns_total",
             Metric::Paints => "panel3270_paints_total",
             Metric::ReceivedBytes => "panel3270_received_bytes_total",
@@ -65,6 +68,7 @@ impl Metric {
             Metric::Rejections => "Rejected requests for an LU, by reason.",
             Metric::DroppedKeys =>
                 "Keys that were dropped because the last one wasn't answered yet.",
+            Metric::RuleBreaks => "Terminals that broke a rule that the host verifies.",
             Metric::Turns => "Screens sent after the first one of a connection.",
             Metric::Paints => "Screens sent.",
             Metric::ReceivedBytes => "Bytes received from terminals.",
@@ -222,9 +226,10 @@ impl fmt::Display for ClosedCounts {
         let bad_inbound = Labelled(Label::Closed(Cause::BadInbound), self.bad_inbound);
         let bad_response = Labelled(Label::Closed(Cause::BadResponse), self.bad_response);
         let negative = Labelled(Label::Closed(Cause::Negative), self.negative);
+        let rule_broken = Labelled(Label::Closed(Cause::RuleBroken), self.rule_broken);
         write!(
             f,
-            "{no_tn3270e}{no_responses}{bad_talk}{too_many}{wire}{bad_record}{bad_inbound}{bad_response}{negative}"
+            "{no_tn3270e}{no_responses}{bad_talk}{too_many}{wire}{bad_record}{bad_inbound}{bad_response}{negative}{rule_broken}"
         )
     }
 }
@@ -294,10 +299,11 @@ impl fmt::Display for Metrics {
         let turned_away = Number(Metric::TurnedAway, self.turned_away);
         let rejected = self.rejected;
         let dropped_keys = Number(Metric::DroppedKeys, self.dropped_keys);
+        let rule_breaks = Number(Metric::RuleBreaks, self.rule_breaks);
         let traffic = self.traffic;
         write!(
             f,
-            "{current}{begun}{ends}{turned_away}{rejected}{dropped_keys}{traffic}"
+            "{current}{begun}{ends}{turned_away}{rejected}{dropped_keys}{rule_breaks}{traffic}"
         )
     }
 }

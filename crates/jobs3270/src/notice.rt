@@ -1,11 +1,11 @@
 //! The lines of a server's log: what became of its connections.
 ghost use Rattle.std.specs.Prelude.{◌≡◌, ◌++◌, OnOk, string_bytes};
-ghost use Rattle.jobs3270.specs.Notices.{bound_in_turn, cause_part, client_part, closed_part, ending_of, ending_part, has_time, lu_part, notice_line, notice_text, number_part, overdue_part, time_part, usage_part};
+ghost use Rattle.jobs3270.specs.Notices.{bound_in_turn, cause_part, client_part, closed_part, ending_of, ending_part, has_time, lu_part, notice_line, notice_text, number_part, overdue_part, rule_word, time_part, usage_part};
 
 use crate::application_request::KeyName;
 use crate::limits::Overdue;
 use crate::session_name::SessionName;
-use host_core::{DroppedKey, Phase, Rejection, Served};
+use host_core::{DroppedKey, Phase, Rejection, Rule, RuleBreak, Served};
 use std::alloc::AllocError;
 use std::net::SocketAddr;
 use tn3270e_msg::{Cause, Lu};
@@ -62,6 +62,8 @@ pub enum Notice {
     Bound(Client, Lu),
     /// The host dropped a key that was pressed before the last one was answered.
     KeyDropped(Client, DroppedKey),
+    /// The terminal broke a rule, by which the host closed the connection.
+    RuleBroken(Client, RuleBreak),
     /// The connection is over.
     Ended(Client, Ending, Usage),
 }
@@ -209,6 +211,27 @@ fn put_dropped_key(
     write!(text, " event=key-dropped key={key}")
 }
 
+/// The word of a rule in the log.
+fn rule_word(rule: Rule) -> &'static str
+    ensures { result.now ≡ rule_word rule }
+{
+    match rule {
+        Rule::Applies => "applies",
+        Rule::Edits => "edits",
+        Rule::Sends => "sends",
+    }
+}
+
+/// Adds that a terminal broke a rule.
+fn put_rule_break(text: &mut String, client: &Client, broken: RuleBreak) -> Result<(), AllocError>
+    ensures { OnOk result (string_bytes text.new ≡ string_bytes text.old ++ notice_text (Notice.RuleBroken client.now broken)) }
+{
+    put_client(text, client)?;
+    let rule = rule_word(broken.rule);
+    let cell = broken.cell;
+    write!(text, " event=rule-broken rule={rule} cell={cell}")
+}
+
 /// Adds what happened.
 fn put_text(text: &mut String, notice: &Notice) -> Result<(), AllocError>
     ensures { OnOk result (string_bytes text.new ≡ string_bytes text.old ++ notice_text notice.now) }
@@ -220,6 +243,7 @@ fn put_text(text: &mut String, notice: &Notice) -> Result<(), AllocError>
         Notice::Rejected(client, rejection) => put_rejection(text, client, rejection),
         Notice::Bound(client, lu) => put_bound(text, client, lu),
         Notice::KeyDropped(client, dropped) => put_dropped_key(text, client, *dropped),
+        Notice::RuleBroken(client, broken) => put_rule_break(text, client, *broken),
         Notice::Ended(client, ending, usage) => put_end(text, client, ending, usage),
     }
 }

@@ -1,10 +1,10 @@
 //! Which word of the command line is wrong, and the lines that say so.
-ghost use Rattle.std.specs.Prelude.{◌≡◌, codes, false, map, nat_eq, option_map, string_bytes};
-ghost use Rattle.std.specs.List.{after_first, before_first, starts_with};
+ghost use Rattle.std.specs.Prelude.{◌≡◌, bytes_eq, codes, false, map, nat_eq, option_map, string_bytes};
+ghost use Rattle.std.specs.List.{after_first, before_first, list_any, starts_with};
 ghost use Rattle.jobs3270.specs.OptionValues.{is_value};
 ghost use Rattle.jobs3270.specs.Topics.{kind_named, options_of, row_of};
 ghost use Rattle.jobs3270.specs.Runs.{IsToldIn};
-ghost use Rattle.jobs3270.specs.Refusals.{advice_text, awaited_after, has_one_port, has_value, has_value_of, is_equals, is_given_again, is_named, is_option, may_follow, name_after, of_files, of_job, of_options, of_serve, of_topics, of_words, options_after, port_given, refusal_text, refused_text, repeated, value_in, words_refused, wrong_word};
+ghost use Rattle.jobs3270.specs.Refusals.{advice_text, awaited_after, has_one_port, has_value, has_value_of, is_equals, is_given_again, is_named, is_option, is_own_verified, may_follow, name_after, of_files, of_job, of_options, of_serve, of_topics, of_words, options_after, port_given, refusal_text, refused_text, repeated, value_in, words_refused, wrong_word};
 
 use crate::command_line::{JOBS, is_same_port};
 use crate::job::{Port, ReplyTime, Seconds, ServicePort, Topic, Turns, model_of};
@@ -33,6 +33,8 @@ pub enum Refusal<'a> {
     Twice(Topic, &'a str),
     /// `--metrics` of `serve` has the port of `--port`.
     OnePort,
+    /// `serve` has both `--own-terminals` and `--verify`.
+    OwnVerified,
     /// The job lacks an option or a value.
     Incomplete(Topic),
     /// A word isn't UTF-8.
@@ -69,7 +71,7 @@ fn options_after(topic: Topic) -> &'static str
         Topic::Check => " [FILE]",
         Topic::Host => " --port P [--turns N]",
         Topic::Serve => {
-            " --port P [--listen ADDRESS] [--panels FILE] [--negotiate SECONDS] [--keepalive SECONDS] [--idle SECONDS] [--application URL] [--application-timeout SECONDS] [--metrics P] [--own-terminals] [--quiet]"
+            " --port P [--listen ADDRESS] [--panels FILE] [--negotiate SECONDS] [--keepalive SECONDS] [--idle SECONDS] [--application URL] [--application-timeout SECONDS] [--metrics P] [--own-terminals] [--verify] [--quiet]"
         }
         Topic::Term => " --port P [--lu NAME] [--model M]",
         Topic::Operate => " --port P [--lu NAME] [--model M] [--raw ROWSxCOLUMNS]",
@@ -275,12 +277,33 @@ fn has_one_port(words: &[String]) -> bool
     }
 }
 
+/// Whether a word is there.
+fn is_there(wanted: &str, words: &[String]) -> bool
+    ensures { result ≡ list_any (λ word. bytes_eq word wanted.now) (map string_bytes words.now) }
+{
+    for word in words {
+        if word.as_str() == wanted {
+            return true;
+        }
+    }
+    false
+}
+
+/// Whether both `--own-terminals` and `--verify` are there.
+fn is_own_verified(words: &[String]) -> bool
+    ensures { result ≡ is_own_verified (map string_bytes words.now) }
+{
+    is_there("--own-terminals", words) && is_there("--verify", words)
+}
+
 /// The refusal of the words after `serve`.
 fn of_serve<'a>(name: &'a str, words: &'a [String]) -> Refusal<'a>
     ensures { refusal_text result ≡ of_serve name.now (map string_bytes words.now) }
 {
     if has_one_port(words) {
         Refusal::OnePort
+    } else if is_own_verified(words) {
+        Refusal::OwnVerified
     } else {
         of_words(Topic::Serve, name, words)
     }
@@ -473,6 +496,12 @@ impl fmt::Display for Advice<'_> {
                     topic: Topic::Serve,
                 };
                 write!(f, "error: '--metrics' has the port of '--port'{help}")
+            }
+            Refusal::OwnVerified => {
+                let help = HelpLine {
+                    topic: Topic::Serve,
+                };
+                write!(f, "error: '--verify' excludes '--own-terminals'{help}")
             }
             Refusal::Incomplete(topic) => {
                 let name = name_after(*topic);

@@ -442,6 +442,7 @@ impl Server {
         let after = self.host.phase(conn);
         self.report_talk(conn, &before, &after, watcher)?;
         self.report_dropped_keys(conn, watcher)?;
+        self.report_rule_break(conn, watcher)?;
         if is_shown(pending, self.host.pending(conn), self.host.turn(conn)) {
             self.report_screen(conn, &before, watcher)?;
         }
@@ -519,6 +520,18 @@ impl Server {
         match self.info(conn) {
             Some(info) => watcher.notice(&Notice::KeyDropped(info.client, key)),
             None => Ok(()),
+        }
+    }
+
+    /// Hands the watcher the rule that the terminal broke, by which the host closed the connection.
+    fn report_rule_break<W: Watcher>(&self, conn: usize, watcher: &mut W) -> Result<(), Fault>
+        requires { conn < most_connections }
+    {
+        match (self.host.rule_break(conn), self.info(conn)) {
+            (Some(broken), Some(info)) => {
+                watcher.notice(&Notice::RuleBroken(info.client, broken))
+            }
+            _ => Ok(()),
         }
     }
 

@@ -29,7 +29,7 @@ not_off On mdt h e = refl
 not_off Off mdt h e = absurd (cc)
 not_off Unknown mdt h e = refl
 
-not_on : (m : MdtState) (mdt : Bool) → MarkIs m mdt → mdt ≡ false → is_on m ≡ false
+pub not_on : (m : MdtState) (mdt : Bool) → MarkIs m mdt → mdt ≡ false → is_on m ≡ false
 not_on On mdt h e = absurd (cc)
 not_on Off mdt h e = refl
 not_on Unknown mdt h e = refl

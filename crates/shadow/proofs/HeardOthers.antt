@@ -105,10 +105,10 @@ seen_lists s = cases (fields s.cells) refl
     cases [] e some = absurd (some e)
     cases (f ∷ fs) e some = tt
 
-same_attr-refl : (one other : Attribute) → without_mdt one ≡ other → same_attr one other ≡ true
+pub same_attr-refl : (one other : Attribute) → without_mdt one ≡ other → same_attr one other ≡ true
 same_attr-refl one other e = eq-eqb _ _ (ap attr_byte (ap without_mdt e))
 
-none_differs : (ks : List (Option ℕ)) (text : List ℕ) → Pairwise KnownIs ks text → differs ks text ≡ false
+pub none_differs : (ks : List (Option ℕ)) (text : List ℕ) → Pairwise KnownIs ks text → differs ks text ≡ false
 none_differs [] [] h = refl
 none_differs [] (c ∷ cs) h = absurd h
 none_differs (k ∷ ks) [] h = absurd h

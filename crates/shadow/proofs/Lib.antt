@@ -55,3 +55,5 @@ pub mod KnownRuns
 pub mod ShorterTexts
 pub mod Sizes
 pub mod Doubt
+pub mod RuleBreaks
+pub mod RuleWalk

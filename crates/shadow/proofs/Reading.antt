@@ -107,7 +107,7 @@ held_rest whole (Known c) ps h = h
 held_rest whole (Told c) ps h = h
 held_rest whole Unknown ps h = h
 
-held_drop : (whole : List CellBelief) (n : ℕ) (ps : List CellBelief) → AreHeld whole ps → AreHeld whole (drop n ps)
+pub held_drop : (whole : List CellBelief) (n : ℕ) (ps : List CellBelief) → AreHeld whole ps → AreHeld whole (drop n ps)
 held_drop whole zero ps h = h
 held_drop whole (suc n) [] h = tt
 held_drop whole (suc n) (p ∷ ps) h = held_drop whole n ps (held_rest whole p ps h)

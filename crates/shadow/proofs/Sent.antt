@@ -48,7 +48,7 @@ returned_fields (field ∷ fields) =
 returned_back : (chars : List ℕ) (fields : List Returned) → returned (parts_of_fields chars fields) ≡ fields
 returned_back chars fields = returned_past chars (flat_map field_parts fields) ∙ returned_fields fields
 
-cells_back : (cells : List Cell) → cells_sent (parts_of_cells cells) ≡ cells
+pub cells_back : (cells : List Cell) → cells_sent (parts_of_cells cells) ≡ cells
 cells_back [] = refl
 cells_back (CharCell char ∷ cells) = ap (λ cs. CharCell char ∷ cs) (cells_back cells)
 cells_back (AttrCell attr ∷ cells) = ap (λ cs. AttrCell attr ∷ cs) (cells_back cells)

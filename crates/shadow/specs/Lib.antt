@@ -16,6 +16,7 @@ pub mod Sized
 pub mod Openness
 pub mod Storable
 pub mod Doubt
+pub mod RuleBreaks
 pub mod Notes
 pub mod Asked
 pub mod Held

@@ -22,7 +22,7 @@ pub(crate) fn same_attr(one: Attr, other: Attr) -> bool
 }
 
 /// The next character that was read, if there is one before the first attribute; `whole`: what follows the rest, round the end.
-fn next_char(rest: &mut Cells<'_>, whole: &mut Cells<'_>) -> Option<u8>
+pub(crate) fn next_char(rest: &mut Cells<'_>, whole: &mut Cells<'_>) -> Option<u8>
     ensures { let ahead = places_stored rest.old ++ places_stored whole.old in
         MatchOption result (known_text (chars_known ahead) ≡ []) (λ char. known_text (chars_known ahead) ≡ char ∷ known_text (chars_known (places_stored rest.new ++ places_stored whole.new))) }
 {
@@ -78,7 +78,12 @@ fn are_others(known: Ahead<'_>, rest: Cells<'_>, whole: Cells<'_>) -> bool
 
 /// Whether the characters of the field whose attribute is at a place aren't those that were read; `rest`: the cells that were read
 /// behind its attribute. Mostly they are known, and the same.
-fn is_other_text(places: &CellBeliefs, place: usize, rest: &Cells<'_>, whole: &Cells<'_>) -> bool
+pub(crate) fn is_other_text(
+    places: &CellBeliefs,
+    place: usize,
+    rest: &Cells<'_>,
+    whole: &Cells<'_>,
+) -> bool
     requires { place < length places.now }
     ensures { result ≡ differs (chars_known (drop (place + 1) places.now ++ places.now)) (known_text (chars_known (places_stored rest.now ++ places_stored whole.now))) }
 {
@@ -93,7 +98,7 @@ fn is_other_text(places: &CellBeliefs, place: usize, rest: &Cells<'_>, whole: &C
 }
 
 /// Whether a cell that was read shows that a screen isn't the one that is believed; `rest`: those after it.
-fn is_other(
+pub(crate) fn is_other(
     places: &CellBeliefs,
     place: usize,
     cell: Cell,

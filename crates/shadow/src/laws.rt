@@ -5,6 +5,7 @@ ghost use Rattle.shadow.specs.Openness.{LongOpensNothing, ReadLeavesNothingOpen,
 ghost use Rattle.shadow.specs.Notes.{NoteOverwritesProtected, NoteOverwritesBare, PlacedStaysKnown, NoteStaysListed, NoteStaysTold, NoteStaysExact, NoteOpensNothing, NoteStaysWhole};
 ghost use Rattle.shadow.specs.Laws.{HearsModified, HearsAll, HearsBuffer, WrittenIsTaken, WantedIsPainted, PaintIsTaken, PaintedIsKnown, PaintIsBounded, PaintIsPlain, PaintIsSpelt, KnownIsThere, AttributesAreKnown};
 ghost use Rattle.shadow.specs.Exactness.{NothingIsExact, HeardStaysExact, HeardStaysProtected, TakenStaysExact, ErasedIsExact, PaintedIsExact, WrittenStaysProtected, ProtectedIsSeen, ReturnedIsTold};
+ghost use Rattle.shadow.specs.RuleBreaks.{RulesAreNotBroken};
 ghost use Rattle.shadow.specs.PaintedFields.{KeptStaysThere, WrittenIsThere};
 ghost use Rattle.shadow.specs.Sized.{MeetsIsOfSize, HeardIsOfSize, TakenIsOfSize};
 ghost use Rattle.shadow.specs.Storable.{HeardCanBeStored, TakenCanBeStored, ToldCanBeStored};
@@ -138,4 +139,11 @@ pub fn what_is_in_doubt_is_allowed()
     ensures protected { DoubtStaysProtected }
     ensures stored { DoubtCanBeStored }
     ensures once { DoubtIsOnce }
+{}
+
+/// Law: a terminal that keeps the rules is never found to have broken one: not by a screen that meets
+/// what is believed, and not by one that an operator can make of it before the screen is read. So
+/// what is found to break a rule is no screen of such a terminal.
+pub fn rules_are_not_broken()
+    ensures { RulesAreNotBroken }
 {}

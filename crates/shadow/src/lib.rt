@@ -39,14 +39,17 @@ pub mod laws;
 mod mdt_state;
 mod painting;
 mod returned_cursor;
+mod rule_break;
 mod searching;
 mod shadow;
 mod taking;
+mod verifying;
 mod writing;
 
 pub use fact::Fact;
 pub use fault::HeardFault;
 pub use field_text::FieldText;
 pub use mdt_state::MdtState;
+pub use rule_break::{Rule, RuleBreak};
 pub use shadow::Shadow;
 pub use writing::plain;

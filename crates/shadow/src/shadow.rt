@@ -14,6 +14,7 @@ ghost use Rattle.shadow.specs.Fits.{fits, is_paintable};
 ghost use Rattle.shadow.specs.Heard.{heard, heard_parts, heard_short};
 ghost use Rattle.shadow.specs.InPlace.{shadow_held, has_fields, IsHeld};
 ghost use Rattle.shadow.specs.Paint.{paint_bytes, writes_over, is_base_size, erase_code};
+ghost use Rattle.shadow.specs.RuleBreaks.{rule_break};
 ghost use Rattle.shadow.specs.Seen.{heard_buffer};
 ghost use Rattle.shadow.specs.Stores.{is_plain};
 ghost use Rattle.shadow.specs.Taken.{taken, taken_write, taken_erase};
@@ -27,7 +28,9 @@ use crate::field_text::FieldText;
 use crate::fitting::{fits_fields, fits_over};
 use crate::hearing::{after_attention, after_long, check_fields};
 use crate::painting::{Base, put_cells};
+use crate::rule_break::RuleBreak;
 use crate::taking::{erase_over, write_over};
+use crate::verifying::first_break;
 use crate::writing::stores_unplaced;
 use codes3270::{Addr, Aid, Cell, Size, Wcc};
 use datastream::{Command, CommandCode, CommandWriter, Form, Inbound, Memory, Wanted};
@@ -113,6 +116,20 @@ impl Shadow {
             }
             Form::All => self.hear_fields(inbound),
             Form::Buffer => self.hear_buffer(inbound),
+        }
+    }
+
+    /// The rule that a terminal has broken, if the answer to Read Buffer shows that it has. The host believes what the last key's data
+    /// said; since then the operator may have changed input. The data must have been read for the size of the screen, if something is
+    /// known of it.
+    pub fn rule_break(&self, inbound: &Inbound<'_>) -> Option<RuleBreak>
+        requires form { inbound.now.form ≡ Buffer }
+        requires size { IsOfSize (cells_in inbound.now.size) self.now }
+        ensures { result ≡ rule_break self.now (cells_sent inbound.now.parts) }
+    {
+        match self.held() {
+            Some(places) => first_break(places, inbound.cells()),
+            None => None,
         }
     }
 

@@ -18,6 +18,7 @@ cause_number cause.BadRecord = 6
 cause_number cause.BadInbound = 7
 cause_number cause.BadResponse = 8
 cause_number cause.Negative = 9
+cause_number cause.RuleBroken = 10
 
 -- a cause's name (our profile)
 abbrev pub cause_name : Cause → List ℕ
@@ -30,6 +31,7 @@ cause_name cause.BadRecord = codes "BadRecord"
 cause_name cause.BadInbound = codes "BadInbound"
 cause_name cause.BadResponse = codes "BadResponse"
 cause_name cause.Negative = codes "Negative"
+cause_name cause.RuleBroken = codes "RuleBroken"
 
 -- the name of a reason in RFC 1647, section 3, if it is one that a host here gives (our profile)
 abbrev pub reason_name : Reason → Option (List ℕ)

@@ -25,10 +25,12 @@ pub enum Cause {
     BadResponse,
     /// 9: the terminal refused an Erase/Write.
     Negative,
+    /// 10: the terminal's screen shows that it broke a rule which the host relies on.
+    RuleBroken,
 }
 
 impl Cause {
-    /// Its number, 1 to 9, in the order in which the causes are declared.
+    /// Its number, 1 to 10, in the order in which the causes are declared.
     pub fn number(self) -> u8
         ensures { result ≡ cause_number self }
     {
@@ -42,6 +44,7 @@ impl Cause {
             Cause::BadInbound => 7,
             Cause::BadResponse => 8,
             Cause::Negative => 9,
+            Cause::RuleBroken => 10,
         }
     }
 
@@ -59,6 +62,7 @@ impl Cause {
             Cause::BadInbound => "BadInbound",
             Cause::BadResponse => "BadResponse",
             Cause::Negative => "Negative",
+            Cause::RuleBroken => "RuleBroken",
         }
     }
 }

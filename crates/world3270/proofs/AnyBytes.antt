@@ -18,7 +18,7 @@ use Rattle.world3270.specs.EveryTerminalBytes.{IsHost, LeadTo, Moves, OverBytes,
 use Rattle.world3270.specs.Standing.{conn_of}
 use Rattle.world3270.proofs.Answered.{IsDone, by_act, by_answer}
 use Rattle.world3270.proofs.AnyHost.{HearsLaws, IsServed, conn_there, does_goes, elsewhere_goes, hands_over_goes, hears_bytes, keeps_alive_goes, unchanged}
-use Rattle.world3270.proofs.AnyTerminal.{Goes, IsKept, TakesLaws, goes_after, nops_goes, operates_goes, stays, takes_goes}
+use Rattle.world3270.proofs.AnyTerminal.{Goes, IsKept, TakesLaws, commands_goes, goes_after, operates_goes, stays, takes_goes}
 
 -- what the host does at a connection that is open
 acted_here : (app : Application) (service : Service) (conn : Conn) → IsOpen service → conn_of service ≡ conn → acted_by app service ≡ acted app conn
@@ -105,8 +105,8 @@ module _ (takes : TakesLaws) (hears : HearsLaws) (app : Application) (Good : Tol
     goes = operates_goes takes app Good kept number step old new t good is does;
     pool = subst (λ (b : OverBytes). IsSoundPool b.host.pool) (sym does.leaves) served.pool;
   }
-  one_move old new t good is served (Moves.sends_nops bytes nops same) = record {
-    goes = subst (λ (b : OverBytes). Goes app Good number b t) (sym same) (nops_goes takes app Good kept number bytes old t good is nops);
+  one_move old new t good is served (Moves.sends_commands bytes commands same) = record {
+    goes = subst (λ (b : OverBytes). Goes app Good number b t) (sym same) (commands_goes takes app Good kept number bytes old t good is commands);
     pool = subst (λ (b : OverBytes). IsSoundPool b.host.pool) (sym same) served.pool;
   }
 

@@ -25,7 +25,7 @@ use Rattle.world3270.specs.Known.{Known}
 use Rattle.world3270.specs.Readings.{IsReadAs, MayComeUp}
 use Rattle.world3270.specs.Rules.{Binds}
 use Rattle.world3270.specs.Standing.{conn_of}
-use Rattle.world3270.specs.Stands.{StandsDown, without_nops}
+use Rattle.world3270.specs.Stands.{StandsDown, without_commands, without_nops}
 use Rattle.world3270.specs.StandsEnds.{NopHasNoEffect, TakesKeepSendable, TermTakes, WritesAreMarked}
 use Rattle.world3270.specs.StandsLinks.{HasTheSizes, StandsCompose, StandsGoOn}
 use Rattle.world3270.specs.Terminal.{Display}
@@ -38,7 +38,7 @@ use Rattle.world3270.proofs.EveryTerminal.{begins_simulated, move_still, right_o
 use Rattle.world3270.proofs.Numbers.{Numbered}
 use Rattle.world3270.proofs.Sendable.{IsWritten, blank_sendable}
 use Rattle.world3270.proofs.Simulation.{Simulated, agrees_now}
-use Rattle.world3270.proofs.Stands.{nops_piecewise, stands_go_on, stands_join}
+use Rattle.world3270.proofs.Stands.{commands_piecewise, stands_go_on, stands_join}
 use Rattle.world3270.proofs.StandsLinks.{host_sends, nop_stands, up_stands}
 
 -- ---- what is asked of the queue
@@ -72,12 +72,12 @@ any_laws known takes keeps nop marks taken compose items read written kept = rec
     final = known.links.wrong_is_final;
     marks = marks;
     written = items;
-    join = stands_join without_nops IsReadAs nops_piecewise known.links.deliveries;
+    join = stands_join without_commands IsReadAs commands_piecewise known.links.deliveries;
   };
   hears = record {
     sends = host_sends compose;
     nop = nop_stands compose;
-    up = up_stands (stands_go_on without_nops IsReadAs nops_piecewise known.links.delivery_goes_on);
+    up = up_stands (stands_go_on without_commands IsReadAs commands_piecewise known.links.delivery_goes_on);
     final = known.links.wrong_is_final;
     one_header = known.links.one_header;
     fault_or_header = known.links.fault_or_header;

@@ -39,7 +39,7 @@ use Rattle.world3270.specs.Link.{Link, host_left_if, host_sent, sent}
 use Rattle.world3270.specs.Readings.{IsReadAs, MayComeUp}
 use Rattle.world3270.specs.Sendable.{CanBeSent}
 use Rattle.world3270.specs.Standing.{conn_of, rest_of}
-use Rattle.world3270.specs.Stands.{ByteLink, LinkStandsBy, is_nop, without_nops}
+use Rattle.world3270.specs.Stands.{ByteLink, LinkStandsBy, is_bare_command, without_commands}
 use Rattle.world3270.specs.StandsLinks.{HostSendsBy, MayComeAll, NopStandsBy, UpStandsBy, said_down}
 use Rattle.world3270.specs.TrackedTerminals.{TrackedTerminal}
 use Rattle.world3270.proofs.Answered.{IsDone}
@@ -50,9 +50,9 @@ use Rattle.world3270.proofs.HostSteps.{just_talks}
 use Rattle.world3270.proofs.ItemsSpelt.{Spells}
 use Rattle.world3270.proofs.LinkUp.{link_behind, never_wrong, none_first, one_first, sends_stand}
 
--- ---- NOP
+-- ---- a command that the host takes as nothing
 
-kept_if : (item : WireItem) (nop : Bool) → is_nop item ≡ nop → without_nops (item ∷ []) ≡ (if nop then [] else item ∷ [])
+kept_if : (item : WireItem) (bare : Bool) → is_bare_command item ≡ bare → without_commands (item ∷ []) ≡ (if bare then [] else item ∷ [])
 kept_if item true is = ap (λ (b : Bool). cond (not b) (item ∷ []) []) is
 kept_if item false is = ap (λ (b : Bool). cond (not b) (item ∷ []) []) is
 
@@ -67,12 +67,12 @@ says_nothing answers conn (Named device lu) same agrees = absurd (cc)
 says_nothing answers conn (Countered device lu) same agrees = absurd (cc)
 says_nothing answers conn (Closed cause) same agrees = absurd (cc)
 
-nop_is_nothing : (answers : Answers) (conn : Conn) (item : WireItem) (step : HostStep) → is_nop item ≡ true → is_agreed conn.talk.state ≡ true → TakesItem answers conn item step → step ≡ quiet conn
-nop_is_nothing answers conn (Other code) step nop agrees taken =
+command_is_nothing : (answers : Answers) (conn : Conn) (item : WireItem) (step : HostStep) → is_bare_command item ≡ true → is_agreed conn.talk.state ≡ true → TakesItem answers conn item step → step ≡ quiet conn
+command_is_nothing answers conn (Other code) step bare agrees taken =
     taken.2 ∙ ap (λ (comes : Comes). talked answers conn conn.talk comes) taken.1 ∙ says_nothing answers conn conn.talk.state refl agrees
-nop_is_nothing answers conn (Record bytes) step nop agrees taken = absurd (cc)
-nop_is_nothing answers conn (Opt verb code) step nop agrees taken = absurd (cc)
-nop_is_nothing answers conn (Sub bytes) step nop agrees taken = absurd (cc)
+command_is_nothing answers conn (Record bytes) step bare agrees taken = absurd (cc)
+command_is_nothing answers conn (Opt verb code) step bare agrees taken = absurd (cc)
+command_is_nothing answers conn (Sub bytes) step bare agrees taken = absurd (cc)
 
 -- ---- the connection with this line of the host
 
@@ -93,11 +93,11 @@ with_parts host down up old = record old { host = host; down = down; up = up }
 
 -- it represents this, whatever the host has on other connections
 represents_with : (number : ℕ) (host : Host) (connection : Connection) (down up : List ℕ) (old : OverBytes) (t : Told) → connection_at number host ≡ connection → IsOpen connection.service
-    → LinkStandsBy without_nops IsReadAs (link_by connection down up old.tracked) t.link → old.waits ≡ t.waits → t.link.term.waits ≡ false → CanBeSent t.link.term.display.shape t.link.term.display.screen
+    → LinkStandsBy without_commands IsReadAs (link_by connection down up old.tracked) t.link → old.waits ≡ t.waits → t.link.term.waits ≡ false → CanBeSent t.link.term.display.shape t.link.term.display.screen
     → Represents number (with_parts host down up old) t
 represents_with number host connection down up old t at is_open stands waits unnamed stored = record {
   is_open = subst (λ (c : Connection). IsOpen c.service) (sym at) is_open;
-  stands = subst (λ (c : Connection). LinkStandsBy without_nops IsReadAs (link_by c down up old.tracked) t.link) (sym at) stands;
+  stands = subst (λ (c : Connection). LinkStandsBy without_commands IsReadAs (link_by c down up old.tracked) t.link) (sym at) stands;
   waits = waits;
   unnamed = unnamed;
   stored = stored;
@@ -113,9 +113,9 @@ still_sound granted number None pool sound = sound
 still_sound granted number (Some lu) pool sound = granted pool number lu sound
 
 pub record HearsLaws : Type 0 where
-  pub sends : HostSendsBy without_nops IsReadAs
-  pub nop : NopStandsBy without_nops IsReadAs
-  pub up : UpStandsBy without_nops IsReadAs
+  pub sends : HostSendsBy without_commands IsReadAs
+  pub nop : NopStandsBy without_commands IsReadAs
+  pub up : UpStandsBy without_commands IsReadAs
   pub final : WrongIsFinal
   pub one_header : OneHeader
   pub fault_or_header : FaultIsNoHeader
@@ -155,12 +155,12 @@ module _ (laws : HearsLaws) (app : Application) (Good : Told → Type 0) (kept :
 
     -- it goes on with this rest of the stream
     opened : (rest to : Rest) (conn : Conn) (behind : List ℕ) (t' : Link) → line.service ≡ Service.Open rest conn
-        → LinkStandsBy without_nops IsReadAs (record (link_over number old) { host_rest = to; up = behind }) t'
-        → LinkStandsBy without_nops IsReadAs (link_by (record line { service = Service.Open to conn }) old.down behind old.tracked) t'
+        → LinkStandsBy without_commands IsReadAs (record (link_over number old) { host_rest = to; up = behind }) t'
+        → LinkStandsBy without_commands IsReadAs (link_by (record line { service = Service.Open to conn }) old.down behind old.tracked) t'
     opened rest to conn behind t' held stands =
-        subst (λ (s : Service). LinkStandsBy without_nops IsReadAs (record (link_by line old.down behind old.tracked) { host_here = is_there s; host = conn_of s; host_rest = to }) t') held stands
+        subst (λ (s : Service). LinkStandsBy without_commands IsReadAs (record (link_by line old.down behind old.tracked) { host_here = is_there s; host = conn_of s; host_rest = to }) t') held stands
 
-    hears_nothing : (byte : ℕ) (behind : List ℕ) (counter : Counter) (rest to : Rest) (conn : Conn) (items : List WireItem) → without_nops items ≡ [] → old.up ≡ byte ∷ behind → line.service ≡ Service.Open rest conn
+    hears_nothing : (byte : ℕ) (behind : List ℕ) (counter : Counter) (rest to : Rest) (conn : Conn) (items : List WireItem) → without_commands items ≡ [] → old.up ≡ byte ∷ behind → line.service ≡ Service.Open rest conn
         → Delivers record_limit rest (byte ∷ []) items to → counter ≡ record { pool = old.host.pool; connection = record line { service = Service.Open to conn } }
         → Fed app Good number counter behind old t
     hears_nothing byte behind counter rest to conn items none queue held delivers is_counter =
@@ -206,7 +206,7 @@ module _ (laws : HearsLaws) (app : Application) (Good : Told → Type 0) (kept :
 
       hears_one : (item : WireItem) (done : HostStep) (byte : ℕ) (behind : List ℕ) (counter : Counter) (rest to : Rest) (conn : Conn) → line.service ≡ Service.Open rest conn
           → IsReadAs item message → TakesItem (answer_to old.host.pool) conn item done
-          → LinkStandsBy without_nops IsReadAs (record (link_over number old) { host_rest = to; up = behind }) (record link { up = others })
+          → LinkStandsBy without_commands IsReadAs (record (link_over number old) { host_rest = to; up = behind }) (record link { up = others })
           → counter ≡ stepped number to done (counter_at number old.host) → Fed app Good number counter behind old t
       hears_one item done byte behind counter rest to conn held read taken stood is_counter =
           let just = just_talks (answer_to old.host.pool) link.host message in
@@ -217,13 +217,13 @@ module _ (laws : HearsLaws) (app : Application) (Good : Told → Type 0) (kept :
           let said = sends_stand laws.sends (record (link_over number old) { host_rest = to; up = behind }) (record link { up = others }) step.conn step.sends just.talk just.says stood may_now in
           let line_now : Connection = record after.connection { service = Service.Open to step.conn } in
           let line_is : after.connection ≡ line_now = ap (λ (s : Service). record after.connection { service = s }) going in
-          let stands : LinkStandsBy without_nops IsReadAs (link_by line_now old.down behind old.tracked) (link_behind step others link) =
-          subst (λ (d : List ℕ). LinkStandsBy without_nops IsReadAs (record (link_by line_now old.down behind old.tracked) { down = d }) (link_behind step others link)) (append_assoc old.down line.out more)
-          (subst (λ (h : Bool). LinkStandsBy without_nops IsReadAs (record (link_by line_now old.down behind old.tracked) { down = (old.down ++ line.out) ++ more; host_here = h }) (link_behind step others link))
+          let stands : LinkStandsBy without_commands IsReadAs (link_by line_now old.down behind old.tracked) (link_behind step others link) =
+          subst (λ (d : List ℕ). LinkStandsBy without_commands IsReadAs (record (link_by line_now old.down behind old.tracked) { down = d }) (link_behind step others link)) (append_assoc old.down line.out more)
+          (subst (λ (h : Bool). LinkStandsBy without_commands IsReadAs (record (link_by line_now old.down behind old.tracked) { down = (old.down ++ line.out) ++ more; host_here = h }) (link_behind step others link))
           (here_if line.service is.is_open) said) in
           let back = sym link_now in
           let represents = represents_with number (with_counter number after old.host) line_now old.down behind old now (at_line after.connection after.pool ∙ line_is) tt
-          (subst (λ (l : Link). LinkStandsBy without_nops IsReadAs (link_by line_now old.down behind old.tracked) l) back stands)
+          (subst (λ (l : Link). LinkStandsBy without_commands IsReadAs (link_by line_now old.down behind old.tracked) l) back stands)
           (is.waits ∙ sym waits_now) (ap (λ (l : Link). l.term.waits) link_now ∙ is.unnamed)
           (subst (λ (l : Link). CanBeSent l.term.display.shape l.term.display.screen) back is.stored) in
           let sound : IsSoundPool after.pool =
@@ -236,19 +236,19 @@ module _ (laws : HearsLaws) (app : Application) (Good : Told → Type 0) (kept :
 
     hears_byte : (byte : ℕ) (behind : List ℕ) (counter : Counter) → old.up ≡ byte ∷ behind → TakesByte number (counter_at number old.host) byte counter → Fed app Good number counter behind old t
     hears_byte byte behind counter queue (TakesByte.goes_on rest to conn held delivers is_counter) = hears_nothing byte behind counter rest to conn [] refl queue held delivers is_counter
-    hears_byte byte behind counter queue (TakesByte.completes rest to conn item done held delivers taken is_counter) = by_test (is_nop item) refl
+    hears_byte byte behind counter queue (TakesByte.completes rest to conn item done held delivers taken is_counter) = by_test (is_bare_command item) refl
       where
-        by_test : (nop : Bool) → is_nop item ≡ nop → Fed app Good number counter behind old t
+        by_test : (bare : Bool) → is_bare_command item ≡ bare → Fed app Good number counter behind old t
         by_test false heard =
             let read = subst (λ (r : Rest). Delivers record_limit r (byte ∷ []) (item ∷ []) to) (sym (ap rest_of held)) delivers in
             let first = one_first laws.up (link_over number old) link byte behind to is.stands host_here queue item (kept_if item false heard) read in
             hears_one first.message first.others first.whole item done byte behind counter rest to conn held first.is taken first.stands is_counter
-        by_test true nop =
+        by_test true bare =
             let same : conn ≡ link.host = sym (ap conn_of held) ∙ conn_is in
             let agreed = ap (λ (c : Conn). is_agreed c.talk.state) same ∙ (kept.ready t good).agreed in
-            let quietly = is_counter ∙ ap (λ (step : HostStep). stepped number to step (counter_at number old.host)) (nop_is_nothing (answer_to old.host.pool) conn item done nop agreed taken) in
+            let quietly = is_counter ∙ ap (λ (step : HostStep). stepped number to step (counter_at number old.host)) (command_is_nothing (answer_to old.host.pool) conn item done bare agreed taken) in
             let nothing_out = ap (λ (out : List ℕ). record { pool = old.host.pool; connection = record line { service = Service.Open to conn; out = out } }) (append-nil line.out) in
-            hears_nothing byte behind counter rest to conn (item ∷ []) (kept_if item true nop) queue held delivers (quietly ∙ nothing_out)
+            hears_nothing byte behind counter rest to conn (item ∷ []) (kept_if item true bare) queue held delivers (quietly ∙ nothing_out)
     hears_byte byte behind counter queue (TakesByte.breaks rest conn fault held wrong is_counter) =
         absurd (never_wrong laws.final (link_over number old) link byte behind fault is.stands host_here queue
         (subst (λ (r : Rest). GoesWrong record_limit r (byte ∷ []) fault) (sym (ap rest_of held)) wrong))
@@ -293,7 +293,7 @@ module _ (laws : HearsLaws) (app : Application) (Good : Told → Type 0) (kept :
     same_line connection down same is_open =
         stays app Good number (record old { host = with_connection number connection old.host; down = down }) t good
         (represents_with number (with_connection number connection old.host) connection down old.up old t (at_line old t good is served connection old.host.pool) is_open
-        (subst (λ (b : ByteLink). LinkStandsBy without_nops IsReadAs b t.link) (sym same) is.stands) is.waits is.unnamed is.stored)
+        (subst (λ (b : ByteLink). LinkStandsBy without_commands IsReadAs b t.link) (sym same) is.stands) is.waits is.unnamed is.stored)
 
     -- nothing is done
     pub unchanged : (connection : Connection) → connection ≡ connection_at number old.host → Goes app Good number (on_connection number connection old) t
@@ -321,8 +321,8 @@ module _ (laws : HearsLaws) (app : Application) (Good : Told → Type 0) (kept :
         let connection : Connection = sent_on sending (connection_at number old.host) in
         let link : Link = host_sent (Some sending) t.link in
         let said = laws.sends (link_over number old) t.link sending.conn (item_sent sending.message ∷ []) (sending.message ∷ []) is.stands (spelt.comes, tt) (spelt.stands, tt) in
-        let stands : LinkStandsBy without_nops IsReadAs (link_by connection old.down old.up old.tracked) link =
-        subst (λ (b : ByteLink). LinkStandsBy without_nops IsReadAs b link) (sent_link sending (service_at number old.host) (connection_at number old.host).out is.is_open) said in
+        let stands : LinkStandsBy without_commands IsReadAs (link_by connection old.down old.up old.tracked) link =
+        subst (λ (b : ByteLink). LinkStandsBy without_commands IsReadAs b link) (sent_link sending (service_at number old.host) (connection_at number old.host).out is.is_open) said in
         let now : Told = record t { link = link } in
         moves_once app Good kept number (on_connection number connection old) t move good rules typed
         (subst (λ (u : Told). Represents number (on_connection number connection old) u) (sym goes)
@@ -359,7 +359,7 @@ module _ (laws : HearsLaws) (app : Application) (Good : Told → Type 0) (kept :
             let nop : List ℕ = sent_bytes (no_operation ∷ []) in
             stays app Good number (on_connection number (with_nop line) old) t good
             (represents_with number (with_connection number (with_nop line) old.host) (with_nop line) old.down old.up old t (at_line old t good is served (with_nop line) old.host.pool) is.is_open
-            (subst (λ (d : List ℕ). LinkStandsBy without_nops IsReadAs (record (link_over number old) { down = d }) t.link) (append_assoc old.down line.out nop) (laws.nop (link_over number old) t.link is.stands))
+            (subst (λ (d : List ℕ). LinkStandsBy without_commands IsReadAs (record (link_over number old) { down = d }) t.link) (append_assoc old.down line.out nop) (laws.nop (link_over number old) t.link is.stands))
             is.waits is.unnamed is.stored)
 
     -- something happens elsewhere

@@ -33,7 +33,7 @@ use Rattle.world3270.specs.Readings.{AreReadAs, IsReadAs, MayComeUp}
 use Rattle.world3270.specs.Rules.{Operates}
 use Rattle.world3270.specs.Sendable.{CanBeSent}
 use Rattle.world3270.specs.Standing.{with_out}
-use Rattle.world3270.specs.Stands.{BytesDown, BytesStand, Holds, LinkStandsBy, StandsDown, StandsUp, without_nops}
+use Rattle.world3270.specs.Stands.{BytesDown, BytesStand, Holds, LinkStandsBy, StandsDown, StandsUp, without_commands, without_nops}
 use Rattle.world3270.specs.StandsEnds.{NopHasNoEffect, TakesKeepSendable, TermTakes, WritesAreMarked, is_painted}
 use Rattle.world3270.specs.StandsLinks.{MayComeAll, NoneCloses, StandsGoOn, StandsJoin, any_painted, took_down}
 use Rattle.world3270.specs.Terminal.{Display, TermEnd, TermStep, is_bound, once_bound, took}
@@ -121,7 +121,7 @@ pairs_become R S becomes (x ∷ xs) (y ∷ ys) h = (becomes x y h.0, pairs_becom
 ours_read : ItemsAreRead → (link now : Link) (old new : TrackedTerminal) (behind : List ℕ) → old.terminal.out ≡ [] → (ran : Ran link now old new behind) → AreReadAs new.terminal.out ran.sends
 ours_read written link now old new behind silent ran =
     subst (λ (b : List ℕ). AreReadAs b ran.sends) (sym (ran.out ∙ ap (λ (b : List ℕ). b ++ sent_bytes ran.says) silent))
-    (written_stand without_nops IsReadAs written ran.says ran.sends ran.fit
+    (written_stand without_commands IsReadAs written ran.says ran.sends ran.fit
     (subst (λ (items : List WireItem). Pairwise IsReadAs items ran.sends) (sym (all_heard ran.says ran.sends ran.said))
     (pairs_become StandsUp IsReadAs stands_read ran.says ran.sends ran.said)))
 
@@ -237,7 +237,7 @@ pub record TakesLaws : Type 0 where
   pub final : WrongIsFinal
   pub marks : WritesAreMarked
   pub written : ItemsAreRead
-  pub join : StandsJoin without_nops IsReadAs
+  pub join : StandsJoin without_commands IsReadAs
 
 module _ (laws : TakesLaws) (app : Application) (Good : Told → Type 0) (kept : IsKept app Good) where
   pub takes_goes : (number : ℕ) (old new : OverBytes) (t : Told) → Good t → Represents number old t → Takes old new → Goes app Good number new t
@@ -256,7 +256,7 @@ module _ (laws : TakesLaws) (app : Application) (Good : Told → Type 0) (kept :
       let said : AreReadAs comes.bytes ran.sends = comes.alike ran.sends (ours_read laws.written link (took_down taken others link) old.tracked comes.ours (comes.behind ++ out) term.silent ran) in
       let lost : false ≡ link.lost = is.stands.lost in
       let stands = ran_stands (link_over number old) link (took_down taken others link) (comes.behind ++ out) comes.bytes comes.ours is.stands ran
-      (subst (λ (l : Bool). BytesStand without_nops IsReadAs is.stands.read (sent l old.up comes.bytes) (sent l link.up ran.sends)) lost
+      (subst (λ (l : Bool). BytesStand without_commands IsReadAs is.stands.read (sent l old.up comes.bytes) (sent l link.up ran.sends)) lost
       (laws.join is.stands.read old.up comes.bytes link.up ran.sends is.stands.up said)) in
       let down = all_came app Good kept taken others t good one.came.whole in
       let bytes : OverBytes = record {
@@ -269,7 +269,7 @@ module _ (laws : TakesLaws) (app : Application) (Good : Told → Type 0) (kept :
       let back = sym down.link_is in
       let represents : Represents number bytes (after_moves app down.moves t) = record {
         is_open = is.is_open;
-        stands = subst (λ (l : Link). LinkStandsBy without_nops IsReadAs (link_over number bytes) l) back stands;
+        stands = subst (λ (l : Link). LinkStandsBy without_commands IsReadAs (link_over number bytes) l) back stands;
         waits = ap (λ (b : Bool). if b then false else old.waits) one.marked ∙ ap (λ (w : Bool). if any_painted link.term taken then false else w) is.waits ∙ sym down.waits_is;
         unnamed = ap (λ (l : Link). l.term.waits) down.link_is ∙ all_waits taken others link ∙ is.unnamed;
         stored = subst (λ (l : Link). CanBeSent l.term.display.shape l.term.display.screen) back ran.can;
@@ -331,12 +331,12 @@ module _ (laws : TakesLaws) (app : Application) (Good : Told → Type 0) (kept :
         waits = old.waits || is_queued step.sends;
       } in
       let lost : false ≡ link.lost = is.stands.lost in
-      let stands : LinkStandsBy without_nops IsReadAs (link_over number bytes) now = record {
+      let stands : LinkStandsBy without_commands IsReadAs (link_over number bytes) now = record {
         lost = is.stands.lost;
         host_here = is.stands.host_here;
         term_here = is.stands.term_here;
         read = is.stands.read;
-        up = subst (λ (l : Bool). BytesStand without_nops IsReadAs is.stands.read (sent false old.up does.bytes) (sent l link.up step.sends)) lost
+        up = subst (λ (l : Bool). BytesStand without_commands IsReadAs is.stands.read (sent false old.up does.bytes) (sent l link.up step.sends)) lost
             (laws.join is.stands.read old.up does.bytes link.up step.sends is.stands.up does.spelt);
         host = λ there. let host = is.stands.host there in record { host = host.host; rest_is = host.rest_is };
         term = λ which its. record {
@@ -362,24 +362,24 @@ module _ (laws : TakesLaws) (app : Application) (Good : Told → Type 0) (kept :
       (subst (λ (b : OverBytes). Represents number b (operated step t)) (sym does.leaves)
       (record {
         is_open = is.is_open;
-        stands = subst (λ (l : Link). LinkStandsBy without_nops IsReadAs (link_over number bytes) l) back stands;
+        stands = subst (λ (l : Link). LinkStandsBy without_commands IsReadAs (link_over number bytes) l) back stands;
         waits = ap (λ (w : Bool). w || is_queued step.sends) is.waits;
         unnamed = ap (λ (l : Link). l.term.waits) link_is ∙ left.waits ∙ is.unnamed;
         stored = subst (λ (l : Link). CanBeSent l.term.display.shape l.term.display.screen) back does.stored;
       }))
 
-  -- ---- it sends NOPs
+  -- ---- it sends commands that the host takes as nothing
 
-  pub nops_goes : (number : ℕ) (bytes : List ℕ) (old : OverBytes) (t : Told) → Good t → Represents number old t → AreReadAs bytes [] → Goes app Good number (record old { up = old.up ++ bytes }) t
-  nops_goes number bytes old t good is nops = stays app Good number (record old { up = old.up ++ bytes }) t good (record {
+  pub commands_goes : (number : ℕ) (bytes : List ℕ) (old : OverBytes) (t : Told) → Good t → Represents number old t → AreReadAs bytes [] → Goes app Good number (record old { up = old.up ++ bytes }) t
+  commands_goes number bytes old t good is commands = stays app Good number (record old { up = old.up ++ bytes }) t good (record {
     is_open = is.is_open;
     stands = record {
       lost = is.stands.lost;
       host_here = is.stands.host_here;
       term_here = is.stands.term_here;
       read = is.stands.read;
-      up = subst (λ (messages : List ToHost). BytesStand without_nops IsReadAs is.stands.read (old.up ++ bytes) messages) (append-nil t.link.up)
-          (laws.join is.stands.read old.up bytes t.link.up [] is.stands.up nops);
+      up = subst (λ (messages : List ToHost). BytesStand without_commands IsReadAs is.stands.read (old.up ++ bytes) messages) (append-nil t.link.up)
+          (laws.join is.stands.read old.up bytes t.link.up [] is.stands.up commands);
       host = λ there. let host = is.stands.host there in record { host = host.host; rest_is = host.rest_is };
       term = λ which its. let term = is.stands.term which its in record {
         rest = term.rest;

@@ -23,6 +23,7 @@ use Rattle.datastream.specs.Screen.{Screen}
 use Rattle.datastream.specs.Wanted.{WantedScreen}
 use Rattle.datastream.specs.declared.wanted.Want.{Want}
 use Rattle.datastream.specs.declared.wanted.Want.TheVariants.{Char as WantChar, Attr as WantAttr, Keep}
+use Rattle.shadow.specs.RuleBreaks.{rule_break}
 use Rattle.shadow.specs.Belief.{Shadow}
 use Rattle.shadow.specs.Exactness.{KnownIsExact, ProtectedIsExact}
 use Rattle.shadow.specs.Heard.{heard}
@@ -294,8 +295,9 @@ pub reads_on : (app : Application) (link : Link) (rest : List ToTerminal) (k : K
     → (screen : Screen) (erased : Bool) → length screen.cells ≡ cells_in link.term.display.shape → screen.cursor < cells_in link.term.display.shape
     → UnmodifiedIsKept erased link.term.display.last_restored.cells screen.cells → ProtectedIsAsLeft (message_place link.term.display.shape) link.term.display.last_restored.cells screen.cells
     → IsOkAnd (heard (length screen.cells) link.host.shadow (buffer_data link.host.shape screen)) (Believed false (record screen { aid = link.term.display.screen.aid }))
+    → rule_break link.host.shadow screen.cells ≡ None
     → Kept app (view_of (term_view (read_of screen erased link.term) rest link))
-reads_on app link rest k same lu number at f shown left screen erased whole on unreturned as_left will =
+reads_on app link rest k same lu number at f shown left screen erased whole on unreturned as_left will unbroken =
     let parts : InboundParts = buffer_data link.term.display.shape screen in
     record {
       whole = whole;
@@ -314,6 +316,7 @@ reads_on app link rest k same lu number at f shown left screen erased whole on u
         not_cleared = f.not_cleared;
         says = ap (λ (size : Shape). buffer_data size screen) same;
         will = subst (λ (n : ℕ). IsOkAnd (heard n link.host.shadow (buffer_data link.host.shape screen)) (Believed false (record screen { aid = link.term.display.screen.aid }))) (whole ∙ ap (λ (s : Shape). cells_in s) same) will;
+        unbroken = unbroken;
       };
       shown = shown;
     }
@@ -325,7 +328,8 @@ takes_read given app link rest k same lu number at f shown left =
     subst (Obeyed app link rest) (ap (λ b. once_bound b (read_came link.term) link.term) (sym (bound link k.wanted lu _ at)))
     (record {
       kept = reads_on app link rest k same lu number at f shown left link.term.display.screen link.term.display.erased k.whole k.cursor (k.unreturned f.not_cleared) (k.as_left f.not_cleared)
-          (given.belief.reads link.host.shape link.host.shadow link.term.display.screen f.decides.sees.meets);
+          (given.belief.reads link.host.shape link.host.shadow link.term.display.screen f.decides.sees.meets)
+          (given.belief.unbroken false link.host.shadow link.term.display.screen link.term.display.screen f.decides.sees.meets (given.keys.at_first link.term.display.screen.cells));
       open_end = refl;
       positive = refl;
     })

@@ -24,8 +24,9 @@ use Rattle.host_core.specs.Application.{Application, IsApplication, message_plac
 use Rattle.host_core.specs.Messages.{ToHost, ToTerminal}
 use Rattle.host_core.specs.Questions.{question_in}
 use Rattle.host_core.specs.Session.{Conn, agreed_lu, new_conn}
+use Rattle.host_core.specs.Takes.{may_have_changed}
 use Rattle.host_core.specs.declared.question.Question.{Question}
-use Rattle.host_core.specs.declared.terminals.Terminals.TheVariants.{Any}
+use Rattle.host_core.specs.declared.turn.Turn.TheVariants as whose
 use Rattle.world3270.specs.Asked.{AreFieldsAsked, IsSeen}
 use Rattle.world3270.specs.EveryTerminal.{AreByTheRules, Begins, EveryTerminal, IsByTheRules, Move, RightOf, Told, after_moves, came_down, came_up, moved, told_link}
 use Rattle.world3270.specs.Given.{Given}
@@ -61,7 +62,7 @@ module _ (given : Given) (app : Application) (is : IsApplication app) (lu : List
   blank = new_display (model_of b.device) app.begins
 
   abbrev host : Conn
-  host = record (new_conn Any app) { talk = t.link.host.talk }
+  host = record (new_conn b.serves app) { talk = t.link.host.talk }
 
   -- the waiting terminal's link
   abbrev begun : Link
@@ -121,7 +122,7 @@ module _ (given : Given) (app : Application) (is : IsApplication app) (lu : List
     told = begun;
     kept = begun_kept;
     agreed = ap agreed_lu b.agreed;
-    any = refl;
+    any = ap may_have_changed b.any;
     unsure = refl;
     display = sym (ap (λ (d : Display). record d { keyboard = blank.keyboard }) (b.told ∙ b.blank));
     waits = b.waits;

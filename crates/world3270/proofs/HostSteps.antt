@@ -26,7 +26,8 @@ use Rattle.host_core.specs.declared.turn_reason.TurnReason.TheVariants as turn_r
 use Rattle.host_core.specs.declared.unheard.Unheard.TheVariants as unheards
 use Rattle.host_core.specs.Session.{Conn, Pending, is_agreed}
 use Rattle.host_core.specs.Rejections.{lu_asked}
-use Rattle.host_core.specs.Takes.{Answers, HostStep, quiet, closed_by, replied, granted_by, asked, talked_on, hears, believed, once_read, buffer_came, key_came, key_data_came, data_came, answered, refused, write_refused, if_answers, verdict_came, read_verdict_came, response_came, once_agreed, dropping, second_key, second_key_data, out_of_turn, may_have_changed, took}
+use Rattle.shadow.specs.declared.rule_break.RuleBreak.{RuleBreak}
+use Rattle.host_core.specs.Takes.{buffer_heard, rule_broken_by, unless_broken, Answers, HostStep, quiet, closed_by, replied, granted_by, asked, talked_on, hears, believed, once_read, buffer_came, key_came, key_data_came, data_came, answered, refused, write_refused, if_answers, verdict_came, read_verdict_came, response_came, once_agreed, dropping, second_key, second_key_data, out_of_turn, may_have_changed, took}
 
 -- its command still waits for its answer, or nothing does
 pub record JustTalks (old : Conn) (step : HostStep) : Type 0 where
@@ -131,7 +132,11 @@ read_reason turn_reasons.Refusal = inl refl
 read_reason (turn_reasons.Key aid buffered) = inr (λ e. cc)
 
 hears_buffer : (parts : InboundParts) (form : Form) (conn : Conn) → JustTalks conn (buffer_came parts form conn)
-hears_buffer parts Buffer conn = believes (once_read conn.turn_reason) Pending.Nothing parts.cursor conn (hears parts conn) (inr refl) (read_reason conn.turn_reason)
+hears_buffer parts Buffer conn = by_break (rule_broken_by parts conn)
+  where
+    by_break : (broken : Option RuleBreak) → JustTalks conn (unless_broken conn broken (buffer_heard parts conn))
+    by_break None = believes (once_read conn.turn_reason) Pending.Nothing parts.cursor conn (hears parts conn) (inr refl) (read_reason conn.turn_reason)
+    by_break (Some broken) = record { number = refl; panel = refl; values = refl; message = refl; turn = λ is. is; pending = inl refl; unheard = inl refl; reason = inl refl; talk = []; says = refl }
 hears_buffer parts Modified conn = comes_out_of_turn parts conn
 hears_buffer parts AllModified conn = comes_out_of_turn parts conn
 

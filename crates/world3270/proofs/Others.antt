@@ -37,7 +37,8 @@ use Rattle.host_core.specs.declared.turn_reason.TurnReason.{TurnReason}
 use Rattle.host_core.specs.declared.turn_reason.TurnReason.TheVariants as turn_reasons
 use Rattle.host_core.specs.Session.{Conn, Pending, is_agreed}
 use Rattle.host_core.specs.Rejections.{lu_asked}
-use Rattle.host_core.specs.Takes.{Answers, HostStep, quiet, closed_by, asked, talked_on, hears, believed, once_read, buffer_came, key_came, key_data_came, data_came, refused, write_refused, if_answers, verdict_came, read_verdict_came, response_came, once_agreed, second_key, second_key_data, out_of_turn, may_have_changed, took as host_took}
+use Rattle.shadow.specs.declared.rule_break.RuleBreak.{RuleBreak}
+use Rattle.host_core.specs.Takes.{buffer_heard, rule_broken_by, unless_broken, Answers, HostStep, quiet, closed_by, asked, talked_on, hears, believed, once_read, buffer_came, key_came, key_data_came, data_came, refused, write_refused, if_answers, verdict_came, read_verdict_came, response_came, once_agreed, second_key, second_key_data, out_of_turn, may_have_changed, took as host_took}
 use Rattle.host_core.specs.Questions.{answered_on}
 use Rattle.world3270.specs.Always.{Always}
 use Rattle.world3270.specs.Given.{Given}
@@ -187,7 +188,11 @@ out_of_turn_grants parts conn = by_test (may_have_changed conn.unheard)
     by_test false = refl
 
 buffer_grants : (parts : InboundParts) (form : Form) (conn : Conn) → (buffer_came parts form conn).grants ≡ None
-buffer_grants parts Buffer conn = believed_grants (once_read conn.turn_reason) Pending.Nothing parts.cursor conn (hears parts conn)
+buffer_grants parts Buffer conn = by_break (rule_broken_by parts conn)
+  where
+    by_break : (broken : Option RuleBreak) → (unless_broken conn broken (buffer_heard parts conn)).grants ≡ None
+    by_break None = believed_grants (once_read conn.turn_reason) Pending.Nothing parts.cursor conn (hears parts conn)
+    by_break (Some broken) = refl
 buffer_grants parts Modified conn = out_of_turn_grants parts conn
 buffer_grants parts AllModified conn = out_of_turn_grants parts conn
 

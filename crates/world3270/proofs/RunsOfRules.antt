@@ -97,6 +97,8 @@ begins : Begins example l1 (agreed_with Any l1)
 begins = record {
   device = device_for M2;
   agreed = refl;
+  serves = Any;
+  any = refl;
   host = refl;
   binds = Binds.bound refl refl;
   blank = refl;

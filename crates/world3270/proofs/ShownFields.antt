@@ -37,6 +37,7 @@ use Rattle.host_core.specs.Acts.{Act, Decision, after_key, belief_of, decision_o
 use Rattle.host_core.specs.Application.{Application, IsApplication}
 use Rattle.host_core.specs.Questions.{act_by, has_value_of}
 use Rattle.host_core.specs.Session.{Conn, model_in}
+use Rattle.host_core.specs.Takes.{is_verified}
 use Rattle.host_core.specs.declared.question.Answer.{Answer as Said}
 use Rattle.host_core.specs.declared.turn_reason.TurnReason.{TurnReason}
 use Rattle.host_core.specs.declared.turn_reason.TurnReason.TheVariants as turn_reasons
@@ -172,6 +173,11 @@ unmarked : (b : Bool) → (b && true) ≡ false → b ≡ false
 unmarked true e = absurd (cc)
 unmarked false e = refl
 
+-- nothing is in doubt, whether the host verifies its terminals or not
+unverified : (verified doubted : Bool) → ((verified || doubted) && true) ≡ false → doubted ≡ false
+unverified true doubted e = absurd (cc)
+unverified false doubted e = unmarked doubted e
+
 module _ (app : Application) (conn : Conn) where
   its_values : IsSure app conn → Keeps app conn conn.panel (learned conn.shadow (app.fields conn.panel) conn.values)
   its_values sure = record { again = refl; learnt = λ index field at. refl; sure = sure }
@@ -196,10 +202,10 @@ module _ (app : Application) (conn : Conn) where
   sure_then : (aid : Aid) (buffered : Bool) → IsKnownIfRead (turn_reasons.Key aid buffered) conn.shadow → (is_to_be_read app conn aid && not buffered) ≡ false → IsSure app conn
   sure_then aid true read unread = inr read
   sure_then (Pa key) false read unread = absurd (cc)
-  sure_then NoAid false read unread = inl (unmarked (list_any (is_in_doubt conn.shadow) (app.fields conn.panel)) unread)
-  sure_then Enter false read unread = inl (unmarked (list_any (is_in_doubt conn.shadow) (app.fields conn.panel)) unread)
-  sure_then Clear false read unread = inl (unmarked (list_any (is_in_doubt conn.shadow) (app.fields conn.panel)) unread)
-  sure_then (Pf key) false read unread = inl (unmarked (list_any (is_in_doubt conn.shadow) (app.fields conn.panel)) unread)
+  sure_then NoAid false read unread = inl (unverified (is_verified conn) (list_any (is_in_doubt conn.shadow) (app.fields conn.panel)) unread)
+  sure_then Enter false read unread = inl (unverified (is_verified conn) (list_any (is_in_doubt conn.shadow) (app.fields conn.panel)) unread)
+  sure_then Clear false read unread = inl (unverified (is_verified conn) (list_any (is_in_doubt conn.shadow) (app.fields conn.panel)) unread)
+  sure_then (Pf key) false read unread = inl (unverified (is_verified conn) (list_any (is_in_doubt conn.shadow) (app.fields conn.panel)) unread)
 
   key_keeps : (aid : Aid) (buffered : Bool) → IsKnownIfRead (turn_reasons.Key aid buffered) conn.shadow → KeepsIn app conn (after_key app conn aid buffered)
   key_keeps aid buffered read = by_aid aid read

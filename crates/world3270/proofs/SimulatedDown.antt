@@ -163,7 +163,8 @@ module _ (given : Given) (app : Application) (is : IsApplication app) (lu : List
       (subst (λ (size : ℕ). screen.cursor < size) (since.held.same_length ∙ s.kept.whole) since.cursor)
       (still_kept given.keys.round end.term.display.erased since.erased end.term.display.last_restored.cells old.cells screen.cells (s.kept.unreturned comes.fact.not_cleared) since.held)
       (still_as_left given.keys.round since.erased row end.term.display.last_restored.cells old.cells screen.cells (s.kept.as_left comes.fact.not_cleared) since.held)
-      (reads_input given.keys.round given.belief.reads given.belief.doubt_input end.host.shape since.erased end.host.shadow old heard_as comes.fact.decides.sees.meets since.held) in
+      (reads_input given.keys.round given.belief.reads given.belief.doubt_input end.host.shape since.erased end.host.shadow old heard_as comes.fact.decides.sees.meets since.held)
+      (given.belief.unbroken since.erased end.host.shadow old heard_as comes.fact.decides.sees.meets since.held) in
       let said : ToHost = ToHost.Data (buffer_data end.term.display.shape screen) in
       let same_aid : old.aid ≡ t.told.screen.aid = ap (λ (d : Display). d.screen.aid) s.display in
       subst (λ (b : Bool). Simulated app lu (taken_so b (ToTerminal.ReadBuffer number) (read_came now.term) rest)) (sym (bound_now (bound end s.kept.wanted comes.lu _ comes.at)))

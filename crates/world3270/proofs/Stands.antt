@@ -62,7 +62,7 @@ use Rattle.term_core.proofs.Lengths.{read_buffer_fits, read_modified_fits}
 use Rattle.world3270.proofs.StandsFits.{talk_comes}
 use Rattle.world3270.specs.Sendable.{CanBeSent}
 use Rattle.host_core.specs.Says.{command_header, read_buffer_command}
-use Rattle.world3270.specs.Stands.{BytesStand, IsPaint, IsRead, IsNoted, StandsDown, StandsUp, IsEnd, all_items, is_nop, without_nops, sized}
+use Rattle.world3270.specs.Stands.{BytesStand, IsPaint, IsRead, IsNoted, StandsDown, StandsUp, IsEnd, all_items, is_bare_command, is_nop, without_commands, without_nops, sized}
 use Rattle.world3270.specs.TrackedTerminals.{History, ByteEnd, ByteStep, restored_by}
 use Rattle.world3270.specs.StandsEnds.{PaintStands, IsSaid, NamesWanted, IsOpen, ItemComes, TermTakes, is_painted, NopHasNoEffect, WritesAreMarked, TermPresses, MayBePainted, MayTakeNote}
 use Rattle.world3270.specs.StandsLinks.{NothingStands, StandsCompose, StandsJoin, StandsGoOn, BeginStands}
@@ -631,18 +631,18 @@ all_spoken (item ∷ items) (message ∷ messages) pairs =
     ap (λ (b : Bool). cond (not b) (item ∷ without_nops items) (without_nops items)) (is_spoken item message pairs.0)
     ∙ ap (λ (l : List WireItem). item ∷ l) (all_spoken items messages pairs.1)
 
--- nor is one to the host
-is_heard : (item : WireItem) (message : ToHost) → StandsUp item message → is_nop item ≡ false
-is_heard item (ToHost.TalksUp (Saying.Opt verb code)) stands = ap is_nop stands
-is_heard item (ToHost.TalksUp (Saying.Sub sending)) stands = ap is_nop stands
-is_heard item (ToHost.Data parts) stands = ap is_nop stands.2
-is_heard item (ToHost.Response number verdict) stands = ap is_nop stands.1
+-- one to the host is no bare command
+is_heard : (item : WireItem) (message : ToHost) → StandsUp item message → is_bare_command item ≡ false
+is_heard item (ToHost.TalksUp (Saying.Opt verb code)) stands = ap is_bare_command stands
+is_heard item (ToHost.TalksUp (Saying.Sub sending)) stands = ap is_bare_command stands
+is_heard item (ToHost.Data parts) stands = ap is_bare_command stands.2
+is_heard item (ToHost.Response number verdict) stands = ap is_bare_command stands.1
 
-pub all_heard : (items : List WireItem) (messages : List ToHost) → Pairwise StandsUp items messages → without_nops items ≡ items
+pub all_heard : (items : List WireItem) (messages : List ToHost) → Pairwise StandsUp items messages → without_commands items ≡ items
 all_heard [] messages pairs = refl
 all_heard (item ∷ items) [] pairs = absurd pairs
 all_heard (item ∷ items) (message ∷ messages) pairs =
-    ap (λ (b : Bool). cond (not b) (item ∷ without_nops items) (without_nops items)) (is_heard item message pairs.0)
+    ap (λ (b : Bool). cond (not b) (item ∷ without_commands items) (without_commands items)) (is_heard item message pairs.0)
     ∙ ap (λ (l : List WireItem). item ∷ l) (all_heard items messages pairs.1)
 
 -- of two lists, one behind the other
@@ -654,6 +654,9 @@ all_piecewise front back = refl
 
 pub nops_piecewise : IsPiecewise without_nops
 nops_piecewise front back = filter-append (λ (item : WireItem). not (is_nop item)) front back
+
+pub commands_piecewise : IsPiecewise without_commands
+commands_piecewise front back = filter-append (λ (item : WireItem). not (is_bare_command item)) front back
 
 -- ---- queues
 

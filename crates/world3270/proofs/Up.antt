@@ -15,6 +15,9 @@ use Rattle.datastream.specs.declared.inbound_part.Form.TheVariants.{Modified, Bu
 use Rattle.lu_pool.specs.Asking.{answer_to}
 use Rattle.lu_pool.specs.HolderLaws.{IsSound}
 use Rattle.lu_pool.specs.declared.entry.Entry.{Entry}
+use Rattle.shadow.specs.RuleBreaks.{rule_break}
+use Rattle.shadow.specs.declared.rule_break.RuleBreak.{RuleBreak}
+use Rattle.shadow.proofs.Sent.{cells_back}
 use Rattle.shadow.specs.Belief.{Shadow, fields_of}
 use Rattle.shadow.specs.Exactness.{KnownIsExact, ProtectedIsExact}
 use Rattle.shadow.specs.Heard.{heard, heard_form}
@@ -43,7 +46,7 @@ use Rattle.host_core.specs.declared.turn_reason.TurnReason.TheVariants as turn_r
 use Rattle.host_core.specs.Session.{Conn, Pending, is_agreed}
 use Rattle.host_core.specs.Rejections.{lu_asked}
 use Rattle.host_core.specs.declared.rejection.Rejection.{Rejection}
-use Rattle.host_core.specs.Takes.{HostStep, Answers, quiet, with_talk, replied, granted_by, talked_on, talked, hears, believed, once_read, key_came, key_data_came, data_came, answered, if_answers, response_came, once_agreed, took}
+use Rattle.host_core.specs.Takes.{buffer_heard, is_verified, rule_broken_by, unless_broken, HostStep, Answers, quiet, with_talk, replied, granted_by, talked_on, talked, hears, believed, once_read, key_came, key_data_came, data_came, answered, if_answers, response_came, once_agreed, took}
 use Rattle.std.specs.Prelude.{All, map, unwrap_or, if◌then◌else◌}
 use Rattle.std.proofs.lemmas.List.Elements.{All-nil, All-cons}
 use Rattle.world3270.specs.Given.{Given}
@@ -95,7 +98,7 @@ leads link step rest wanted from to at l talk turn pending left = record {
 -- ---- the talk
 
 abbrev talk_step : Link → Talk HostState → List ToTerminal → Option (List ℕ) → Option Rejection → HostStep
-talk_step link next sends grants rejects = record { conn = with_talk link.host next; sends = sends; grants = grants; rejects = rejects; drops = None; closes = None }
+talk_step link next sends grants rejects = record { conn = with_talk link.host next; sends = sends; grants = grants; rejects = rejects; drops = None; breaks = None; closes = None }
 
 -- the talk moves on, by a step that is known
 talks : (app : Application) (pool : List Entry) (link : Link) (rest : List ToHost) (k : Kept app (view_of link)) (from to : Talking) (saying : Saying) (sends : List ToTerminal) (grants : Option (List ℕ)) (rejects : Option Rejection) (message : ToHost)
@@ -253,11 +256,18 @@ key_took pool conn parts aid agrees turns time form is some =
     ∙ key_data_took parts conn aid form is some
 
 pub buffer_took : (pool : Answers) (conn : Conn) (size : Shape) (screen : Screen) (number : ℕ) → is_agreed conn.talk.state ≡ true → conn.pending ≡ Pending.Reading number
+    → rule_broken_by (buffer_data size screen) conn ≡ None
     → took pool conn (ToHost.Data (buffer_data size screen)) ≡ believed (once_read conn.turn_reason) Pending.Nothing (buffer_data size screen).cursor conn (hears (buffer_data size screen) conn)
-buffer_took pool conn size screen number agrees pends =
+buffer_took pool conn size screen number agrees pends unbroken =
     let parts : InboundParts = buffer_data size screen in
     ap (λ b. once_agreed b (data_came parts conn.turn conn.pending conn) conn) agrees
     ∙ ap (λ p. data_came parts conn.turn p conn) pends
+    ∙ ap (λ (b : Option RuleBreak). unless_broken conn b (buffer_heard parts conn)) unbroken
+
+-- no rule is broken, whether the host verifies that or not
+none_broken : (verified : Bool) (broken : Option RuleBreak) → broken ≡ None → (if verified then broken else None) ≡ None
+none_broken true broken none = none
+none_broken false broken none = refl
 
 -- nothing is open, so much the less after some keys
 all_open : (aid : Aid) (buffered : Bool) (s : Shadow) → NothingIsOpen s → IsOpenBy aid buffered s
@@ -372,7 +382,8 @@ module _ (given : Given) (app : Application) (pool : List Entry) (link : Link) (
       let said : Screen = record screen { aid = parts.aid } in
       let read : InboundParts = buffer_data link.host.shape said in
       as_step app pool link rest k (ToHost.Data read) message (believed (once_read link.host.turn_reason) Pending.Nothing read.cursor link.host (hears read link.host)) (e ∙ ap (λ p. ToHost.Data p) f.says)
-      (buffer_took (answer_to pool) link.host link.host.shape said number (agreed_at app pool link rest k lu (Serving.Reported number parts) at) at.pending)
+      (buffer_took (answer_to pool) link.host link.host.shape said number (agreed_at app pool link rest k lu (Serving.Reported number parts) at) at.pending
+      (none_broken (is_verified link.host) (rule_break link.host.shadow (cells_sent read.parts)) (ap (rule_break link.host.shadow) (cells_back screen.cells) ∙ f.unbroken)))
       (believes lu (Serving.Reported number parts) Serving.Deciding read (once_read link.host.turn_reason) Pending.Nothing read.cursor (λ s. Sees link.host.unheard link.host.shape screen s × NothingIsOpen s × All IsTextKnown (fields_of s)) (hears read link.host) at
       (given.belief.heard_exact size link.host.shadow read k.exact.known) (given.belief.heard_protected size link.host.shadow read k.exact.protected)
       (by_result (heard size link.host.shadow read) f.will

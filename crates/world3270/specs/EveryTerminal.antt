@@ -21,11 +21,12 @@ use Rattle.host_core.specs.Application.{Application, IsApplication}
 use Rattle.host_core.specs.Messages.{ToTerminal, ToHost, Verdict}
 use Rattle.host_core.specs.Notes.{IsNoteText, noted}
 use Rattle.host_core.specs.Questions.{answered_on, question_in}
-use Rattle.host_core.specs.Session.{agreed_lu, new_conn}
+use Rattle.host_core.specs.Session.{agreed_lu, new_conn, unheard_of}
 use Rattle.host_core.specs.Takes.{took as host_took}
 use Rattle.host_core.specs.declared.question.Answer.{Answer as Said}
 use Rattle.host_core.specs.declared.question.Question.{Question}
-use Rattle.host_core.specs.declared.terminals.Terminals.TheVariants.{Any}
+use Rattle.host_core.specs.declared.terminals.Terminals.{Terminals}
+use Rattle.host_core.specs.declared.unheard.Unheard.TheVariants.{Input}
 use Rattle.world3270.specs.Asked.{AreFieldsAsked, IsSeen, ShowsItsFields}
 use Rattle.world3270.specs.Headline.{Agrees, IsHostsTurn, SeesTheScreen}
 use Rattle.world3270.specs.Link.{Link, cut, host_sent, host_stepped, term_stepped}
@@ -162,13 +163,15 @@ AreByTheRules app (move ∷ moves) t = IsByTheRules move t × AreByTheRules app 
 -- ---- agreement
 
 -- Both ends as they are once the host has agreed on this LU (RFC 1647, section 7): the host as at the begin of the
--- connection, but for its talk; the terminal bound, or about to be, with a blank screen of the size at which each
+-- connection, but for its talk, and whether it verifies its terminals or not; the terminal bound, or about to be, with a blank screen of the size at which each
 -- connection begins, and of the model of the type that it asked for, with -E or without. Which functions were asked
 -- for and countered is of no matter.
 pub record Begins (app : Application) (lu : List ℕ) (t : Told) : Type 0 where
   pub device : Device
   pub agreed : t.link.host.talk.state ≡ HostAgreed device lu
-  pub host : t.link.host ≡ record (new_conn Any app) { talk = t.link.host.talk }
+  pub serves : Terminals
+  pub any : unheard_of serves ≡ Input
+  pub host : t.link.host ≡ record (new_conn serves app) { talk = t.link.host.talk }
   pub binds : Binds lu t.link.term.talk.talk.state t.link.down
   pub blank : t.link.term.display ≡ record (new_display (model_of device) app.begins) { keyboard = t.link.term.display.keyboard }
   pub nothing_up : t.link.up ≡ []

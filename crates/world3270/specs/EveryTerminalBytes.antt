@@ -28,7 +28,7 @@ use Rattle.world3270.specs.Readings.{AreReadAs, IsReadAs}
 use Rattle.world3270.specs.Rules.{Operates}
 use Rattle.world3270.specs.Sendable.{CanBeSent}
 use Rattle.world3270.specs.Standing.{conn_of, rest_of, with_out}
-use Rattle.world3270.specs.Stands.{ByteLink, LinkStandsBy, sized, without_nops}
+use Rattle.world3270.specs.Stands.{ByteLink, LinkStandsBy, sized, without_commands}
 use Rattle.world3270.specs.Terminal.{Display, TermEnd, TermStep}
 use Rattle.world3270.specs.TrackedTerminals.{TrackedTerminal, TrackedTakesByte}
 
@@ -119,7 +119,7 @@ pub record IsElsewhere (number : ℕ) (old new : Host) : Type 0 where
 
 -- Bytes that came up are fed to the host, which may stop before the last of them; it hands bytes over; it acts, is answered by the application, or
 -- sends a note, where memory may be refused; it keeps the connection alive; something happens elsewhere. The terminal
--- takes a byte, is operated, or sends NOPs.
+-- takes a byte, is operated, or sends NOPs and other commands that the host takes as nothing.
 pub data Moves (app : Application) (number : ℕ) (old new : OverBytes) : Type 0 where
   feeds : (bytes behind : List ℕ) (fed : Fed) (counter : Counter) → old.up ≡ bytes ++ behind → Feeds number (counter_at number old.host) bytes fed counter
       → new ≡ record old { host = with_counter number counter old.host; up = drop fed.taken bytes ++ behind } → Moves app number old new
@@ -139,7 +139,7 @@ pub data Moves (app : Application) (number : ℕ) (old new : OverBytes) : Type 0
   elsewhere : (host : Host) → IsElsewhere number old.host host → new ≡ with_host host old → Moves app number old new
   takes : Takes old new → Moves app number old new
   operates : (step : TermStep) → IsOperated step old new → Moves app number old new
-  sends_nops : (bytes : List ℕ) → AreReadAs bytes [] → new ≡ record old { up = old.up ++ bytes }
+  sends_commands : (bytes : List ℕ) → AreReadAs bytes [] → new ≡ record old { up = old.up ++ bytes }
       → Moves app number old new
 
 -- what holds of each value of `Host`
@@ -170,7 +170,7 @@ link_over number bytes = record {
 -- Both ends are those of the connection over messages, and the bytes under way are its messages.
 pub record Represents (number : ℕ) (bytes : OverBytes) (told : Told) : Type 0 where
   pub is_open : IsOpen (service_at number bytes.host)
-  pub stands : LinkStandsBy without_nops IsReadAs (link_over number bytes) told.link
+  pub stands : LinkStandsBy without_commands IsReadAs (link_over number bytes) told.link
   pub waits : bytes.waits ≡ told.waits
   pub unnamed : told.link.term.waits ≡ false
   pub stored : CanBeSent told.link.term.display.shape told.link.term.display.screen

@@ -8,6 +8,7 @@ use Rattle.shadow.specs.Doubt.{DoubtAllowsInput, DoubtAllowsTheScreen, DoubtStay
 use Rattle.shadow.specs.Exactness.{NothingIsExact, HeardStaysExact, HeardStaysProtected, TakenStaysExact, PaintedIsExact, ProtectedIsSeen, ReturnedIsTold}
 use Rattle.shadow.specs.Laws.{HearsModified, HearsBuffer, PaintIsSpelt, PaintIsTaken, PaintedIsKnown, WantedIsPainted, WrittenIsTaken}
 use Rattle.shadow.specs.Notes.{PlacedStaysKnown, NoteStaysListed, NoteStaysTold, NoteStaysExact, NoteOpensNothing}
+use Rattle.shadow.specs.RuleBreaks.{RulesAreNotBroken}
 use Rattle.shadow.specs.Openness.{ClearIsHeard, LongOpensNothing, ReadLeavesNothingOpen, PaintOpensNothing}
 use Rattle.tn3270e_msg.specs.Laws.{NameIsReadAsItself}
 use Rattle.lu_pool.specs.HolderLaws.{PoolsAreSound, StaysSoundFree, StaysSoundGranted, StaysSoundBack, NobodyHolds, AnswersWhatIsFree, AnswersNames, AnswersTheName, GrantIsHeld, OthersStay, OthersKeep, BackIsFree}
@@ -18,6 +19,7 @@ use Rattle.host_core.specs.NoteLaws.{NotesAreNotes, NotesOverwrite, NotesAreOver
 pub record GivenBelief : Type 0 where
   pub hears : HearsModified
   pub reads : HearsBuffer
+  pub unbroken : RulesAreNotBroken
   pub spelt : PaintIsSpelt
   pub painted : WantedIsPainted
   pub taken : PaintIsTaken

@@ -17,7 +17,7 @@ use Rattle.host_core.specs.Messages.{ToHost, Verdict}
 use Rattle.host_core.specs.Session.{Conn}
 use Rattle.host_core.specs.Takes.{form_awaited}
 use Rattle.world3270.specs.Forms.{IsAwaitedBy}
-use Rattle.world3270.specs.Stands.{BytesStand, without_nops}
+use Rattle.world3270.specs.Stands.{BytesStand, without_commands}
 use Rattle.world3270.specs.StandsEnds.{IsSaid}
 
 -- ---- which items
@@ -49,9 +49,9 @@ IsReadAs item (ToHost.TalksUp saying) = item ≡ item_of saying
 IsReadAs item (ToHost.Data parts) = IsData item parts
 IsReadAs item (ToHost.Response number verdict) = IsResponse item number verdict
 
--- the bytes are whole items, which it reads as these messages, and NOPs among them as nothing
+-- the bytes are whole items, which it reads as these messages, and bare commands among them as nothing
 abbrev pub AreReadAs : List ℕ → List ToHost → Type 0
-AreReadAs bytes messages = BytesStand without_nops IsReadAs nothing bytes messages
+AreReadAs bytes messages = BytesStand without_commands IsReadAs nothing bytes messages
 
 -- ---- what may come next
 

@@ -13,6 +13,7 @@ use Rattle.datastream.specs.Wanted.{WantedScreen}
 use Rattle.datastream.specs.declared.inbound_part.Form.TheVariants.{Modified}
 use Rattle.keyboard.specs.declared.key.Lock.{Lock}
 use Rattle.keyboard.specs.declared.key.Lock.TheVariants.{Wait}
+use Rattle.shadow.specs.RuleBreaks.{rule_break}
 use Rattle.shadow.specs.Belief.{Shadow}
 use Rattle.shadow.specs.Exactness.{KnownIsExact, ProtectedIsExact}
 use Rattle.shadow.specs.Heard.{heard}
@@ -174,6 +175,7 @@ pub record IsReported (s : Scene) (parts : InboundParts) : Type 0 where
   pub not_cleared : s.screen.aid ≡ Clear → ⊥
   pub says : parts ≡ buffer_data s.shape (record s.screen { aid = parts.aid })
   pub will : WillBeHeard s.shape s.shadow (buffer_data s.shape s.screen) (Believed false s.screen)
+  pub unbroken : rule_break s.shadow s.screen.cells ≡ None
 
 -- a note that may be written on the screen
 pub record MayBeNoted (s : Scene) (command : CommandParts) : Type 0 where

@@ -1,6 +1,6 @@
 -- When bytes represent messages: what is under way in each direction spells them, one item each,
--- and nothing else but NOPs (RFC 854; RFC 1647, sections 8.1 and 10.4; what is sent when is our
--- profile).
+-- and nothing else but NOPs to the terminal, and commands that the host takes as nothing (RFC 854;
+-- RFC 1647, sections 8.1 and 10.4; what is sent when is our profile).
 use Rattle.std.specs.Prelude.{◌≡◌, ◌≢◌, ◌<◌, ◌^◌, ◌==◌, not, ℕ, Bool, true, false, List, [], filter, Option, Some}
 use Rattle.datastream.specs.declared.command_code.CommandCode.TheVariants.{Write}
 use Rattle.presentation.specs.Sizes.{SizedScreen}
@@ -97,9 +97,21 @@ is_nop (Record bytes) = false
 is_nop (Opt verb code) = false
 is_nop (Sub bytes) = false
 
--- each item but NOP does: to a terminal, and to the host of any terminal
+-- to the terminal each item but NOP does
 abbrev pub without_nops : List WireItem → List WireItem
 without_nops items = filter (λ item. not (is_nop item)) items
+
+-- The host takes a command as nothing, unless it is of an option or a subnegotiation: NOP, BREAK, INTERRUPT PROCESS,
+-- ABORT OUTPUT and the like (RFC 854, "TELNET Command Structure"; our profile).
+abbrev pub is_bare_command : WireItem → Bool
+is_bare_command (Other code) = true
+is_bare_command (Record bytes) = false
+is_bare_command (Opt verb code) = false
+is_bare_command (Sub bytes) = false
+
+-- to the host of any terminal each other item does
+abbrev pub without_commands : List WireItem → List WireItem
+without_commands items = filter (λ item. not (is_bare_command item)) items
 
 -- to the host of our terminal each does
 abbrev pub all_items : List WireItem → List WireItem

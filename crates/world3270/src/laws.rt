@@ -40,7 +40,7 @@ use shadow::laws::{
     painted_fields_are_there, what_a_note_leaves, what_is_believed_has_a_size, what_is_exact_is_so,
     what_is_in_doubt_is_allowed, what_is_known_is_exact, what_is_protected_is_exact,
     what_is_read_is_heard, what_is_sent_is_heard, what_is_wanted_is_painted,
-    what_is_written_is_taken, what_leaves_nothing_open,
+    rules_are_not_broken, what_is_written_is_taken, what_leaves_nothing_open,
 };
 use tn3270e_msg::laws::one_reading;
 
@@ -50,6 +50,7 @@ fn what_is_given()
 {
     what_is_sent_is_heard();
     what_is_read_is_heard();
+    rules_are_not_broken();
     what_is_wanted_is_painted();
     what_is_known_is_exact();
     what_is_protected_is_exact();
@@ -414,8 +415,9 @@ pub fn every_terminal()
 /// Law: the same over bytes, in the words of the calls of `Host`, whatever other clients do. The host is
 /// fed the bytes that come up, however they are cut; it hands bytes over, acts, is answered by the
 /// application, sends notes and NOPs, where memory may be refused; the terminal takes each byte as
-/// RFC 1647 and GA23-0059 say, spells what it sends as it likes, and sends NOPs. The bytes represent a
-/// connection over messages after moves that keep the rules, of which the law above speaks.
+/// RFC 1647 and GA23-0059 say, spells what it sends as it likes, and sends NOPs and other commands that
+/// the host takes as nothing. The bytes represent a connection over messages after moves that keep the
+/// rules, of which the law above speaks.
 pub fn every_terminal_over_bytes()
     ensures { EveryTerminalOverBytes }
 {

@@ -8,6 +8,7 @@
 //! act C; note C BYTES
 //! out C; sent C N; closed C
 //! rejected C; dropped C    the oldest rejection, or dropped key, that wasn't reported
+//! broken C             the rule that the terminal broke, and the cell
 //! question C           none, memory, or the question's parts
 //! answer C SESSION TURN MESSAGE [FIELD BYTES]    a message, and a field's value
 //! state C              phase, model, turn, and the command that waits for its answer
@@ -148,6 +149,10 @@ fn look(host: &mut Host, conn: usize, word: &str, talk: &mut Talk<'_>) -> Result
         "rejected" => put_rejection(talk, host.next_rejection(conn))?,
         "dropped" => match host.next_dropped_key(conn) {
             Some(key) => writeln!(talk.answer, "{:02X}", aid_byte(key.aid))?,
+            None => talk.none()?,
+        },
+        "broken" => match host.rule_break(conn) {
+            Some(broken) => writeln!(talk.answer, "{:?} {}", broken.rule, broken.cell)?,
             None => talk.none()?,
         },
         "question" => match host.question(conn) {

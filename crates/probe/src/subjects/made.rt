@@ -38,12 +38,13 @@ impl<M: Made + Drop> Subject for Option<M> {
     }
 }
 
-/// What a host serves: terminals that wait (`waiting`) or `any`, and the panels of a text, one word of bytes.
+/// What a host serves: terminals that wait (`waiting`), `any`, or any that it verifies (`verified`), and the panels of a text, one word of bytes.
 pub(crate) fn read_service(talk: &mut Talk<'_>) -> Result<(Terminals, PanelSet, Pool), Fault> {
     let terminals = match talk.word()? {
         "waiting" => Terminals::Waiting,
         "any" => Terminals::Any,
-        _ => return Err(Fault::Needs("waiting or any")),
+        "verified" => Terminals::Verified,
+        _ => return Err(Fault::Needs("waiting, any or verified")),
     };
     let text = talk.bytes()?;
     let panels = match PanelSet::read(talk.alloc, text_of(text.as_slice())?) {

@@ -45,7 +45,7 @@ pub(crate) struct Messages {
     terminal: TermTalk,
 }
 
-static CAUSES: [Cause; 9] = [
+static CAUSES: [Cause; 10] = [
     Cause::NoTn3270e,
     Cause::NoResponses,
     Cause::BadTalk,
@@ -55,6 +55,7 @@ static CAUSES: [Cause; 9] = [
     Cause::BadInbound,
     Cause::BadResponse,
     Cause::Negative,
+    Cause::RuleBroken,
 ];
 
 fn put_constants(answer: &mut String) -> Result<(), AllocError> {

@@ -21,11 +21,11 @@ pub returns-then-is_agreed-clause-taken : goal.returns-then-is_agreed-clause-tak
 returns-then-is_agreed-clause-taken c =
     record_taken _ _ _ c.take_record-after.new.self _ c.in-Record.bytes.now _ c.take_record-after.result _ _ _ (ap item_of c.in-Record.is)
     (ap (λ (conn : Conn). is_agreed conn.talk.state) (sym c.session.view_is) ∙ sym c.is_agreed.ensures ∙ c.if-is_agreed.true) c.take_record-after.ensures.taken
-    (c.keep_dropped.ensures.closes c.take_record-after.new.self) (c.keep_dropped.ensures.kept c.take_record-after.new.self)
+    (c.keep_report.ensures.closes c.take_record-after.new.self) (c.keep_report.ensures.kept c.take_record-after.new.self)
 
 pub returns-then-is_agreed-clause-holds : goal.returns-then-is_agreed-clause-holds
 returns-then-is_agreed-clause-holds c =
-    unless_closed_then c.args.number c.args.pool.now c.keep_dropped.result (granted c.take_record-after.new.self.talk.state)
+    unless_closed_then c.args.number c.args.pool.now c.keep_report.result (granted c.take_record-after.new.self.talk.state)
     (same_talk c.args.number c.args.pool.now c.args.session.now c.take_record-after.new.self c.take_record-after.ensures.talk c.requires.holder)
 
 pub returns-else-is_agreed-clause-taken : goal.returns-else-is_agreed-clause-taken

@@ -5,6 +5,7 @@ returns c = record {
   belief = record {
     hears = c.what_is_sent_is_heard.ensures.modified;
     reads = c.what_is_read_is_heard.ensures;
+    unbroken = c.rules_are_not_broken.ensures;
     spelt = c.what_is_wanted_is_painted.ensures.spelt;
     painted = c.what_is_wanted_is_painted.ensures.painted;
     taken = c.what_is_wanted_is_painted.ensures.taken;

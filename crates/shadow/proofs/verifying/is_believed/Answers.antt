@@ -1,0 +1,11 @@
+use Rattle.std.proofs.Common.{◌+◌, ◌++◌, ◌∙◌, ap, sym, drop, not}
+use Rattle.shadow.specs.InPlace.{chars_known, known_text}
+use Rattle.shadow.specs.Since.{places_stored}
+use Rattle.shadow.proofs.RuleWalk.{believed_cells}
+use Rattle.shadow.proofs.verifying.is_believed.Goals as goal
+
+pub returns-in-Cells : goal.returns-in-Cells
+returns-in-Cells c =
+    rw (c.in-Cells.is)
+    (ap not c.is_other_text.ensures
+    ∙ sym (believed_cells (chars_known (drop (c.args.place + 1) c.args.places.now ++ c.args.places.now)) (known_text (chars_known (places_stored c.args.rest.now ++ places_stored c.args.whole.now)))))
