@@ -98,8 +98,8 @@ fn all_fit(held: Option<&CellBeliefs>, wanted: &Wanted) -> bool
     true
 }
 
-/// Whether some cell is to be kept.
-fn any_keep(cells: Wants<'_>) -> bool
+/// Whether some cell is to be kept (our profile).
+pub fn any_keep(cells: Wants<'_>) -> bool
     ensures { result ≡ list_any is_keep cells.entry }
 {
     for want in cells {

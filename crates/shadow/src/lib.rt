@@ -49,6 +49,7 @@ mod writing;
 pub use fact::Fact;
 pub use fault::HeardFault;
 pub use field_text::FieldText;
+pub use fitting::any_keep;
 pub use mdt_state::MdtState;
 pub use rule_break::{Rule, RuleBreak};
 pub use shadow::Shadow;

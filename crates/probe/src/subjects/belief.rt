@@ -17,10 +17,9 @@
 //!
 //! That of reference has the commands down to `paint`.
 ghost use Rattle.std.specs.Prelude.{◌≡◌, IsTrue};
-ghost use Rattle.std.specs.List.{list_any};
 ghost use Rattle.codes3270.specs.Size.{cells_in};
 ghost use Rattle.shadow.specs.Belief.{HasCell, IsOfSize};
-ghost use Rattle.shadow.specs.Fits.{is_keep, is_paintable};
+ghost use Rattle.shadow.specs.Fits.{is_paintable};
 
 use crate::subjects::Subject;
 use crate::subjects::cells::{at, change, form, put_belief, put_wanted};
@@ -31,7 +30,7 @@ use datastream::{
     read_inbound,
 };
 use reference::{AnyBelief, ReferenceBelief};
-use shadow::{HeardFault, Shadow, plain};
+use shadow::{HeardFault, Shadow, any_keep, plain};
 use std::alloc::AllocError;
 
 /// A belief, and a wanted screen.
@@ -71,20 +70,6 @@ fn cell_at(shadow: &Shadow, place: u16) -> Addr
     at(place, size_of(shadow))
 }
 
-/// Whether some cell is to be kept.
-fn keeps_any(cells: Wants<'_>) -> bool
-    ensures { result ≡ list_any is_keep cells.entry }
-{
-    for want in cells {
-        match want {
-            Want::Keep => return true,
-            Want::Attr(_) => {}
-            Want::Char(_) => {}
-        }
-    }
-    false
-}
-
 impl AnyBelief for Present {
     fn blank() -> Present {
         Present {
@@ -121,7 +106,7 @@ impl AnyBelief for Present {
     }
 
     fn paint(&self, out: &mut Vec<u8>, wanted: &Wanted) -> Option<Result<(), Memory>> {
-        if keeps_any(wanted.cells()) && !self.shadow.fits(wanted) {
+        if any_keep(wanted.cells()) && !self.shadow.fits(wanted) {
             return None;
         }
         Some(self.shadow.paint(out, wanted))
