@@ -37,10 +37,11 @@ use keyboard::laws::{keys_keep_what_was_left, sent_keys_wait, what_keys_leave_ca
 use lu_pool::laws::the_pool_is_a_map;
 use panels::laws::{fields_are_on_the_screen, fields_are_written, kept_fields_are_whole};
 use shadow::laws::{
-    painted_fields_are_there, what_a_note_leaves, what_is_believed_has_a_size, what_is_exact_is_so,
-    what_is_in_doubt_is_allowed, what_is_known_is_exact, what_is_protected_is_exact,
-    what_is_read_is_heard, what_is_sent_is_heard, what_is_wanted_is_painted,
-    rules_are_not_broken, what_is_written_is_taken, what_leaves_nothing_open,
+    painted_fields_are_there, rules_are_not_broken, what_a_note_leaves,
+    what_is_believed_has_a_size, what_is_exact_is_so, what_is_in_doubt_is_allowed,
+    what_is_known_is_exact, what_is_protected_is_exact, what_is_read_is_heard,
+    what_is_sent_is_heard, what_is_wanted_is_painted, what_is_written_is_taken,
+    what_leaves_nothing_open,
 };
 use tn3270e_msg::laws::one_reading;
 
