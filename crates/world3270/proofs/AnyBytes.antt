@@ -6,6 +6,7 @@ use Rattle.host_core.specs.Acts.{Sent, acted}
 use Rattle.host_core.specs.Application.{Application, AreTexts}
 use Rattle.host_core.specs.Does.{acted_by, noted_by}
 use Rattle.host_core.specs.Feeds.{IsOpen}
+use Rattle.host_core.specs.KeepAlive.{kept_alive}
 use Rattle.host_core.specs.Notes.{noted}
 use Rattle.host_core.specs.Questions.{answered_by, answered_in, answered_on, is_ticket, ticket_of}
 use Rattle.host_core.specs.Session.{Conn}
@@ -14,11 +15,11 @@ use Rattle.host_core.specs.declared.acted.Acted.{Acted}
 use Rattle.host_core.specs.declared.question.Answer.{Answer as Said}
 use Rattle.host_core.specs.declared.question.Ticket.{Ticket}
 use Rattle.world3270.specs.EveryTerminal.{Move, Told, after_moves}
-use Rattle.world3270.specs.EveryTerminalBytes.{IsHost, LeadTo, Moves, OverBytes, Represents, on_connection}
+use Rattle.world3270.specs.EveryTerminalBytes.{AreMoves, AreMovesOf, IsHost, LeadTo, Moves, OverBytes, Represents, if_sent, on_connection, with_host}
 use Rattle.world3270.specs.Standing.{conn_of}
 use Rattle.world3270.proofs.Answered.{IsDone, by_act, by_answer}
-use Rattle.world3270.proofs.AnyHost.{HearsLaws, IsServed, conn_there, does_goes, elsewhere_goes, hands_over_goes, hears_bytes, keeps_alive_goes, unchanged}
-use Rattle.world3270.proofs.AnyTerminal.{Goes, IsKept, TakesLaws, commands_goes, goes_after, operates_goes, stays, takes_goes}
+use Rattle.world3270.proofs.AnyHost.{HearsLaws, fed_by, IsServed, conn_there, does_goes, elsewhere_goes, hands_over_goes, hears_bytes, keeps_alive_goes, unchanged}
+use Rattle.world3270.proofs.AnyTerminal.{Goes, GoesBy, IsKept, TakesLaws, commands_goes, goes_after, goes_as, operates_goes, stays, takes_goes}
 
 -- what the host does at a connection that is open
 acted_here : (app : Application) (service : Service) (conn : Conn) → IsOpen service → conn_of service ≡ conn → acted_by app service ≡ acted app conn
@@ -37,37 +38,53 @@ answered_here app session ticket said Service.Free conn is same = absurd is
 answered_here app session ticket said (Service.Open rest held) conn is same = ap (answered_in app session ticket said) same
 answered_here app session ticket said (Service.Closed cause) conn is same = absurd is
 
--- a move, with the pool that it leaves
-record GoesWith (app : Application) (Good : Told → Type 0) (number : ℕ) (bytes : OverBytes) (t : Told) : Type 0 where
-  goes : Goes app Good number bytes t
-  pool : IsSoundPool bytes.host.pool
+-- a move, over messages, and the pool that it leaves
+record GoesWith (app : Application) (Good : Told → Type 0) (number : ℕ) (old new : OverBytes) (t : Told) (move : Moves app number old new) : Type 0 where
+  goes : Goes app Good number new t
+  are : AreMovesOf move goes.moves
+  pool : IsSoundPool new.host.pool
+
+-- moves, one after another
+pub record GoesThrough (app : Application) (Good : Told → Type 0) (number : ℕ) (states : List OverBytes) (old new : OverBytes) (t : Told) (lead : LeadTo app number states old new) : Type 0 where
+  pub goes : Goes app Good number new t
+  pub are : AreMoves app number states old new lead goes.moves
 
 module _ (takes : TakesLaws) (hears : HearsLaws) (app : Application) (Good : Told → Type 0) (kept : IsKept app Good) (number : ℕ) where
   -- an answer to another question isn't taken
   answer_goes : (old : OverBytes) (t : Told) (good : Good t) (is : Represents number old t) (served : IsServed number old.host) (said : Said) (did : Acted) (connection : Connection) (taken : Bool) → AreTexts said.values
-      → IsDone (if taken then answered_on app t.link.host said else None) (connection_at number old.host) did connection → Goes app Good number (on_connection number connection old) t
+      → IsDone (if taken then answered_on app t.link.host said else None) (connection_at number old.host) did connection → GoesBy app Good number (on_connection number connection old) t (if_sent did (Move.Answer said))
   answer_goes old t good is served said did connection true texts done =
       does_goes hears app Good kept number old t good is served (Move.Answer said) (answered_on app t.link.host said) did connection refl tt texts ((kept.ready t good).answers said texts) done
-  answer_goes old t good is served said did connection false texts done = unchanged hears app Good kept number old t good is served connection done.1
+  answer_goes old t good is served said did connection false texts done =
+      let none = unchanged hears app Good kept number old t good is served connection done.1 in
+      record { goes = none.goes; are = none.are ∙ ap (λ (d : Acted). if_sent d (Move.Answer said)) (sym done.0) }
 
-  one_move : (old new : OverBytes) (t : Told) → Good t → Represents number old t → IsServed number old.host → Moves app number old new → GoesWith app Good number new t
+  one_move : (old new : OverBytes) (t : Told) → Good t → Represents number old t → IsServed number old.host → (move : Moves app number old new) → GoesWith app Good number old new t move
   one_move old new t good is served (Moves.feeds bytes behind fed counter queue feeds same) =
       let front : List ℕ = take fed.taken bytes in
       let others : List ℕ = drop fed.taken bytes ++ behind in
       let in_two : old.up ≡ front ++ others = queue ∙ ap (λ (b : List ℕ). b ++ behind) (sym (take-append-drop fed.taken bytes)) ∙ append_assoc front (drop fed.taken bytes) behind in
       let did = hears_bytes hears app Good kept number front others old t counter good is served in_two feeds.takes in
-      record { goes = subst (λ (b : OverBytes). Goes app Good number b t) (sym same) did.goes; pool = subst (λ (b : OverBytes). IsSoundPool b.host.pool) (sym same) did.pool }
-  one_move old new t good is served (Moves.hands_over count same) = record {
-    goes = subst (λ (b : OverBytes). Goes app Good number b t) (sym same) (hands_over_goes hears app Good kept number old t good is served count);
-    pool = subst (λ (b : OverBytes). IsSoundPool b.host.pool) (sym same) served.pool;
-  }
+      record {
+        goes = goes_as app Good number (fed_by number counter others old) new t same did.goes;
+        are = did.ups;
+        pool = subst (λ (b : OverBytes). IsSoundPool b.host.pool) (sym same) did.pool;
+      }
+  one_move old new t good is served (Moves.hands_over count same) =
+      let none = hands_over_goes hears app Good kept number old t good is served count in
+      record {
+        goes = goes_as app Good number _ new t same none.goes;
+        are = none.are;
+        pool = subst (λ (b : OverBytes). IsSoundPool b.host.pool) (sym same) served.pool;
+      }
   one_move old new t good is served (Moves.acts did connection does same) =
       let what = acted_here app (service_at number old.host) t.link.host is.is_open (conn_there hears app Good kept number old t good is served) in
       let done = subst (λ (w : Option Sent). IsDone w (connection_at number old.host) did connection) what
       (by_act (acted_by app (service_at number old.host)) (connection_at number old.host) did connection does) in
+      let goes = does_goes hears app Good kept number old t good is served Move.Act (acted app t.link.host) did connection refl tt tt (kept.ready t good).acts done in
       record {
-        goes = subst (λ (b : OverBytes). Goes app Good number b t) (sym same)
-            (does_goes hears app Good kept number old t good is served Move.Act (acted app t.link.host) did connection refl tt tt (kept.ready t good).acts done);
+        goes = goes_as app Good number (on_connection number connection old) new t same goes.goes;
+        are = goes.are;
         pool = subst (λ (b : OverBytes). IsSoundPool b.host.pool) (sym same) served.pool;
       }
   one_move old new t good is served (Moves.answers ticket said did connection texts does same) =
@@ -75,49 +92,63 @@ module _ (takes : TakesLaws) (hears : HearsLaws) (app : Application) (Good : Tol
       let what = answered_here app session ticket said (service_at number old.host) t.link.host is.is_open (conn_there hears app Good kept number old t good is served) in
       let done = subst (λ (w : Option Sent). IsDone w (connection_at number old.host) did connection) what
       (by_answer app said (answered_by app session ticket said (service_at number old.host)) (connection_at number old.host) did connection does) in
+      let goes = answer_goes old t good is served said did connection (is_ticket ticket (ticket_of session t.link.host)) texts done in
       record {
-        goes = subst (λ (b : OverBytes). Goes app Good number b t) (sym same)
-            (answer_goes old t good is served said did connection (is_ticket ticket (ticket_of session t.link.host)) texts done);
+        goes = goes_as app Good number (on_connection number connection old) new t same goes.goes;
+        are = goes.are;
         pool = subst (λ (b : OverBytes). IsSoundPool b.host.pool) (sym same) served.pool;
       }
   one_move old new t good is served (Moves.notes text did connection is_text does same) =
       let what = noted_here text (service_at number old.host) t.link.host is.is_open (conn_there hears app Good kept number old t good is served) in
       let done = subst (λ (w : Option Sent). IsDone w (connection_at number old.host) did connection) what
       (by_act (noted_by text (service_at number old.host)) (connection_at number old.host) did connection does) in
+      let goes = does_goes hears app Good kept number old t good is served (Move.Note text) (noted text t.link.host) did connection refl is_text tt ((kept.ready t good).notes text is_text) done in
       record {
-        goes = subst (λ (b : OverBytes). Goes app Good number b t) (sym same)
-            (does_goes hears app Good kept number old t good is served (Move.Note text) (noted text t.link.host) did connection refl is_text tt ((kept.ready t good).notes text is_text) done);
+        goes = goes_as app Good number (on_connection number connection old) new t same goes.goes;
+        are = goes.are;
         pool = subst (λ (b : OverBytes). IsSoundPool b.host.pool) (sym same) served.pool;
       }
-  one_move old new t good is served (Moves.keeps_alive same) = record {
-    goes = subst (λ (b : OverBytes). Goes app Good number b t) (sym same) (keeps_alive_goes hears app Good kept number old t good is served);
-    pool = subst (λ (b : OverBytes). IsSoundPool b.host.pool) (sym same) served.pool;
-  }
-  one_move old new t good is served (Moves.elsewhere host other same) = record {
-    goes = subst (λ (b : OverBytes). Goes app Good number b t) (sym same) (elsewhere_goes hears app Good kept number old t good is served host other.stays);
-    pool = subst (λ (b : OverBytes). IsSoundPool b.host.pool) (sym same) other.pool;
-  }
-  one_move old new t good is served (Moves.takes comes) = record {
-    goes = takes_goes takes app Good kept number old new t good is comes;
-    pool = subst (λ (b : OverBytes). IsSoundPool b.host.pool) (sym comes.leaves) served.pool;
-  }
-  one_move old new t good is served (Moves.operates step does) = record {
-    goes = operates_goes takes app Good kept number step old new t good is does;
-    pool = subst (λ (b : OverBytes). IsSoundPool b.host.pool) (sym does.leaves) served.pool;
-  }
-  one_move old new t good is served (Moves.sends_commands bytes commands same) = record {
-    goes = subst (λ (b : OverBytes). Goes app Good number b t) (sym same) (commands_goes takes app Good kept number bytes old t good is commands);
-    pool = subst (λ (b : OverBytes). IsSoundPool b.host.pool) (sym same) served.pool;
-  }
+  one_move old new t good is served (Moves.keeps_alive same) =
+      let alive = keeps_alive_goes hears app Good kept number old t good is served in
+      record {
+        goes = goes_as app Good number (on_connection number (kept_alive (connection_at number old.host)) old) new t same alive.goes;
+        are = alive.are;
+        pool = subst (λ (b : OverBytes). IsSoundPool b.host.pool) (sym same) served.pool;
+      }
+  one_move old new t good is served (Moves.elsewhere host other same) =
+      let none = elsewhere_goes hears app Good kept number old t good is served host other.stays in
+      record {
+        goes = goes_as app Good number (with_host host old) new t same none.goes;
+        are = none.are;
+        pool = subst (λ (b : OverBytes). IsSoundPool b.host.pool) (sym same) other.pool;
+      }
+  one_move old new t good is served (Moves.takes comes) =
+      let went = takes_goes takes app Good kept number old new t good is comes in
+      record { goes = went.goes; are = went.downs; pool = subst (λ (b : OverBytes). IsSoundPool b.host.pool) (sym comes.leaves) served.pool }
+  one_move old new t good is served (Moves.operates step does) =
+      let once = operates_goes takes app Good kept number step old new t good is does in
+      record { goes = once.goes; are = once.are; pool = subst (λ (b : OverBytes). IsSoundPool b.host.pool) (sym does.leaves) served.pool }
+  one_move old new t good is served (Moves.sends_commands bytes commands same) =
+      let none = commands_goes takes app Good kept number bytes old t good is commands in
+      record {
+        goes = goes_as app Good number (record old { up = old.up ++ bytes }) new t same none.goes;
+        are = none.are;
+        pool = subst (λ (b : OverBytes). IsSoundPool b.host.pool) (sym same) served.pool;
+      }
 
   -- The bytes represent the connection over messages after moves that keep the rules, whatever led to them.
-  pub all_moves : (states : List OverBytes) (old new : OverBytes) (t : Told) → number < most_connections → Good t → Represents number old t → IsServed number old.host → LeadTo app number states old new
-      → Goes app Good number new t
-  all_moves [] old new t below good is served same = stays app Good number new t good (subst (λ (b : OverBytes). Represents number b t) (sym same) is)
+  pub all_moves : (states : List OverBytes) (old new : OverBytes) (t : Told) → number < most_connections → Good t → Represents number old t → IsServed number old.host
+      → (lead : LeadTo app number states old new) → GoesThrough app Good number states old new t lead
+  all_moves [] old new t below good is served same =
+      record { goes = stays app Good number new t good (subst (λ (b : OverBytes). Represents number b t) (sym same) is); are = refl }
   all_moves (next ∷ states) old new t below good is served lead =
       let one = one_move old next t good is served lead.0 in
       let still : IsServed number next.host = record { below = subst (λ (n : ℕ). number < n) (sym lead.1.sound.connections) below; pool = one.pool } in
-      goes_after app Good number next new t one.goes (all_moves states next new (after_moves app one.goes.moves t) below one.goes.good one.goes.represents still lead.2)
+      let more = all_moves states next new (after_moves app one.goes.moves t) below one.goes.good one.goes.represents still lead.2 in
+      record {
+        goes = goes_after app Good number next new t one.goes more.goes;
+        are = (one.goes.moves, more.goes.moves, one.are, more.are, refl);
+      }
 
 -- the last host is one, too
 pub last_host : (app : Application) (number : ℕ) (states : List OverBytes) (old new : OverBytes) → IsHost old.host → LeadTo app number states old new → IsHost new.host

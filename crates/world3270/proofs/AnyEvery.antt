@@ -160,7 +160,8 @@ module _ (laws : AnyLaws) (app : Application) (is : IsApplication app) (asks : A
     };
   }
 
-  pub over_bytes : (number : ℕ) (states : List OverBytes) (old new : OverBytes) (b : BeginsOverBytes app number lu old) → LeadTo app number states old new → RightOverBytes app number lu b.begin new
+  pub over_bytes : (number : ℕ) (states : List OverBytes) (old new : OverBytes) (b : BeginsOverBytes app number lu old) → (lead : LeadTo app number states old new)
+      → RightOverBytes app number lu b.begin states old new lead
   over_bytes number states old new b lead =
       let good : Good b.begin = record {
         simulated = begins_simulated laws.given app is lu b.begin b.begins;
@@ -168,12 +169,14 @@ module _ (laws : AnyLaws) (app : Application) (is : IsApplication app) (asks : A
         queued = queue.begins b.begin b.begins (sym b.represents.stands.lost);
       } in
       let below : number < length old.host.connections = subst (λ (n : ℕ). number < n) (sym b.is_host.sound.connections) b.below in
-      let goes = all_moves laws.takes laws.hears app Good good_is_kept number states old new b.begin b.below good b.represents (record { below = below; pool = b.pool }) lead in
+      let through = all_moves laws.takes laws.hears app Good good_is_kept number states old new b.begin b.below good b.represents (record { below = below; pool = b.pool }) lead in
+      let goes = through.goes in
       let right = right_of laws.given laws.written laws.kept app is lu _ goes.good.simulated in
       let here = goes.represents in
       let same = (here.stands.host right.host_here).host in
       record {
         moves = goes.moves;
+        are_moves = through.are;
         by_the_rules = goes.by_the_rules;
         represents = here;
         right = right;

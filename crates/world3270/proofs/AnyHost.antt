@@ -2,7 +2,8 @@
 -- after moves that keep the rules.
 use Rattle.std.proofs.Common.{◌≡◌, ◌<◌, ℕ, Bool, true, false, Option, None, Some, List, [], ◌∷◌, ◌++◌, drop, take, length, map, append-nil, append_assoc, cond, not, refl, ap, sym, subst, ◌∙◌, if◌then◌else◌}
 use Rattle.std.proofs.lemmas.List.{length-set, set-get_or, set-set, take-append-drop}
-use Rattle.std.specs.Prelude.{IfSome}
+use Rattle.std.specs.Prelude.{All, IfSome}
+use Rattle.std.proofs.lemmas.List.Elements.{All-append, All-cons, All-nil}
 use Rattle.lu_pool.specs.Asking.{answer_to}
 use Rattle.lu_pool.specs.HolderLaws.{IsSound as IsSoundPool, StaysSoundGranted}
 use Rattle.lu_pool.specs.Holders.{granted_if}
@@ -34,7 +35,7 @@ use Rattle.host_core.specs.declared.acted.Acted.{Acted}
 use Rattle.host_core.specs.declared.acted.Acted.TheVariants as acted_as
 use Rattle.world3270.specs.ByteWorld.{is_there}
 use Rattle.world3270.specs.EveryTerminal.{IsByTheRules, Move, Told, after_moves, came_up, moved}
-use Rattle.world3270.specs.EveryTerminalBytes.{OverBytes, Represents, link_over, on_connection}
+use Rattle.world3270.specs.EveryTerminalBytes.{IsUp, OverBytes, Represents, if_sent, link_over, on_connection}
 use Rattle.world3270.specs.Link.{Link, host_left_if, host_sent, sent}
 use Rattle.world3270.specs.Readings.{IsReadAs, MayComeUp}
 use Rattle.world3270.specs.Sendable.{CanBeSent}
@@ -43,7 +44,7 @@ use Rattle.world3270.specs.Stands.{ByteLink, LinkStandsBy, is_bare_command, with
 use Rattle.world3270.specs.StandsLinks.{HostSendsBy, MayComeAll, NopStandsBy, UpStandsBy, said_down}
 use Rattle.world3270.specs.TrackedTerminals.{TrackedTerminal}
 use Rattle.world3270.proofs.Answered.{IsDone}
-use Rattle.world3270.proofs.AnyTerminal.{Goes, IsKept, IsTypedMove, goes_after, moves_once, stays}
+use Rattle.world3270.proofs.AnyTerminal.{Goes, GoesBy, IsKept, IsTypedMove, goes_after, goes_as, moves_once, stays}
 use Rattle.world3270.proofs.Frames.{connection_same}
 use Rattle.world3270.proofs.HostItems.{host_reads}
 use Rattle.world3270.proofs.HostSteps.{just_talks}
@@ -129,6 +130,7 @@ fed_by number counter up old = record old { host = with_counter number counter o
 
 pub record Fed (app : Application) (Good : Told → Type 0) (number : ℕ) (counter : Counter) (up : List ℕ) (old : OverBytes) (t : Told) : Type 0 where
   pub goes : Goes app Good number (fed_by number counter up old) t
+  pub ups : All IsUp goes.moves
   pub pool : IsSoundPool counter.pool
 
 module _ (laws : HearsLaws) (app : Application) (Good : Told → Type 0) (kept : IsKept app Good) (number : ℕ) where
@@ -169,7 +171,9 @@ module _ (laws : HearsLaws) (app : Application) (Good : Told → Type 0) (kept :
         let after : Counter = record { pool = old.host.pool; connection = record line { service = Service.Open to conn } } in
         let represents = represents_with number (with_counter number after old.host) after.connection old.down behind old t (at_line after.connection after.pool) tt stands is.waits is.unnamed is.stored in
         record {
-          goes = subst (λ (c : Counter). Goes app Good number (fed_by number c behind old) t) (sym is_counter) (stays app Good number (fed_by number after behind old) t good represents);
+          goes = goes_as app Good number (fed_by number after behind old) (fed_by number counter behind old) t (ap (λ (c : Counter). fed_by number c behind old) is_counter)
+              (stays app Good number (fed_by number after behind old) t good represents);
+          ups = All-nil IsUp;
           pool = subst (λ (c : Counter). IsSoundPool c.pool) (sym is_counter) served.pool;
         }
 
@@ -229,8 +233,9 @@ module _ (laws : HearsLaws) (app : Application) (Good : Told → Type 0) (kept :
           let sound : IsSoundPool after.pool =
           subst (λ (c : Option Cause). IsSoundPool (freed_if number c (granted_if number step.grants old.host.pool))) (sym closes) (still_sound laws.granted number step.grants old.host.pool served.pool) in
           record {
-            goes = subst (λ (c : Counter). Goes app Good number (fed_by number c behind old) t) (sym counter_is)
+            goes = goes_as app Good number (fed_by number after behind old) (fed_by number counter behind old) t (ap (λ (c : Counter). fed_by number c behind old) counter_is)
                 (moves_once app Good kept number (fed_by number after behind old) t (Move.Up old.host.pool) good served.pool tt represents);
+            ups = All-cons IsUp (Move.Up old.host.pool) [] tt (All-nil IsUp);
             pool = subst (λ (c : Counter). IsSoundPool c.pool) (sym counter_is) sound;
           }
 
@@ -264,6 +269,7 @@ module _ (laws : HearsLaws) (app : Application) (Good : Told → Type 0) (kept :
       record {
         goes = stays app Good number (fed_by number counter behind old) t good
             (subst (λ (c : Counter). Represents number (fed_by number c behind old) t) (sym same) (subst (λ (b : OverBytes). Represents number b t) (sym stays_so) is));
+        ups = All-nil IsUp;
         pool = subst (λ (c : Counter). IsSoundPool c.pool) (sym same) served.pool;
       }
   hears_bytes (byte ∷ front) behind old t counter good is served queue taken =
@@ -278,8 +284,13 @@ module _ (laws : HearsLaws) (app : Application) (Good : Told → Type 0) (kept :
       (subst (λ (c : Counter). TakesBytes number c front counter) (sym at_mid) taken.2) in
       let once : with_counter number counter host ≡ with_counter number counter old.host =
       ap (λ connections. record old.host { pool = counter.pool; connections = connections }) (set-set old.host.connections number mid.connection counter.connection) in
-      let goes : Goes app Good number (fed_by number counter behind old) t_mid = subst (λ (h : Host). Goes app Good number (record old { host = h; up = behind }) t_mid) once more.goes in
-      record { goes = goes_after app Good number next (fed_by number counter behind old) t one.goes goes; pool = more.pool }
+      let last : OverBytes = fed_by number counter behind old in
+      let goes = goes_as app Good number (fed_by number counter behind next) last t_mid (ap (λ (h : Host). record old { host = h; up = behind }) (sym once)) more.goes in
+      record {
+        goes = goes_after app Good number next last t one.goes goes;
+        ups = All-append IsUp one.goes.moves more.goes.moves one.ups more.ups;
+        pool = more.pool;
+      }
 
   -- ---- the host sends
 
@@ -289,14 +300,16 @@ module _ (laws : HearsLaws) (app : Application) (Good : Told → Type 0) (kept :
 
     -- a line with the same under way
     same_line : (connection : Connection) (down : List ℕ) → link_by connection down old.up old.tracked ≡ link_over number old → IsOpen connection.service
-        → Goes app Good number (record old { host = with_connection number connection old.host; down = down }) t
-    same_line connection down same is_open =
-        stays app Good number (record old { host = with_connection number connection old.host; down = down }) t good
-        (represents_with number (with_connection number connection old.host) connection down old.up old t (at_line old t good is served connection old.host.pool) is_open
-        (subst (λ (b : ByteLink). LinkStandsBy without_commands IsReadAs b t.link) (sym same) is.stands) is.waits is.unnamed is.stored)
+        → GoesBy app Good number (record old { host = with_connection number connection old.host; down = down }) t []
+    same_line connection down same is_open = record {
+      goes = stays app Good number (record old { host = with_connection number connection old.host; down = down }) t good
+          (represents_with number (with_connection number connection old.host) connection down old.up old t (at_line old t good is served connection old.host.pool) is_open
+          (subst (λ (b : ByteLink). LinkStandsBy without_commands IsReadAs b t.link) (sym same) is.stands) is.waits is.unnamed is.stored);
+      are = refl;
+    }
 
     -- nothing is done
-    pub unchanged : (connection : Connection) → connection ≡ connection_at number old.host → Goes app Good number (on_connection number connection old) t
+    pub unchanged : (connection : Connection) → connection ≡ connection_at number old.host → GoesBy app Good number (on_connection number connection old) t []
     unchanged connection same =
         same_line connection old.down (ap (λ (c : Connection). link_by c old.down old.up old.tracked) same) (subst (λ (c : Connection). IsOpen c.service) (sym same) is.is_open)
 
@@ -316,7 +329,7 @@ module _ (laws : HearsLaws) (app : Application) (Good : Told → Type 0) (kept :
 
     -- a message is sent, which is spelt
     pub sends_goes : (move : Move) (sending : Sent) → moved app move t ≡ record t { link = host_sent (Some sending) t.link } → IsByTheRules move t → IsTypedMove move → Spells sending.message
-        → Goes app Good number (on_connection number (sent_on sending (connection_at number old.host)) old) t
+        → GoesBy app Good number (on_connection number (sent_on sending (connection_at number old.host)) old) t (move ∷ [])
     sends_goes move sending goes rules typed spelt =
         let connection : Connection = sent_on sending (connection_at number old.host) in
         let link : Link = host_sent (Some sending) t.link in
@@ -324,24 +337,34 @@ module _ (laws : HearsLaws) (app : Application) (Good : Told → Type 0) (kept :
         let stands : LinkStandsBy without_commands IsReadAs (link_by connection old.down old.up old.tracked) link =
         subst (λ (b : ByteLink). LinkStandsBy without_commands IsReadAs b link) (sent_link sending (service_at number old.host) (connection_at number old.host).out is.is_open) said in
         let now : Told = record t { link = link } in
-        moves_once app Good kept number (on_connection number connection old) t move good rules typed
-        (subst (λ (u : Told). Represents number (on_connection number connection old) u) (sym goes)
-        (represents_with number (with_connection number connection old.host) connection old.down old.up old now (at_line old t good is served connection old.host.pool)
-        (open_still sending.conn (service_at number old.host) is.is_open) stands is.waits is.unnamed is.stored))
+        record {
+          goes = moves_once app Good kept number (on_connection number connection old) t move good rules typed
+              (subst (λ (u : Told). Represents number (on_connection number connection old) u) (sym goes)
+              (represents_with number (with_connection number connection old.host) connection old.down old.up old now (at_line old t good is served connection old.host.pool)
+              (open_still sending.conn (service_at number old.host) is.is_open) stands is.waits is.unnamed is.stored));
+          are = refl;
+        }
 
     -- it is done, or memory is refused
     pub does_goes : (move : Move) (what : Option Sent) (did : Acted) (connection : Connection) → moved app move t ≡ record t { link = host_sent what t.link }
         → IsByTheRules move t → IsTypedMove move → IfSome what (λ sending. Spells sending.message) → IsDone what (connection_at number old.host) did connection
-        → Goes app Good number (on_connection number connection old) t
-    does_goes move None did connection goes rules typed spelt done = unchanged connection done.1
+        → GoesBy app Good number (on_connection number connection old) t (if_sent did move)
+    does_goes move None did connection goes rules typed spelt done =
+        let none = unchanged connection done.1 in
+        record { goes = none.goes; are = none.are ∙ ap (λ (d : Acted). if_sent d move) (sym done.0) }
     does_goes move (Some sending) acted_as.Sent connection goes rules typed spelt done =
-        subst (λ (c : Connection). Goes app Good number (on_connection number c old) t) (sym done) (sends_goes move sending goes rules typed spelt)
+        let one = sends_goes move sending goes rules typed spelt in
+        record {
+          goes = goes_as app Good number (on_connection number (sent_on sending (connection_at number old.host)) old) (on_connection number connection old) t
+              (ap (λ (c : Connection). on_connection number c old) done) one.goes;
+          are = one.are;
+        }
     does_goes move (Some sending) acted_as.Memory connection goes rules typed spelt done = unchanged connection done
     does_goes move (Some sending) acted_as.Nothing connection goes rules typed spelt done = absurd done
 
     -- bytes are handed over
     pub hands_over_goes : (count : ℕ) → let line = connection_at number old.host in
-        Goes app Good number (record old { host = with_connection number (record line { out = drop count line.out }) old.host; down = old.down ++ take count line.out }) t
+        GoesBy app Good number (record old { host = with_connection number (record line { out = drop count line.out }) old.host; down = old.down ++ take count line.out }) t []
     hands_over_goes count =
         let line : Connection = connection_at number old.host in
         same_line (record line { out = drop count line.out }) (old.down ++ take count line.out)
@@ -349,21 +372,26 @@ module _ (laws : HearsLaws) (app : Application) (Good : Told → Type 0) (kept :
         is.is_open
 
     -- NOP is nothing over messages
-    pub keeps_alive_goes : Goes app Good number (on_connection number (kept_alive (connection_at number old.host)) old) t
+    pub keeps_alive_goes : GoesBy app Good number (on_connection number (kept_alive (connection_at number old.host)) old) t []
     keeps_alive_goes = by_test (may_keep_alive (connection_at number old.host))
       where
-        by_test : (b : Bool) → Goes app Good number (on_connection number (if b then with_nop (connection_at number old.host) else connection_at number old.host) old) t
+        by_test : (b : Bool) → GoesBy app Good number (on_connection number (if b then with_nop (connection_at number old.host) else connection_at number old.host) old) t []
         by_test false = unchanged (connection_at number old.host) refl
         by_test true =
             let line : Connection = connection_at number old.host in
             let nop : List ℕ = sent_bytes (no_operation ∷ []) in
-            stays app Good number (on_connection number (with_nop line) old) t good
-            (represents_with number (with_connection number (with_nop line) old.host) (with_nop line) old.down old.up old t (at_line old t good is served (with_nop line) old.host.pool) is.is_open
-            (subst (λ (d : List ℕ). LinkStandsBy without_commands IsReadAs (record (link_over number old) { down = d }) t.link) (append_assoc old.down line.out nop) (laws.nop (link_over number old) t.link is.stands))
-            is.waits is.unnamed is.stored)
+            record {
+              goes = stays app Good number (on_connection number (with_nop line) old) t good
+                  (represents_with number (with_connection number (with_nop line) old.host) (with_nop line) old.down old.up old t (at_line old t good is served (with_nop line) old.host.pool) is.is_open
+                  (subst (λ (d : List ℕ). LinkStandsBy without_commands IsReadAs (record (link_over number old) { down = d }) t.link) (append_assoc old.down line.out nop) (laws.nop (link_over number old) t.link is.stands))
+                  is.waits is.unnamed is.stored);
+              are = refl;
+            }
 
     -- something happens elsewhere
-    pub elsewhere_goes : (host : Host) → connection_at number host ≡ connection_at number old.host → Goes app Good number (record old { host = host }) t
-    elsewhere_goes host same =
-        stays app Good number (record old { host = host }) t good
-        (represents_with number host (connection_at number old.host) old.down old.up old t same is.is_open is.stands is.waits is.unnamed is.stored)
+    pub elsewhere_goes : (host : Host) → connection_at number host ≡ connection_at number old.host → GoesBy app Good number (record old { host = host }) t []
+    elsewhere_goes host same = record {
+      goes = stays app Good number (record old { host = host }) t good
+          (represents_with number host (connection_at number old.host) old.down old.up old t same is.is_open is.stands is.waits is.unnamed is.stored);
+      are = refl;
+    }

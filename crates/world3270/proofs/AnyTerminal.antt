@@ -8,7 +8,8 @@ use Rattle.lu_pool.specs.HolderLaws.{IsSound as IsSoundPool}
 use Rattle.lu_pool.specs.declared.entry.Entry.{Entry}
 use Rattle.presentation.specs.Sizes.{SizedScreen}
 use Rattle.shadow.specs.Pairs.{Pairwise}
-use Rattle.std.specs.Prelude.{⊤, IfSome}
+use Rattle.std.specs.Prelude.{⊤, All, IfSome}
+use Rattle.std.proofs.lemmas.List.Elements.{All-cons, All-nil}
 use Rattle.telnet_wire.specs.Items.{WireItem, sent_bytes}
 use Rattle.telnet_wire.specs.Laws.{ItemsAreRead, WrongIsFinal}
 use Rattle.telnet_wire.specs.Reading.{Rest}
@@ -26,7 +27,7 @@ use Rattle.host_core.specs.Takes.{took as host_took}
 use Rattle.host_core.specs.declared.question.Answer.{Answer as Said}
 use Rattle.keyboard.specs.State.{Keyboard}
 use Rattle.world3270.specs.EveryTerminal.{AreByTheRules, IsByTheRules, Move, Told, after_moves, came_down, executed, key_pressed, moved, operated, told_if}
-use Rattle.world3270.specs.EveryTerminalBytes.{IsOperated, OverBytes, Represents, Takes, display_of, displaying, end_of, link_over}
+use Rattle.world3270.specs.EveryTerminalBytes.{IsDown, IsOperated, OverBytes, Represents, Takes, display_of, displaying, end_of, link_over}
 use Rattle.world3270.specs.Link.{Link, sent, term_left_if, term_stepped}
 use Rattle.world3270.specs.Placed.{is_queued}
 use Rattle.world3270.specs.Readings.{AreReadAs, IsReadAs, MayComeUp}
@@ -82,23 +83,32 @@ pub record Goes (app : Application) (Good : Told → Type 0) (number : ℕ) (byt
   pub represents : Represents number bytes (after_moves app moves t)
   pub good : Good (after_moves app moves t)
 
-pub stays : (app : Application) (Good : Told → Type 0) (number : ℕ) (bytes : OverBytes) (t : Told) → Good t → Represents number bytes t → Goes app Good number bytes t
+abbrev pub stays : (app : Application) (Good : Told → Type 0) (number : ℕ) (bytes : OverBytes) (t : Told) → Good t → Represents number bytes t → Goes app Good number bytes t
 stays app Good number bytes t good represents = record { moves = []; by_the_rules = tt; represents = represents; good = good }
 
-pub moves_once : (app : Application) (Good : Told → Type 0) → IsKept app Good → (number : ℕ) (bytes : OverBytes) (t : Told) (move : Move) → Good t → IsByTheRules move t → IsTypedMove move
+abbrev pub moves_once : (app : Application) (Good : Told → Type 0) → IsKept app Good → (number : ℕ) (bytes : OverBytes) (t : Told) (move : Move) → Good t → IsByTheRules move t → IsTypedMove move
     → Represents number bytes (moved app move t) → Goes app Good number bytes t
 moves_once app Good kept number bytes t move good is typed represents = record { moves = move ∷ []; by_the_rules = (is, tt); represents = represents; good = kept.goes_on move t good is typed }
 
-more_moves : (app : Application) (one others : List Move) (t : Told) → after_moves app (one ++ others) t ≡ after_moves app others (after_moves app one t)
+pub more_moves : (app : Application) (one others : List Move) (t : Told) → after_moves app (one ++ others) t ≡ after_moves app others (after_moves app one t)
 more_moves app [] others t = refl
 more_moves app (move ∷ one) others t = more_moves app one others (moved app move t)
 
-more_rules : (app : Application) (one others : List Move) (t : Told) → AreByTheRules app one t → AreByTheRules app others (after_moves app one t) → AreByTheRules app (one ++ others) t
+pub more_rules : (app : Application) (one others : List Move) (t : Told) → AreByTheRules app one t → AreByTheRules app others (after_moves app one t) → AreByTheRules app (one ++ others) t
 more_rules app [] others t are behind = behind
 more_rules app (move ∷ one) others t are behind = (are.0, more_rules app one others (moved app move t) are.1 behind)
 
+-- the same moves lead to bytes that are the same
+abbrev pub goes_as : (app : Application) (Good : Told → Type 0) (number : ℕ) (bytes same : OverBytes) (t : Told) → same ≡ bytes → Goes app Good number bytes t → Goes app Good number same t
+goes_as app Good number bytes same t is goes = record {
+  moves = goes.moves;
+  by_the_rules = goes.by_the_rules;
+  represents = subst (λ (b : OverBytes). Represents number b (after_moves app goes.moves t)) (sym is) goes.represents;
+  good = goes.good;
+}
+
 -- one after the other
-pub goes_after : (app : Application) (Good : Told → Type 0) (number : ℕ) (mid bytes : OverBytes) (t : Told) → (first : Goes app Good number mid t) → Goes app Good number bytes (after_moves app first.moves t)
+abbrev pub goes_after : (app : Application) (Good : Told → Type 0) (number : ℕ) (mid bytes : OverBytes) (t : Told) → (first : Goes app Good number mid t) → Goes app Good number bytes (after_moves app first.moves t)
     → Goes app Good number bytes t
 goes_after app Good number mid bytes t first second =
     let whole = sym (more_moves app first.moves second.moves t) in
@@ -108,6 +118,11 @@ goes_after app Good number mid bytes t first second =
       represents = subst (λ (u : Told). Represents number bytes u) whole second.represents;
       good = subst (λ (u : Told). Good u) whole second.good;
     }
+
+-- by these moves
+pub record GoesBy (app : Application) (Good : Told → Type 0) (number : ℕ) (bytes : OverBytes) (t : Told) (those : List Move) : Type 0 where
+  pub goes : Goes app Good number bytes t
+  pub are : goes.moves ≡ those
 
 -- ---- what is said
 
@@ -182,6 +197,7 @@ came_one app message others t down same closes =
 
 record CameDown (app : Application) (Good : Told → Type 0) (taken others : List ToTerminal) (t : Told) : Type 0 where
   moves : List Move
+  downs : All IsDown moves
   by_the_rules : AreByTheRules app moves t
   link_is : (after_moves app moves t).link ≡ took_down taken others t.link
   waits_is : (after_moves app moves t).waits ≡ (if any_painted t.link.term taken then false else t.waits)
@@ -190,7 +206,7 @@ record CameDown (app : Application) (Good : Told → Type 0) (taken others : Lis
 module _ (app : Application) (Good : Told → Type 0) (kept : IsKept app Good) where
   -- messages come down, one by one
   all_came : (taken others : List ToTerminal) (t : Told) → Good t → t.link.down ≡ taken ++ others → CameDown app Good taken others t
-  all_came [] others t good down = record { moves = []; by_the_rules = tt; link_is = refl; waits_is = refl; good = good }
+  all_came [] others t good down = record { moves = []; downs = All-nil IsDown; by_the_rules = tt; link_is = refl; waits_is = refl; good = good }
   all_came (message ∷ taken) others t good down =
       let ready = kept.ready t good in
       let step : TermStep = took t.link.term message in
@@ -199,6 +215,7 @@ module _ (app : Application) (Good : Told → Type 0) (kept : IsKept app Good) w
       let more = all_came taken others mid (kept.goes_on Move.Down t good tt tt) one.down in
       record {
         moves = Move.Down ∷ more.moves;
+        downs = All-cons IsDown Move.Down more.moves tt more.downs;
         by_the_rules = (tt, more.by_the_rules);
         link_is = more.link_is ∙ ap (took_down taken others) one.link;
         waits_is = more.waits_is
@@ -229,6 +246,11 @@ all_waits (message ∷ taken) others link =
     ∙ ap (λ (e : TermEnd). e.waits) (left_term step.closes (record link { down = taken ++ others; term = step.end; up = sent link.lost link.up step.sends }))
     ∙ took_waits link.term message
 
+-- messages came down
+pub record WentDown (app : Application) (Good : Told → Type 0) (number : ℕ) (bytes : OverBytes) (t : Told) : Type 0 where
+  pub goes : Goes app Good number bytes t
+  pub downs : All IsDown goes.moves
+
 pub record TakesLaws : Type 0 where
   pub takes : TermTakes
   pub keeps : TakesKeepSendable
@@ -240,7 +262,7 @@ pub record TakesLaws : Type 0 where
   pub join : StandsJoin without_commands IsReadAs
 
 module _ (laws : TakesLaws) (app : Application) (Good : Told → Type 0) (kept : IsKept app Good) where
-  pub takes_goes : (number : ℕ) (old new : OverBytes) (t : Told) → Good t → Represents number old t → Takes old new → Goes app Good number new t
+  pub takes_goes : (number : ℕ) (old new : OverBytes) (t : Told) → Good t → Represents number old t → Takes old new → WentDown app Good number new t
   takes_goes number old new t good is comes =
       let out : List ℕ = (connection_at number old.host).out in
       let link : Link = t.link in
@@ -275,10 +297,13 @@ module _ (laws : TakesLaws) (app : Application) (Good : Told → Type 0) (kept :
         stored = subst (λ (l : Link). CanBeSent l.term.display.shape l.term.display.screen) back ran.can;
       } in
       record {
-        moves = down.moves;
-        by_the_rules = down.by_the_rules;
-        represents = subst (λ (b : OverBytes). Represents number b (after_moves app down.moves t)) (sym comes.leaves) represents;
-        good = down.good;
+        goes = record {
+          moves = down.moves;
+          by_the_rules = down.by_the_rules;
+          represents = subst (λ (b : OverBytes). Represents number b (after_moves app down.moves t)) (sym comes.leaves) represents;
+          good = down.good;
+        };
+        downs = down.downs;
       }
 
   -- ---- it is operated
@@ -314,7 +339,7 @@ module _ (laws : TakesLaws) (app : Application) (Good : Told → Type 0) (kept :
   leaves end step (Operates.sends keyboard aid some is) =
       record { closes = ap (λ (s : TermStep). s.closes) is; talk = ap (λ (s : TermStep). s.end.talk) is; waits = ap (λ (s : TermStep). s.end.waits) is }
 
-  pub operates_goes : (number : ℕ) (step : TermStep) (old new : OverBytes) (t : Told) → Good t → Represents number old t → IsOperated step old new → Goes app Good number new t
+  pub operates_goes : (number : ℕ) (step : TermStep) (old new : OverBytes) (t : Told) → Good t → Represents number old t → IsOperated step old new → GoesBy app Good number new t (Move.Operate step ∷ [])
   operates_goes number step old new t good is does =
       let link : Link = t.link in
       let here : link.term_here ≡ Some 0 = sym is.stands.term_here in
@@ -358,37 +383,43 @@ module _ (laws : TakesLaws) (app : Application) (Good : Told → Type 0) (kept :
         };
       } in
       let back = sym link_is in
-      moves_once app Good kept number new t (Move.Operate step) good rules does.stored
-      (subst (λ (b : OverBytes). Represents number b (operated step t)) (sym does.leaves)
-      (record {
+      let represents : Represents number bytes (operated step t) = record {
         is_open = is.is_open;
         stands = subst (λ (l : Link). LinkStandsBy without_commands IsReadAs (link_over number bytes) l) back stands;
         waits = ap (λ (w : Bool). w || is_queued step.sends) is.waits;
         unnamed = ap (λ (l : Link). l.term.waits) link_is ∙ left.waits ∙ is.unnamed;
         stored = subst (λ (l : Link). CanBeSent l.term.display.shape l.term.display.screen) back does.stored;
-      }))
+      } in
+      record {
+        goes = moves_once app Good kept number new t (Move.Operate step) good rules does.stored
+            (subst (λ (b : OverBytes). Represents number b (operated step t)) (sym does.leaves) represents);
+        are = refl;
+      }
 
   -- ---- it sends commands that the host takes as nothing
 
-  pub commands_goes : (number : ℕ) (bytes : List ℕ) (old : OverBytes) (t : Told) → Good t → Represents number old t → AreReadAs bytes [] → Goes app Good number (record old { up = old.up ++ bytes }) t
-  commands_goes number bytes old t good is commands = stays app Good number (record old { up = old.up ++ bytes }) t good (record {
-    is_open = is.is_open;
-    stands = record {
-      lost = is.stands.lost;
-      host_here = is.stands.host_here;
-      term_here = is.stands.term_here;
-      read = is.stands.read;
-      up = subst (λ (messages : List ToHost). BytesStand without_commands IsReadAs is.stands.read (old.up ++ bytes) messages) (append-nil t.link.up)
-          (laws.join is.stands.read old.up bytes t.link.up [] is.stands.up commands);
-      host = λ there. let host = is.stands.host there in record { host = host.host; rest_is = host.rest_is };
-      term = λ which its. let term = is.stands.term which its in record {
-        rest = term.rest;
-        holds = record { talk = term.holds.talk; attached = term.holds.attached; is_end = term.holds.is_end };
-        silent = term.silent;
-        down = term.down;
+  pub commands_goes : (number : ℕ) (bytes : List ℕ) (old : OverBytes) (t : Told) → Good t → Represents number old t → AreReadAs bytes [] → GoesBy app Good number (record old { up = old.up ++ bytes }) t []
+  commands_goes number bytes old t good is commands = record {
+    goes = stays app Good number (record old { up = old.up ++ bytes }) t good (record {
+      is_open = is.is_open;
+      stands = record {
+        lost = is.stands.lost;
+        host_here = is.stands.host_here;
+        term_here = is.stands.term_here;
+        read = is.stands.read;
+        up = subst (λ (messages : List ToHost). BytesStand without_commands IsReadAs is.stands.read (old.up ++ bytes) messages) (append-nil t.link.up)
+            (laws.join is.stands.read old.up bytes t.link.up [] is.stands.up commands);
+        host = λ there. let host = is.stands.host there in record { host = host.host; rest_is = host.rest_is };
+        term = λ which its. let term = is.stands.term which its in record {
+          rest = term.rest;
+          holds = record { talk = term.holds.talk; attached = term.holds.attached; is_end = term.holds.is_end };
+          silent = term.silent;
+          down = term.down;
+        };
       };
-    };
-    waits = is.waits;
-    unnamed = is.unnamed;
-    stored = is.stored;
-  })
+      waits = is.waits;
+      unnamed = is.unnamed;
+      stored = is.stored;
+    });
+    are = refl;
+  }

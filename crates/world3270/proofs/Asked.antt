@@ -26,6 +26,7 @@ use Rattle.shadow.specs.Pairs.{Pairwise}
 use Rattle.host_core.specs.Acts.{Act, Decision, belief_of, decision_on, is_in_doubt, is_settled_fact, learned, text_known, when_shown}
 use Rattle.host_core.specs.Application.{Application, IsApplication, message_place}
 use Rattle.host_core.specs.Questions.{is_ask, is_asking, key_of, question_in, question_on}
+use Rattle.host_core.specs.Takes.{is_verified}
 use Rattle.host_core.specs.Session.{Conn, agreed_lu}
 use Rattle.host_core.specs.declared.question.Question.{Question}
 use Rattle.host_core.specs.declared.turn_reason.TurnReason.{TurnReason}
@@ -216,16 +217,17 @@ asked_sure app conn turn_reasons.Refusal settled asks = absurd (cc)
 asked_sure app conn (turn_reasons.Key aid true) settled asks = inr settled
 asked_sure app conn (turn_reasons.Key aid false) settled asks = inl (by_aid aid asks)
   where
-    by_doubt : (doubt : Bool) (led_to : Decision) → is_ask (if doubt && not false then Decision.Do Act.Read else led_to) ≡ true → doubt ≡ false
-    by_doubt true led_to asks = absurd (cc)
-    by_doubt false led_to asks = refl
+    by_doubt : (verified doubt : Bool) (led_to : Decision) → is_ask (if (verified || doubt) && not false then Decision.Do Act.Read else led_to) ≡ true → doubt ≡ false
+    by_doubt true doubt led_to asks = absurd (cc)
+    by_doubt false true led_to asks = absurd (cc)
+    by_doubt false false led_to asks = refl
 
     by_aid : (aid : Aid) → is_ask (decision_on app conn (turn_reasons.Key aid false)) ≡ true → list_any (is_in_doubt conn.shadow) (app.fields conn.panel) ≡ false
     by_aid Clear asks = absurd (cc)
     by_aid (Pa key) asks = absurd (cc)
-    by_aid NoAid asks = by_doubt (list_any (is_in_doubt conn.shadow) (app.fields conn.panel)) _ asks
-    by_aid Enter asks = by_doubt (list_any (is_in_doubt conn.shadow) (app.fields conn.panel)) _ asks
-    by_aid (Pf key) asks = by_doubt (list_any (is_in_doubt conn.shadow) (app.fields conn.panel)) _ asks
+    by_aid NoAid asks = by_doubt (is_verified conn) (list_any (is_in_doubt conn.shadow) (app.fields conn.panel)) _ asks
+    by_aid Enter asks = by_doubt (is_verified conn) (list_any (is_in_doubt conn.shadow) (app.fields conn.panel)) _ asks
+    by_aid (Pf key) asks = by_doubt (is_verified conn) (list_any (is_in_doubt conn.shadow) (app.fields conn.panel)) _ asks
 
 -- what later fields have leaves the value of a number that they haven't
 learned_stays : (shadow : Shadow) (panel : List PanelField) (values : Values) (number : ℕ) → ((index : ℕ) (field : PanelField) → slice_get panel index ≡ Some field → number ≢ field.number)

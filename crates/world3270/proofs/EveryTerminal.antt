@@ -26,7 +26,6 @@ use Rattle.host_core.specs.Questions.{question_in}
 use Rattle.host_core.specs.Session.{Conn, agreed_lu, new_conn}
 use Rattle.host_core.specs.Takes.{may_have_changed}
 use Rattle.host_core.specs.declared.question.Question.{Question}
-use Rattle.host_core.specs.declared.turn.Turn.TheVariants as whose
 use Rattle.world3270.specs.Asked.{AreFieldsAsked, IsSeen}
 use Rattle.world3270.specs.EveryTerminal.{AreByTheRules, Begins, EveryTerminal, IsByTheRules, Move, RightOf, Told, after_moves, came_down, came_up, moved, told_link}
 use Rattle.world3270.specs.Given.{Given}

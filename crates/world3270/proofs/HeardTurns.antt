@@ -1,5 +1,5 @@
 -- Whose turn it is, and what is pending, once a message of a session was heard; the talk stays.
-use Rattle.std.proofs.Common.{◌≡◌, true, false, ℕ, Option, List, [], ◌∷◌, Result, Ok, Err, IsOkAnd, refl, ap, sym, subst, ◌∙◌}
+use Rattle.std.proofs.Common.{◌≡◌, true, false, ℕ, Option, List, [], ◌∷◌, None, Result, Ok, Err, IsOkAnd, refl, ap, sym, subst, ◌∙◌}
 use Rattle.codes3270.specs.Size.{Shape}
 use Rattle.codes3270.specs.declared.attention.Aid.TheVariants.{NoAid}
 use Rattle.datastream.specs.Grammar.{CommandParts}
@@ -9,6 +9,7 @@ use Rattle.datastream.specs.Screen.{Screen}
 use Rattle.datastream.specs.declared.inbound_part.Form.TheVariants.{Modified}
 use Rattle.shadow.specs.Belief.{Shadow}
 use Rattle.shadow.specs.Laws.{Believed}
+use Rattle.shadow.specs.RuleBreaks.{rule_break}
 use Rattle.shadow.specs.declared.fault.HeardFault.{HeardFault}
 use Rattle.host_core.specs.Application.{Application}
 use Rattle.host_core.specs.Messages.{ToHost, Verdict}
@@ -24,7 +25,7 @@ use Rattle.world3270.specs.Stages.{Fact, Kept, Sizes, scene_of}
 use Rattle.world3270.specs.View.{view_of}
 use Rattle.world3270.proofs.Queues.{front, nothing}
 use Rattle.world3270.proofs.SecondKeys.{pending_after, turn_after, unless_read}
-use Rattle.world3270.proofs.Up.{IsKeyTime, buffer_took, key_took, response_took}
+use Rattle.world3270.proofs.Up.{IsKeyTime, buffer_took, key_took, response_took, unbroken_read}
 use Rattle.world3270.proofs.TalkStates.{agreed_there}
 
 pub record GoesOn (pool : Answers) (conn : Conn) (message : ToHost) : Type 0 where
@@ -59,10 +60,10 @@ response_goes pool conn kind number command agrees pends =
     record { turn = ap (λ (s : HostStep). s.conn.turn) is; pending = ap (λ (s : HostStep). s.conn.pending) is; talk = ap (λ (s : HostStep). s.conn.talk) is }
 
 buffer_goes : (P : Shadow → Type 0) (pool : Answers) (conn : Conn) (size : Shape) (screen : Screen) (number : ℕ) → is_agreed conn.talk.state ≡ true → conn.pending ≡ Pending.Reading number
-    → IsOkAnd (hears (buffer_data size screen) conn) P → GoesOn pool conn (ToHost.Data (buffer_data size screen))
-buffer_goes P pool conn size screen number agrees pends ok =
+    → rule_break conn.shadow screen.cells ≡ None → IsOkAnd (hears (buffer_data size screen) conn) P → GoesOn pool conn (ToHost.Data (buffer_data size screen))
+buffer_goes P pool conn size screen number agrees pends unbroken ok =
     let read : InboundParts = buffer_data size screen in
-    let is = buffer_took pool conn size screen number agrees pends in
+    let is = buffer_took pool conn size screen number agrees pends (unbroken_read conn size screen unbroken) in
     let then_this = believed_turn P (once_read conn.turn_reason) Pending.Nothing read.cursor conn (hears read conn) ok in
     record {
       turn = ap (λ (s : HostStep). s.conn.turn) is ∙ then_this.0;
@@ -87,7 +88,7 @@ goes_on given app pool link message rest e k agrees = by_moment k.moment k.sizes
         let first = front link.lost link.up message rest _ [] e at.goes_up in
         let said : Screen = record screen { aid = parts.aid } in
         as_it (ToHost.Data (buffer_data link.host.shape said)) (first.0 ∙ ap (λ p. ToHost.Data p) f.says)
-        (buffer_goes (Believed false screen) pool link.host link.host.shape said number agrees at.pending f.will)
+        (buffer_goes (Believed false screen) pool link.host link.host.shape said number agrees at.pending f.unbroken f.will)
     by_serving lu (Serving.AnsweredLate number command) s at f =
         let first = front link.lost link.up message rest _ [] e at.goes_up in
         as_it (ToHost.Response number Verdict.Positive) first.0 (response_goes pool link.host Kind.ANote number command agrees at.pending)

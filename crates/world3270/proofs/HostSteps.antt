@@ -1,5 +1,5 @@
 -- What a host makes of a message leaves its number and its values as they are, and its turn; it says nothing but talk.
-use Rattle.std.proofs.Common.{◌≡◌, ◌⊎◌, inl, inr, ◌==◌, ℕ, Bool, true, false, Option, None, Result, Ok, Err, List, [], map, refl, ◌∙◌, if◌then◌else◌}
+use Rattle.std.proofs.Common.{◌≡◌, ◌⊎◌, inl, inr, ◌==◌, ℕ, Bool, true, false, Option, None, Result, Ok, Err, List, [], map, refl, ◌∙◌, if◌then◌else◌, Some}
 use Rattle.codes3270.specs.declared.attention.Aid.{Aid}
 use Rattle.codes3270.specs.declared.attention.Aid.TheVariants.{NoAid, Enter, Clear, Pf, Pa}
 use Rattle.datastream.specs.Grammar.{CommandParts}
@@ -136,7 +136,7 @@ hears_buffer parts Buffer conn = by_break (rule_broken_by parts conn)
   where
     by_break : (broken : Option RuleBreak) → JustTalks conn (unless_broken conn broken (buffer_heard parts conn))
     by_break None = believes (once_read conn.turn_reason) Pending.Nothing parts.cursor conn (hears parts conn) (inr refl) (read_reason conn.turn_reason)
-    by_break (Some broken) = record { number = refl; panel = refl; values = refl; message = refl; turn = λ is. is; pending = inl refl; unheard = inl refl; reason = inl refl; talk = []; says = refl }
+    by_break (Some broken) = record { shape = refl; number = refl; panel = refl; values = refl; message = refl; turn = λ is. is; pending = inl refl; unheard = inl refl; reason = inl refl; talk = []; says = refl }
 hears_buffer parts Modified conn = comes_out_of_turn parts conn
 hears_buffer parts AllModified conn = comes_out_of_turn parts conn
 

@@ -266,8 +266,12 @@ buffer_took pool conn size screen number agrees pends unbroken =
 
 -- no rule is broken, whether the host verifies that or not
 none_broken : (verified : Bool) (broken : Option RuleBreak) → broken ≡ None → (if verified then broken else None) ≡ None
-none_broken true broken none = none
-none_broken false broken none = refl
+none_broken true broken e = e
+none_broken false broken e = refl
+
+pub unbroken_read : (conn : Conn) (size : Shape) (screen : Screen) → rule_break conn.shadow screen.cells ≡ None → rule_broken_by (buffer_data size screen) conn ≡ None
+unbroken_read conn size screen unbroken =
+    none_broken (is_verified conn) (rule_break conn.shadow (cells_sent (buffer_data size screen).parts)) (ap (rule_break conn.shadow) (cells_back screen.cells) ∙ unbroken)
 
 -- nothing is open, so much the less after some keys
 all_open : (aid : Aid) (buffered : Bool) (s : Shadow) → NothingIsOpen s → IsOpenBy aid buffered s
@@ -383,7 +387,7 @@ module _ (given : Given) (app : Application) (pool : List Entry) (link : Link) (
       let read : InboundParts = buffer_data link.host.shape said in
       as_step app pool link rest k (ToHost.Data read) message (believed (once_read link.host.turn_reason) Pending.Nothing read.cursor link.host (hears read link.host)) (e ∙ ap (λ p. ToHost.Data p) f.says)
       (buffer_took (answer_to pool) link.host link.host.shape said number (agreed_at app pool link rest k lu (Serving.Reported number parts) at) at.pending
-      (none_broken (is_verified link.host) (rule_break link.host.shadow (cells_sent read.parts)) (ap (rule_break link.host.shadow) (cells_back screen.cells) ∙ f.unbroken)))
+      (unbroken_read link.host link.host.shape said f.unbroken))
       (believes lu (Serving.Reported number parts) Serving.Deciding read (once_read link.host.turn_reason) Pending.Nothing read.cursor (λ s. Sees link.host.unheard link.host.shape screen s × NothingIsOpen s × All IsTextKnown (fields_of s)) (hears read link.host) at
       (given.belief.heard_exact size link.host.shadow read k.exact.known) (given.belief.heard_protected size link.host.shadow read k.exact.protected)
       (by_result (heard size link.host.shadow read) f.will

@@ -1,6 +1,6 @@
 -- One connection over bytes, of a host that serves any terminal, once the host has agreed on an LU, with a terminal that keeps the rules
 -- (our profile): what may happen on it, in the words of the host's calls, and what holds then. Other clients do what they like.
-use Rattle.std.specs.Prelude.{◌≡◌, ◌≢◌, ◌<◌, ◌||◌, ℕ, Bool, true, false, List, [], ◌∷◌, ◌++◌, Some, drop, take, if◌then◌else◌}
+use Rattle.std.specs.Prelude.{◌≡◌, ◌≢◌, ◌<◌, ◌||◌, ℕ, Bool, true, false, List, [], ◌∷◌, ◌++◌, Some, ⊤, All, drop, take, if◌then◌else◌}
 use Rattle.codes3270.specs.declared.attention.Aid.TheVariants.{Clear}
 use Rattle.lu_pool.specs.HolderLaws.{IsSound as IsSoundPool}
 use Rattle.panels.specs.Panel.{AreSound}
@@ -19,6 +19,7 @@ use Rattle.host_core.specs.Questions.{answered_by}
 use Rattle.host_core.specs.Sound.{IsSound, NobodyShares}
 use Rattle.host_core.specs.State.{Connection, Host, connection_at, lu_of, most_connections, service_at, session_at, with_connection}
 use Rattle.host_core.specs.declared.acted.Acted.{Acted}
+use Rattle.host_core.specs.declared.acted.Acted.TheVariants as acted_as
 use Rattle.host_core.specs.declared.question.Answer.{Answer as Said}
 use Rattle.host_core.specs.declared.question.Ticket.{Ticket}
 use Rattle.world3270.specs.ByteWorld.{is_there}
@@ -35,8 +36,10 @@ use Rattle.world3270.specs.TrackedTerminals.{TrackedTerminal, TrackedTakesByte}
 -- ---- the connection
 
 -- The host with all its connections; the bytes under way down, which it has handed over, and up; and the terminal, with the history of its
--- screen. What the terminal has to send is under way. `waits`: a key was pressed that sent data since the terminal last took a write that
--- restores the keyboard, so that a 3278 would wait. On a connection that is lost nothing more comes.
+-- screen. What the terminal has to send is under way. `waits`: a key was pressed that sent data since the terminal last
+-- took a write that restores the keyboard, so that a 3278 would wait. On a connection that is lost nothing more is taken
+-- or fed, and what was under way stays so for good: no move has to happen, so a loss, in one direction or in both, needs
+-- none of its own. The host is told of it by giving the connection back, and that ends what is said here.
 pub record OverBytes : Type 0 where
   pub host : Host
   pub down : List ℕ
@@ -152,6 +155,52 @@ abbrev pub LeadTo : Application → ℕ → List OverBytes → OverBytes → Ove
 LeadTo app number [] old new = new ≡ old
 LeadTo app number (next ∷ others) old new = Moves app number old next × IsHost next.host × LeadTo app number others next new
 
+-- ---- which moves over messages these are
+
+abbrev pub IsUp : Move → Type 0
+IsUp (Move.Up pool) = ⊤
+IsUp Move.Down = ⊥
+IsUp Move.Act = ⊥
+IsUp (Move.Answer said) = ⊥
+IsUp (Move.Note text) = ⊥
+IsUp (Move.Operate step) = ⊥
+IsUp Move.Lose = ⊥
+
+abbrev pub IsDown : Move → Type 0
+IsDown (Move.Up pool) = ⊥
+IsDown Move.Down = ⊤
+IsDown Move.Act = ⊥
+IsDown (Move.Answer said) = ⊥
+IsDown (Move.Note text) = ⊥
+IsDown (Move.Operate step) = ⊥
+IsDown Move.Lose = ⊥
+
+-- once, unless there was nothing to do or memory was refused
+abbrev pub if_sent : Acted → Move → List Move
+if_sent acted_as.Sent move = move ∷ []
+if_sent acted_as.Nothing move = []
+if_sent acted_as.Memory move = []
+
+-- Bytes that are fed deliver messages up, and those that the terminal takes deliver messages down; what the host does and what the operator
+-- does is the same over messages; all else is nothing there.
+abbrev pub AreMovesOf : {app : Application} {number : ℕ} {old new : OverBytes} → Moves app number old new → List Move → Type 0
+AreMovesOf (Moves.feeds bytes behind fed counter queue hears is) moves = All IsUp moves
+AreMovesOf (Moves.hands_over count is) moves = moves ≡ []
+AreMovesOf (Moves.acts did connection does is) moves = moves ≡ if_sent did Move.Act
+AreMovesOf (Moves.answers ticket said did connection texts does is) moves = moves ≡ if_sent did (Move.Answer said)
+AreMovesOf (Moves.notes text did connection is_text does is) moves = moves ≡ if_sent did (Move.Note text)
+AreMovesOf (Moves.keeps_alive is) moves = moves ≡ []
+AreMovesOf (Moves.elsewhere host other is) moves = moves ≡ []
+AreMovesOf (Moves.takes comes) moves = All IsDown moves
+AreMovesOf (Moves.operates step does) moves = moves ≡ Move.Operate step ∷ []
+AreMovesOf (Moves.sends_commands bytes commands is) moves = moves ≡ []
+
+-- one after another
+abbrev pub AreMoves : (app : Application) (number : ℕ) (states : List OverBytes) (old new : OverBytes) → LeadTo app number states old new → List Move → Type 0
+AreMoves app number [] old new lead moves = moves ≡ []
+AreMoves app number (next ∷ others) old new lead moves =
+    (first : List Move) × (more : List Move) × AreMovesOf lead.0 first × AreMoves app number others next new lead.2 more × (moves ≡ first ++ more)
+
 -- ---- what the bytes represent
 
 -- what the host has to send is under way, too
@@ -186,16 +235,20 @@ pub record BeginsOverBytes (app : Application) (number : ℕ) (lu : List ℕ) (b
 
 -- ---- what holds
 
--- The bytes represent the connection over messages after moves that keep the rules, and what the theorem over messages says is so: of the
--- host's connection as it is and of the terminal's screen. The host has granted the LU to no other connection.
-pub record RightOverBytes (app : Application) (number : ℕ) (lu : List ℕ) (begin : Told) (bytes : OverBytes) : Type 0 where
+-- Over messages the same happened, by the rules. The bytes represent the connection after it, and what the theorem over
+-- messages says is so: of the host's connection as it is and of the terminal's screen. The host has granted the LU to no
+-- other connection.
+pub record RightOverBytes (app : Application) (number : ℕ) (lu : List ℕ) (begin : Told) (states : List OverBytes) (old new : OverBytes)
+    (lead : LeadTo app number states old new) : Type 0 where
   pub moves : List Move
+  pub are_moves : AreMoves app number states old new lead moves
   pub by_the_rules : AreByTheRules app moves begin
-  pub represents : Represents number bytes (after_moves app moves begin)
+  pub represents : Represents number new (after_moves app moves begin)
   pub right : RightOf app lu (after_moves app moves begin)
-  pub alone : (other : ℕ) → lu_of (service_at other bytes.host) ≡ Some lu → other ≡ number
+  pub alone : (other : ℕ) → lu_of (service_at other new.host) ≡ Some lu → other ≡ number
 
 -- After all such moves, in any order, of a host with sound panels.
 abbrev pub EveryTerminalOverBytes : Type 0
 EveryTerminalOverBytes = (number : ℕ) (lu : List ℕ) (old new : OverBytes) (states : List OverBytes) → let app = application_of old.host.panels in
-    AreSound old.host.panels → (begins : BeginsOverBytes app number lu old) → LeadTo app number states old new → RightOverBytes app number lu begins.begin new
+    AreSound old.host.panels → (begins : BeginsOverBytes app number lu old) → (lead : LeadTo app number states old new)
+    → RightOverBytes app number lu begins.begin states old new lead
