@@ -4,6 +4,7 @@ pub mod Commands
 pub mod OnePage
 pub mod OneScript
 pub mod Known
+pub mod InputEnds
 pub mod Endings
 pub mod ReadsOn
 pub mod Waits
@@ -11,6 +12,7 @@ pub mod RawCalls
 pub mod SocketCalls
 pub mod WriteCalls
 pub mod ServiceTurns
+pub mod LineParts
 pub mod ScriptLines
 pub mod Happenings
 pub mod Rounds

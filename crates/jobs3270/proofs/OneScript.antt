@@ -16,7 +16,8 @@ use Rattle.jobs3270.specs.Happenings.{AreRounds, AreTyped, Happening, OthersIf, 
 use Rattle.jobs3270.specs.HexLines.{lines_of}
 use Rattle.jobs3270.specs.Plays.{AreHappeningsOf, Plays, PlaysLine, PlaysNext, playable_command, said_of, terminal_models}
 use Rattle.jobs3270.specs.ScriptLines.{typed_text}
-use Rattle.jobs3270.specs.Scripts.{IsWorldOf, ScriptsHaveOnePage, lus_of, panel_text, script_text}
+use Rattle.jobs3270.specs.PanelHosts.{lus_of}
+use Rattle.jobs3270.specs.Scripts.{IsWorldOf, ScriptsHaveOnePage, panel_text, script_text}
 use Rattle.jobs3270.specs.declared.script_line.ScriptCommand.{ScriptCommand}
 use Rattle.jobs3270.specs.declared.script_line.ScriptCommand.TheVariants as command
 

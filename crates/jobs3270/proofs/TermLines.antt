@@ -1,8 +1,8 @@
 -- Lines of a terminal's script: their words.
 use Rattle.std.proofs.Common.{◌≡◌, ◌∙◌, ap, sym, ℕ, List, ◌∷◌}
-use Rattle.jobs3270.specs.ScriptLines.{behind}
+use Rattle.jobs3270.specs.LineParts.{behind}
 use Rattle.jobs3270.specs.TermLines.{command_of_verb, command_of_words, command_of_text, terminal_command}
-use Rattle.jobs3270.proofs.ScriptLines.{IsWhole, IsCut, one_word, some_words, word_more}
+use Rattle.jobs3270.proofs.LineParts.{IsWhole, IsCut, one_word, some_words, word_more}
 
 pub read_by_verb : (line : List ℕ) → IsWhole line → terminal_command line ≡ command_of_verb line
 unfolding terminal_command

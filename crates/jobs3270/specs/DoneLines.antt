@@ -5,7 +5,7 @@ use Rattle.term_core.specs.ScreenText.{screen_text}
 use Rattle.term_core.specs.State.{Terminal, phase_of}
 use Rattle.jobs3270.specs.Counting.{Output}
 use Rattle.jobs3270.specs.Operating.{after_text, phase_line, said_of_key, said_of_text}
-use Rattle.jobs3270.specs.ScriptLines.{behind}
+use Rattle.jobs3270.specs.LineParts.{behind}
 use Rattle.jobs3270.specs.Waits.{HasWaited}
 use Rattle.jobs3270.specs.declared.streams.Answer.{Answer}
 use Rattle.jobs3270.specs.declared.term_line.TerminalCommand.{TerminalCommand}

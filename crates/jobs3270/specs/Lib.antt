@@ -1,6 +1,7 @@
 pub mod ScreenText
 pub mod HexLines
 pub mod Pages
+pub mod LineParts
 pub mod ScriptLines
 pub mod AnswerLines
 pub mod AnswerDrafts
@@ -11,6 +12,7 @@ pub mod Waits
 pub mod DoneLines
 pub mod Happenings
 pub mod Plays
+pub mod PanelHosts
 pub mod Scripts
 pub mod Faults
 pub mod FileFaults
@@ -18,6 +20,7 @@ pub mod Counting
 pub mod RawCalls
 pub mod Counted
 pub mod Runs
+pub mod TaskRuns
 pub mod Topics
 pub mod OptionValues
 pub mod Words

@@ -2,8 +2,8 @@
 use Rattle.std.specs.Prelude.{ℕ, ◌==◌, ◌||◌, ◌&&◌, not, Bool, true, false, List, [], ◌∷◌, ◌++◌, flat_map, Option, Some, None, is_some, bytes_eq, codes, nat_eq, if◌then◌else◌}
 use Rattle.std.specs.List.{after_first, before_first, list_any, starts_with}
 use Rattle.std.specs.Option.{option_and_then, option_map_or}
-use Rattle.jobs3270.specs.OptionValues.{is_same_port, is_value, service_port_of}
-use Rattle.jobs3270.specs.Topics.{OptionRow, kind_named, name_of, options_of, takes_value, topic_named}
+use Rattle.jobs3270.specs.OptionValues.{is_same_port, service_port_of}
+use Rattle.jobs3270.specs.Topics.{OptionRow, is_value, kind_named, name_of, options_of, takes_value, topic_named}
 use Rattle.jobs3270.specs.declared.job.Topic.{Topic}
 use Rattle.jobs3270.specs.declared.job.Topic.TheVariants as topic
 use Rattle.jobs3270.specs.declared.job_table.ValueKind.{ValueKind}

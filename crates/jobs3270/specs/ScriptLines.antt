@@ -1,10 +1,7 @@
 -- The commands of a script as text (our profile). A line is words with one blank between each two: a verb, then the number of a
 -- terminal or a connection, then the verb's operand.
-use Rattle.std.specs.Prelude.{ℕ, ◌==◌, ◌-◌, ◌^◌, ◌&&◌, not, min, Bool, List, [], ◌∷◌, length, Option, Some, None, if◌then◌else◌, bytes_eq, codes, chars}
-use Rattle.std.specs.List.{after_first}
+use Rattle.std.specs.Prelude.{ℕ, ◌-◌, List, [], ◌∷◌, Option, Some, None, if◌then◌else◌, bytes_eq, codes, chars}
 use Rattle.std.specs.Option.{option_and_then, option_map}
-use Rattle.std.specs.Str.{all_ascii_digits}
-use Rattle.std.specs.Str.Parse.{digits_value}
 use Rattle.codes3270.specs.CodePage.{code_of}
 use Rattle.keyboard.specs.KeyNames.{key_named}
 use Rattle.presentation.specs.Glyph.{blank}
@@ -12,30 +9,15 @@ use Rattle.tn3270e_msg.specs.Lu.{lu_of}
 use Rattle.world3270.specs.NoteTexts.{note_text}
 use Rattle.world3270.specs.declared.event.Event.TheVariants.{Key, Up, Down, Act, Note, Lose, HostSees, TermSees, Connect, RestartTerm, RestartHost}
 use Rattle.jobs3270.specs.HexLines.{words_of}
+use Rattle.jobs3270.specs.LineParts.{behind, number_of}
 use Rattle.jobs3270.specs.declared.script_line.ScriptCommand.{ScriptCommand}
 use Rattle.jobs3270.specs.declared.script_line.ScriptCommand.TheVariants.{Nothing, Happen, TypeText, Answer, Settle, Show, Status, Question}
 
 -- ---- parts of a line
 
--- the text after the first blank; empty if there is no blank
-abbrev pub behind : List ℕ → List ℕ
-behind text = after_first (λ char. char == blank) text
-
 -- the text after the second blank
 abbrev pub typed_text : List ℕ → List ℕ
 typed_text line = behind (behind line)
-
--- decimal digits, at least one
-abbrev pub is_digits : List ℕ → Bool
-is_digits word = not (length word == 0) && all_ascii_digits word
-
--- the largest number of the machine
-abbrev pub largest_number : ℕ
-largest_number = 2 ^ 64 - 1
-
--- a decimal number of any length; one that is too large for the machine counts as the largest
-unfoldable pub number_of : List ℕ → Option ℕ
-number_of word = if is_digits word then Some (min (digits_value 10 word) largest_number) else None
 
 -- a code before others, if both are there
 abbrev pub code_before : Option ℕ → Option (List ℕ) → Option (List ℕ)

@@ -4,7 +4,7 @@ use Rattle.std.specs.Prelude.{ℕ, List, [], ◌∷◌, Option, Some, None, if�
 use Rattle.std.specs.Option.{option_map}
 use Rattle.keyboard.specs.KeyNames.{key_named}
 use Rattle.jobs3270.specs.HexLines.{words_of}
-use Rattle.jobs3270.specs.ScriptLines.{behind}
+use Rattle.jobs3270.specs.LineParts.{behind}
 use Rattle.jobs3270.specs.declared.term_line.TerminalCommand.{TerminalCommand}
 use Rattle.jobs3270.specs.declared.term_line.TerminalCommand.TheVariants.{Nothing, TypeText, Press, Wait, Show, Status}
 

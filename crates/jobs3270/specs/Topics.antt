@@ -1,10 +1,12 @@
 -- The jobs: their names and options (our profile).
-use Rattle.std.specs.Prelude.{ℕ, Bool, true, false, List, [], ◌∷◌, ◌++◌, Option, Some, None, codes, bytes_eq, if◌then◌else◌}
+use Rattle.std.specs.Prelude.{ℕ, Bool, true, false, List, [], ◌∷◌, ◌++◌, Option, Some, None, codes, bytes_eq, if◌then◌else◌, is_some}
 use Rattle.jobs3270.specs.declared.job.Topic.{Topic}
 use Rattle.jobs3270.specs.declared.job.Topic.TheVariants as topic
 use Rattle.jobs3270.specs.declared.job_table.JobOption.{JobOption}
 use Rattle.jobs3270.specs.declared.job_table.ValueKind.{ValueKind}
 use Rattle.jobs3270.specs.declared.job_table.ValueKind.TheVariants as kind
+use Rattle.tn3270e_msg.specs.Lu.{lu_of}
+use Rattle.jobs3270.specs.OptionValues.{address_of, model_of, port_of, reply_time_of, seconds_of, service_port_of, tty_size_of, turns_of}
 
 -- ---- names
 
@@ -92,3 +94,18 @@ operand_of _ = None
 abbrev pub kind_named : List OptionRow → List ℕ → Option ValueKind
 kind_named [] word = None
 kind_named (option ∷ options) word = if bytes_eq word option.word then Some option.kind else kind_named options word
+
+-- the word is a value of this kind
+abbrev pub is_value : ValueKind → List ℕ → Bool
+is_value kind.Port word = is_some (port_of word)
+is_value kind.ServicePort word = is_some (service_port_of word)
+is_value kind.Turns word = is_some (turns_of word)
+is_value kind.LuName word = is_some (lu_of word)
+is_value kind.Address word = is_some (address_of word)
+is_value kind.Seconds word = is_some (seconds_of word)
+is_value kind.Model word = is_some (model_of word)
+is_value kind.ReplyTime word = is_some (reply_time_of word)
+is_value kind.Url word = true
+is_value kind.File word = true
+is_value kind.TtySize word = is_some (tty_size_of word)
+is_value kind.Flag word = false

@@ -5,7 +5,7 @@ ghost use Rattle.jobs3270.specs.Runs.{InPieces};
 use crate::fault::Fault;
 use crate::input::read_whole;
 use crate::streams::{Sink, Source};
-use crate::task::end_by;
+use crate::ending::end_by;
 use std::alloc::Global;
 
 /// Prints the report on the panel text of an input with this name. Answers whether it has no fault.

@@ -6,7 +6,7 @@ ghost use Rattle.jobs3270.specs.declared.job.Topic.TheVariants.{Serve as ServeTo
 use crate::fault::Fault;
 use crate::job::Topic;
 use crate::streams::{Sink, WriteFailed};
-use crate::task::end_by;
+use crate::ending::end_by;
 
 const PROGRAM: &str = "panel3270: TN3270E hosts and terminals, and 3270 screens
 

@@ -2,7 +2,7 @@
 ghost use Rattle.std.specs.Prelude.{◌≡◌, ◌≤◌, IfSome};
 ghost use Rattle.jobs3270.specs.OptionValues.{model_numbered, model_of, port_numbered, service_port_numbered, service_port_of, reply_time_numbered, reply_time_of, seconds_numbered, seconds_of, turns_numbered, port_of, turns_of, usual_idle, usual_keepalive, usual_negotiate, usual_reply_time, usual_turns};
 
-use crate::script_line::number_of;
+use crate::word::number_of;
 use crate::service::{ApplicationChoice, Service};
 use crate::tty_size::TtySize;
 use codes3270::Model;

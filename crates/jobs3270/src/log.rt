@@ -1,5 +1,6 @@
 //! The log of a server.
-use crate::application_fault::{ApplicationFault, put_application_line, put_replaced_line};
+use crate::application_fault::ApplicationFault;
+use crate::application_line::{put_application_line, put_replaced_line};
 use crate::application_reply::Replaced;
 use crate::fault::Fault;
 use crate::notice::{Client, Notice, put_notice};

@@ -1,8 +1,7 @@
 //! Which word of the command line is wrong, and the lines that say so.
 ghost use Rattle.std.specs.Prelude.{◌≡◌, bytes_eq, codes, false, map, nat_eq, option_map, string_bytes};
 ghost use Rattle.std.specs.List.{after_first, before_first, list_any, starts_with};
-ghost use Rattle.jobs3270.specs.OptionValues.{is_value};
-ghost use Rattle.jobs3270.specs.Topics.{kind_named, options_of, row_of};
+ghost use Rattle.jobs3270.specs.Topics.{is_value, kind_named, options_of, row_of};
 ghost use Rattle.jobs3270.specs.Runs.{IsToldIn};
 ghost use Rattle.jobs3270.specs.Refusals.{advice_text, awaited_after, has_one_port, has_value, has_value_of, is_equals, is_given_again, is_named, is_option, is_own_verified, may_follow, name_after, of_files, of_job, of_options, of_serve, of_topics, of_words, options_after, port_given, refusal_text, refused_text, repeated, value_in, words_refused, wrong_word};
 

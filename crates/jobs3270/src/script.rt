@@ -1,17 +1,18 @@
 //! `script`: plays a script in a world of panels and terminals, and prints what the operators see.
 ghost use Rattle.std.specs.Prelude.{◌≡◌, true, string_bytes, IfOk, IfErr};
 ghost use Rattle.std.specs.Str.{IsCharBoundary};
-ghost use Rattle.jobs3270.specs.Runs.{EndsPrinting, InPieces, IsEnd, ending_of};
-ghost use Rattle.jobs3270.specs.Scripts.{HasNoWorld, IsApplicationOf, IsHostOf, IsScriptPage, IsWorldOf, behind_line, is_at_mark, mark_place, of_panels, of_pool, panel_text, script_text};
+ghost use Rattle.jobs3270.specs.Runs.{InPieces, ending_of};
+ghost use Rattle.jobs3270.specs.TaskRuns.{EndsPrinting, IsEnd};
+ghost use Rattle.jobs3270.specs.PanelHosts.{HasNoWorld};
+ghost use Rattle.jobs3270.specs.Scripts.{IsScriptPage, IsWorldOf, behind_line, is_at_mark, mark_place, panel_text, script_text};
 ghost use Rattle.jobs3270.specs.declared.task.Task.TheVariants.{Script};
 
 use crate::fault::Fault;
+use crate::panel_host::application_of;
 use crate::player::{MODELS, play};
 use crate::streams::{Sink, Source};
 use crate::task::{Task, run};
-use host_core::{Host, Terminals};
-use lu_pool::{Pool, PoolFault};
-use panels::{PanelFault, PanelSet};
+use host_core::Terminals;
 use std::alloc::Global;
 use world3270::World;
 
@@ -126,42 +127,6 @@ pub(crate) fn parted(input: &str) -> (&str, &str)
 
 // ---- what a panel text defines
 
-/// The run's fault for this fault of a panel text: NoMemory exactly if that is Memory.
-fn of_panels(fault: PanelFault) -> Fault
-    ensures { result ≡ of_panels fault }
-{
-    match fault {
-        PanelFault::Memory => Fault::NoMemory,
-        PanelFault::NotToml | PanelFault::Tree(_, _) => Fault::Panels(fault),
-    }
-}
-
-/// The run's fault for this fault of the LUs' names: NoMemory exactly if that is Memory.
-fn of_pool(fault: PoolFault) -> Fault
-    ensures { result ≡ of_pool fault }
-{
-    match fault {
-        PoolFault::Memory => Fault::NoMemory,
-        PoolFault::BadName(_) | PoolFault::Twice(_) | PoolFault::BadCount => Fault::Pool(fault),
-    }
-}
-
-/// The panels of a panel text, and a pool of their LUs.
-fn application_of(alloc: Global, text: &str) -> Result<(PanelSet, Pool), Fault>
-    ensures application { IfOk result (λ parts. IsApplicationOf text.now parts.0 parts.1) }
-    ensures fault { IfErr result (HasNoWorld text.now) }
-{
-    let panels = match PanelSet::read(alloc, text) {
-        Ok(panels) => panels,
-        Err(fault) => return Err(of_panels(fault)),
-    };
-    let pool = match Pool::read(alloc, panels.lus()) {
-        Ok(pool) => pool,
-        Err(fault) => return Err(of_pool(fault)),
-    };
-    Ok((panels, pool))
-}
-
 /// The world of a panel text: its panels, a pool of their LUs, a host that serves such terminals, and the terminals of a script.
 fn world_of(alloc: Global, terminals: Terminals, text: &str) -> Result<World, Fault>
     ensures world { IfOk result (IsWorldOf terminals text.now) }
@@ -173,23 +138,6 @@ fn world_of(alloc: Global, terminals: Terminals, text: &str) -> Result<World, Fa
     };
     match World::serving(alloc, terminals, panels, pool, &MODELS) {
         Ok(world) => Ok(world),
-        Err(_) => Err(Fault::NoMemory),
-    }
-}
-
-/// The host of a panel text, for these terminals: its panels, and a pool of their LUs.
-///
-/// Panels if the text defines no panels, Pool if their LUs are no pool, and NoMemory if memory is refused.
-pub fn host_of(alloc: Global, terminals: Terminals, text: &str) -> Result<Host, Fault>
-    ensures host { IfOk result (IsHostOf terminals text.now) }
-    ensures fault { IfErr result (HasNoWorld text.now) }
-{
-    let (panels, pool) = match application_of(alloc, text) {
-        Ok(parts) => parts,
-        Err(fault) => return Err(fault),
-    };
-    match Host::serving(alloc, terminals, panels, pool) {
-        Ok(host) => Ok(host),
         Err(_) => Err(Fault::NoMemory),
     }
 }

@@ -1,7 +1,8 @@
 //! The commands of a script, one a line, as text.
 ghost use Rattle.std.specs.Prelude.{◌≡◌};
-ghost use Rattle.jobs3270.specs.ScriptLines.{behind, typed_text, is_digits, number_of, note_of, command_of_verb, command_of_number, command_of_text, script_command};
+ghost use Rattle.jobs3270.specs.ScriptLines.{typed_text, note_of, command_of_verb, command_of_number, command_of_text, script_command};
 
+use crate::word::{behind, number_of};
 use codes3270::from_latin1;
 use keyboard::Key;
 use tn3270e_msg::Lu;
@@ -31,44 +32,11 @@ pub enum ScriptCommand {
 /// The most characters of a note.
 const LONGEST_NOTE: usize = 131;
 
-/// The text after the first blank; empty if there is no blank.
-pub(crate) fn behind(text: &str) -> &str
-    ensures { result.now ≡ behind text.now }
-{
-    match text.split_once(' ') {
-        Some((_, rest)) => rest,
-        None => "",
-    }
-}
-
 /// The text to be typed: the text after the second blank of a line; empty if there is no second blank.
 pub fn typed_text(line: &str) -> &str
     ensures { result.now ≡ typed_text line.now }
 {
     behind(behind(line))
-}
-
-/// Whether a word is decimal digits, at least one.
-fn is_digits(word: &str) -> bool
-    ensures { result ≡ is_digits word.now }
-{
-    for digit in word.as_bytes() {
-        if !digit.is_ascii_digit() {
-            return false;
-        }
-    }
-    !word.is_empty()
-}
-
-/// The value of a decimal number of any length, at most `usize::MAX`; None if the word isn't digits.
-pub(crate) fn number_of(word: &str) -> Option<usize>
-    ensures { result ≡ number_of word.now }
-{
-    if !is_digits(word) {
-        return None;
-    }
-    // Digits fail to parse only if the number is too large.
-    Some(word.parse::<usize>().unwrap_or(usize::MAX))
 }
 
 /// The note with this text; None if a character has no code in code page 037, or a note can't have the text.

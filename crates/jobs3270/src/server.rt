@@ -25,9 +25,6 @@ use std::net::{Net, SocketAddr};
 use std::time::Duration;
 use tn3270e_msg::Lu;
 
-/// The longest wait of a turn, in milliseconds.
-const LONGEST_WAIT: u64 = 10;
-
 /// The most events of one poll. Sockets without an event are served too.
 const MOST_EVENTS: usize = 128;
 
@@ -110,12 +107,6 @@ pub struct Server {
     listener: TcpListener,
     poll: Poll,
     events: Events,
-}
-
-/// The longest wait of a turn: none if a byte was read or written in the turn before, or 10 milliseconds.
-pub fn patience(moved: bool) -> Duration {
-    let millis = if moved { 0 } else { LONGEST_WAIT };
-    Duration::from_millis(millis)
 }
 
 /// A listener at an address, and a poll that waits for it.

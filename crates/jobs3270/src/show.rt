@@ -1,5 +1,6 @@
 //! `show`: applies commands in hexadecimal to a screen, and prints it.
-ghost use Rattle.jobs3270.specs.Runs.{EndsPrinting, InPieces, IsEnd, ending_of};
+ghost use Rattle.jobs3270.specs.Runs.{InPieces, ending_of};
+ghost use Rattle.jobs3270.specs.TaskRuns.{EndsPrinting, IsEnd};
 ghost use Rattle.jobs3270.specs.declared.task.Task.TheVariants.{Show};
 
 use crate::fault::Fault;

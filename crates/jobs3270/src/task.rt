@@ -1,8 +1,9 @@
 //! `script` and `show`: read the whole input, print a page, and open no socket.
 ghost use Rattle.std.specs.Prelude.{◌≡◌};
-ghost use Rattle.jobs3270.specs.Faults.{status_of, fault_text};
-ghost use Rattle.jobs3270.specs.Runs.{EndsPrinting, HasCause, InPieces, IsEnd, IsToldIn, ending_of};
+ghost use Rattle.jobs3270.specs.Runs.{InPieces, ending_of};
+ghost use Rattle.jobs3270.specs.TaskRuns.{EndsPrinting, HasCause, IsEnd};
 
+use crate::ending::end_by;
 use crate::fault::Fault;
 use crate::input::read_whole;
 use crate::script::print_script;
@@ -35,16 +36,6 @@ pub(crate) fn run<I: Source, O: Sink, E: Sink>(
         Ok(()) => 0,
         Err(fault) => end_by(fault, faults),
     }
-}
-
-/// Writes a fault as one line, and returns its exit status. A line that can't be written is left out.
-pub fn end_by<E: Sink>(fault: Fault, faults: &mut E) -> u8
-    ensures status { result ≡ status_of fault }
-    ensures told { IsToldIn (E.seen faults.old) (E.seen faults.new) (fault_text fault) }
-{
-    let status = fault.status();
-    let _ = faults.write_line(fault);
-    status
 }
 
 /// Reads the input, and prints its page.

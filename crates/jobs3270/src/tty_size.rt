@@ -3,7 +3,7 @@ ghost use Rattle.std.specs.Prelude.{◌≡◌};
 ghost use Rattle.std.specs.List.{after_first, before_first};
 ghost use Rattle.jobs3270.specs.OptionValues.{is_x, tty_side_numbered, tty_side_of, tty_size_of};
 
-use crate::script_line::number_of;
+use crate::word::number_of;
 
 /// The size of a tty: its rows and its columns, each 1 to 9,999.
 #[derive(Clone, Copy, Debug)]

@@ -3,7 +3,7 @@ use Rattle.std.proofs.KnownBytes.{Consumes-kept, Consumes-trans}
 use Rattle.std.specs.Io.KnownBytes.{Consumes}
 use Rattle.jobs3270.specs.Counting.{Reads, chunk_size, more}
 use Rattle.jobs3270.specs.Runs.{read_failed}
-use Rattle.jobs3270.proofs.Endings.{accepted, reads_more, refused, too_many}
+use Rattle.jobs3270.proofs.InputEnds.{accepted, reads_more, refused, too_many}
 use Rattle.jobs3270.proofs.ReadsOn.{in_pieces, reads_nothing, reads_on, refused_in_pieces, text_in_pieces}
 use Rattle.std.proofs.lemmas.List.{append-nil}
 use Rattle.jobs3270.specs.declared.streams.Answer.TheVariants.{Gave, Ended, Interrupted, Failed}

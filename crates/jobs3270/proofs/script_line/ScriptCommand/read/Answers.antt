@@ -1,6 +1,7 @@
 use Rattle.std.proofs.Common.{sym, ap, ◌∙◌, arith, option_and_then}
 use Rattle.jobs3270.specs.ScriptLines.{command_of_number, command_of_text}
-use Rattle.jobs3270.proofs.ScriptLines.{IsWhole, IsCut, read_by_verb, read_by_number, read_by_text}
+use Rattle.jobs3270.proofs.LineParts.{IsCut, IsWhole}
+use Rattle.jobs3270.proofs.ScriptLines.{read_by_verb, read_by_number, read_by_text}
 use Rattle.jobs3270.proofs.script_line.ScriptCommand.read.Goals as goal
 
 pub returns-in_default : goal.returns-in_default

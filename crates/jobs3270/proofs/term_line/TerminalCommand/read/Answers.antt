@@ -1,5 +1,5 @@
 use Rattle.std.proofs.Common.{sym, ◌∙◌, arith}
-use Rattle.jobs3270.proofs.ScriptLines.{IsWhole, IsCut}
+use Rattle.jobs3270.proofs.LineParts.{IsWhole, IsCut}
 use Rattle.jobs3270.proofs.TermLines.{read_by_text, read_by_verb}
 use Rattle.jobs3270.proofs.term_line.TerminalCommand.read.Goals as goal
 

@@ -7,9 +7,9 @@ use Rattle.panels.specs.Panel.{Panels}
 use Rattle.panels.specs.Passes.{IsReason}
 use Rattle.panels.specs.declared.fault.PanelFault.{PanelFault}
 use Rattle.panels.specs.declared.fault.PanelFault.TheVariants as panel_fault
-use Rattle.jobs3270.specs.Scripts.{HasNoWorld, lus_of, of_panels, of_pool}
+use Rattle.jobs3270.specs.PanelHosts.{HasNoWorld, lus_of, of_panels, of_pool}
 use Rattle.jobs3270.proofs.LuNames.{lus_read}
-use Rattle.jobs3270.proofs.script.application_of.Goals as goal
+use Rattle.jobs3270.proofs.panel_host.application_of.Goals as goal
 
 without_panels : (text : List ℕ) (fault : PanelFault) → IsReason text fault → HasNoWorld text (of_panels fault)
 without_panels text panel_fault.Memory is = tt

@@ -1,13 +1,13 @@
 use Rattle.std.proofs.Common.{◌≡◌, ◌∙◌, sym, true}
-use Rattle.jobs3270.specs.ScriptLines.{is_digits}
-use Rattle.jobs3270.proofs.ScriptLines.{number_parsed, number_is, no_number}
-use Rattle.jobs3270.proofs.script_line.number_of.Goals as goal
+use Rattle.jobs3270.specs.LineParts.{is_digits}
+use Rattle.jobs3270.proofs.LineParts.{number_parsed, number_is, no_number}
+use Rattle.jobs3270.proofs.word.number_of.Goals as goal
 
--- src/script_line.rt:74:9
+-- src/word.rt:33:9
 pub returns-then-not-is_digits : goal.returns-then-not-is_digits
 returns-then-not-is_digits c = no_number c.args.word.now (sym c.is_digits.ensures ∙ c.if-not-is_digits.true)
 
--- src/script_line.rt:70:1
+-- src/word.rt:29:1
 pub returns : goal.returns
 returns c =
     let digits : is_digits c.args.word.now ≡ true = sym c.is_digits.ensures ∙ c.if-not-is_digits.false in
