@@ -1,0 +1,7 @@
+//! HEAD
+#![tactic(auto)]
+
+mod selfrun;
+mod socket_terminal;
+
+pub use selfrun::run_selfrun;
