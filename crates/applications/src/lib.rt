@@ -1,4 +1,9 @@
-//! HEAD
+//! What an application is asked and what it answers, as HTTP and as lines of a script; and the host of a panel text.
+//!
+//! It connects to nothing. [`request_of`] makes the text of a request of a host's question, and [`answer_of`] a host's
+//! answer of the reply; [`put_question`] and [`answer_in`] do the same for lines of a script. [`host_of`] makes a host
+//! of a panel text, and [`first_asked`] finds a panel that needs an application. `specs/ApplicationRequests`,
+//! `Applications`, `QuestionLines` and `AnswerLines` define the texts.
 #![tactic(auto)]
 
 mod answer_line;

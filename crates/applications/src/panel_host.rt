@@ -28,7 +28,7 @@ fn of_pool(fault: PoolFault) -> Fault
     }
 }
 
-/// The panels of a panel text, and a pool of their LUs.
+/// The panels of a panel text, and a pool of their LUs. Faults as of [`host_of`].
 pub fn application_of(alloc: Global, text: &str) -> Result<(PanelSet, Pool), Fault>
     ensures application { IfOk result (λ parts. IsApplicationOf text.now parts.0 parts.1) }
     ensures fault { IfErr result (HasNoWorld text.now) }

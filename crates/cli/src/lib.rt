@@ -1,4 +1,8 @@
-//! HEAD
+//! The words of the command line: the job that they ask for, why they are refused, and the help.
+//!
+//! It does no job. [`words`] makes a [`Job`](jobs::Job) of the arguments, by clap. [`refusal_of`] says what is wrong
+//! with words that give none, and [`run_help`] prints the help of a topic. `specs/Topics` has each job's options,
+//! `Words` which arguments give which job, `Refusals` what is printed for others, and `Helps` the help.
 #![tactic(auto)]
 
 mod command_line;

@@ -1,4 +1,7 @@
-//! HEAD
+//! What the program can be asked to do: a [`Job`], and the values of its options, each in its range.
+//!
+//! It does none of them, and reads no command line. A value is read from its word (`Port::read`), and
+//! `specs/OptionValues` defines which words have one.
 #![tactic(auto)]
 
 mod job;

@@ -1,4 +1,9 @@
-//! HEAD
+//! The jobs that print a page and open no socket: commands on a blank screen (`show`), scripts in a world of a host and
+//! terminals (`script`), and checks of panel texts (`check`).
+//!
+//! Each reads its whole input, makes the page, and writes it in one piece. [`page_of`] is the page of commands,
+//! [`ScriptCommand`] the command of a line of a script. `specs/Pages`, `Scripts` and `Checks` define the pages, and
+//! `TaskRuns` how a run ends.
 #![tactic(auto)]
 
 mod check;

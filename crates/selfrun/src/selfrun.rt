@@ -305,7 +305,7 @@ fn selfrun<N: Net, I: Source, O: Sink>(
     play_and_write(net, alloc, &mut run, script, out)
 }
 
-/// Plays a script like [`run_script`](crate::run_script), but with loopback sockets between the host and the terminals. The script may
+/// Plays a script like [`run_script`](scripts::run_script), but with loopback sockets between the host and the terminals. The script may
 /// have the commands `connect`, `type`, `key`, `lose`, `answer`, `question`, `settle`, `show` and `status`. `lose` closes the
 /// terminal's socket, which the host sees in a later turn. `settle` takes turns, each with one turn of the host and one read and one
 /// write of each terminal, until one in which no byte is read or written and the host doesn't act. Writes a fault that ends the run to

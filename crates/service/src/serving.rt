@@ -67,7 +67,7 @@ fn serve_host<N: Net>(net: &N, alloc: Global, host: Host, port: Port, turns: Tur
 /// Serves the panels of the input on a port of 127.0.0.1, 1024 to 65535, to the terminals that connect, for this number of turns.
 /// A turn with nothing to do takes at most 10 milliseconds. Writes what ends the run to `faults` as one line.
 ///
-/// Returns the exit status: 5 if the turns are used up; 1 if the input can't be read (as for [`run_show`](crate::run_show)), if it
+/// Returns the exit status: 5 if the turns are used up; 1 if the input can't be read (as by [`read_whole`]), if it
 /// defines no panels, or if their LUs are no pool; 2 if a panel asks an application about a key, since there is none; 3 if memory is
 /// refused; 4 if the system refuses a socket, such as for a port in use.
 pub fn run_host<N: Net, I: Source, E: Sink>(
@@ -316,10 +316,10 @@ fn begin<I: Source>(
 ///
 /// If an application is chosen, it is asked about the keys that panels ask about, and the log says why a question has no answer.
 ///
-/// If the input has faults as a panel text, all of them are printed to `faults`, as by [`run_check`](crate::run_check) for an input of
+/// If the input has faults as a panel text, all of them are printed to `faults`, as by `check` for an input of
 /// this name.
 ///
-/// Returns the exit status if it can't begin or go on: 1 if the input can't be read (as for [`run_show`](crate::run_show)), if it
+/// Returns the exit status if it can't begin or go on: 1 if the input can't be read (as by [`read_whole`]), if it
 /// defines no panels, or if their LUs are no pool; 2 if the application's URL is none, or if none is chosen and a panel asks it about a
 /// key; 3 if memory is refused; 4 if the system refuses random bytes, to listen, or to wait for sockets; 5 if there are no more turns.
 pub fn run_serve<R: Net + Clock + RandomSource, T: Iterator<Item = ()>, I: Source, E: Sink>(

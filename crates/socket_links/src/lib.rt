@@ -1,4 +1,8 @@
-//! HEAD
+//! Sockets that never wait, as the `Links` by which host_core serves its connections.
+//!
+//! It has no listener and no host. A [`SocketSlot`] is a connection with its counts, and [`Sockets`] has one for each
+//! number of the host. A read or a write makes at most one call of the socket; `specs/Sockets` says when, and what its
+//! answer means.
 #![tactic(auto)]
 
 mod socket_slot;

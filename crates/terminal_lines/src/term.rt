@@ -129,8 +129,8 @@ fn term<I: Source, O: Sink>(
 /// the host, and prints what the operator sees. The terminal requests this LU, if there is one. Writes a fault that ends the run to
 /// `faults` as one line.
 ///
-/// Returns the exit status: 0 if all lines were done, whatever the host did; 1 if the input can't be read (as for
-/// [`run_show`](crate::run_show)), or if a line isn't understood, after the output of the lines before it; 3 if memory is refused; 4
+/// Returns the exit status: 0 if all lines were done, whatever the host did; 1 if the input can't be read (as by
+/// [`read_whole`]), or if a line isn't understood, after the output of the lines before it; 3 if memory is refused; 4
 /// if nothing listens on the port; 6 if the output fails.
 pub fn run_term<I: Source, O: Sink, E: Sink>(
     rt: &HostRuntime,
