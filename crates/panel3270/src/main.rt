@@ -4,12 +4,14 @@
 
 ghost use Rattle.std.specs.Iterator.{IsFinite};
 
-use jobs3270::{
-    ApplicationChoice, CountedReader, CountedWriter, Fault, FileName, Job, LiveOptions, Refusal,
-    Service, Sink, UntilClosed, WordFault, end_by, refusal_of, refuse_file, refuse_words,
-    run_check, run_help, run_host, run_operate, run_script, run_selfrun, run_serve, run_show,
-    run_term, run_version, similar_to, words,
-};
+use cli::{Refusal, refusal_of, refuse_words, run_help, run_version, similar_to, words};
+use job_streams::{CountedReader, CountedWriter, Fault, Sink, UntilClosed, end_by, refuse_file};
+use jobs::{ApplicationChoice, FileName, Job, LiveOptions, Service, WordFault};
+use operate::run_operate;
+use scripts::{run_check, run_script, run_show};
+use selfrun::run_selfrun;
+use service::{run_host, run_serve};
+use terminal_lines::run_term;
 use std::env;
 use std::fs::File;
 use std::io::{self, ErrorKind, IsTerminal, Stdout};

@@ -8,7 +8,9 @@
 //! ```
 use crate::subjects::Subject;
 use crate::talk::{Fault, Talk, text_of};
-use jobs3270::{ScriptCommand, TerminalCommand, typed_text, words};
+use cli::words;
+use scripts::{ScriptCommand, typed_text};
+use terminal_lines::TerminalCommand;
 use std::alloc::AllocError;
 use world3270::Event;
 

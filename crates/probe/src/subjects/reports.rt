@@ -6,7 +6,7 @@
 use crate::subjects::Subject;
 use crate::talk::{Fault, Talk, text_of};
 use host_core::Terminals;
-use jobs3270::host_of;
+use applications::host_of;
 use panel_check::check;
 use std::alloc::AllocError;
 

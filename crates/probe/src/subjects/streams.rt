@@ -11,9 +11,10 @@ use crate::subjects::Subject;
 use crate::talk::{Fault, Talk, bytes_of, text_of};
 use codes3270::Model;
 use host_core::Terminals;
-use jobs3270::{
-    CountedReader, CountedWriter, OperatorSession, Wire, operate, run_script, run_show,
-};
+use job_streams::{CountedReader, CountedWriter};
+use operate::OperatorSession;
+use scripts::{run_script, run_show};
+use terminal_lines::{Wire, operate};
 use std::alloc::{AllocError, Global};
 use std::io::{self, ErrorKind, Read, Write};
 use tn3270e_msg::Lu;
@@ -138,7 +139,7 @@ fn take_turns<'a>(
     session: &mut Session<'a>,
     pipe: Stream<'a>,
     turns: usize,
-) -> Result<(), jobs3270::Fault> {
+) -> Result<(), job_streams::Fault> {
     session.connect(pipe, None)?;
     for _ in 0..turns {
         session.turn(alloc)?;

@@ -21,7 +21,7 @@ use crate::subjects::terminal::{self, put_page};
 use crate::talk::{Fault, Talk};
 use codes3270::Model;
 use host_core::{MOST_CONNECTIONS, Phase};
-use jobs3270::{ScriptCommand, typed_text};
+use scripts::{ScriptCommand, typed_text};
 use keyboard::Key;
 use std::alloc::AllocError;
 use world3270::{Event, World};

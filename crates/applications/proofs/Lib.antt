@@ -1,0 +1,5 @@
+pub mod LuNames
+mod Replies
+pub mod AnswerWords
+pub mod AskedKeys
+pub mod SessionTexts

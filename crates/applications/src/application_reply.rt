@@ -1,0 +1,287 @@
+//! What becomes of an application's reply: names and characters of panels, and numbers and bytes of the host.
+ghost use Rattle.std.specs.BTreeMap.{insert_entry};
+ghost use Rattle.std.specs.Ordering.{nat_cmp};
+ghost use Rattle.std.specs.Prelude.{◌≡◌, ◌<◌, [], IfErr, IfOk, OnErr, OnOk, chars, length, option_and_then, option_copied, option_map, string_bytes, take, true, unwrap_or};
+ghost use Rattle.application_http.specs.Replies.{field_text};
+ghost use Rattle.panels.specs.Characters.{codes_of};
+ghost use Rattle.panels.specs.MessageText.{message_of};
+ghost use Rattle.panels.specs.Values.{value_of};
+ghost use Rattle.applications.specs.Applications.{AreKnownTexts, IsAnswerFault, IsAnswerFor, IsFirstTextFault, IsKnown, IsTextFault, IsUnknown, TakesMemory, as_byte, first_field_replaced, first_replaced, is_known_text, message_bytes, message_in, most_characters, number_on, panel_number, panel_of_reply, value_by, with_text, with_texts};
+ghost use Rattle.plain_text.specs.PlainTexts.{plain_text};
+ghost use Rattle.applications.specs.declared.application_reply.AnswerFault.TheVariants as flaw;
+
+use application_http::{FieldText, Reply, copy_of};
+use codes3270::from_latin1;
+use host_core::Answer;
+use panels::{MessageText, PanelSet, Values};
+use plain_text::{count_without_code, lacks_code, plain_text};
+use std::alloc::{AllocError, Global};
+
+/// The most characters of a field's text: as many as the largest screen has cells, that of model 5.
+const MOST_CHARACTERS: usize = 3_564;
+
+/// Why the host can't do what a reply says.
+#[derive(Debug, Drop)]
+pub enum AnswerFault {
+    /// Memory was refused to what is stored of the reply: a text, a field's first value, or the name of an unknown field.
+    Memory,
+    /// There is no such panel.
+    UnknownPanel,
+    /// The cursor is to be in a field that the panel doesn't have.
+    UnknownCursor,
+    /// There is no field of this name.
+    UnknownField(String),
+}
+
+/// The characters of a reply that are replaced, since code page 037 doesn't have them.
+#[derive(Clone, Copy)]
+pub struct Replaced<'a> {
+    /// The first key whose text has one: `message`, or the name of a field.
+    pub key: &'a str,
+    /// How many the whole reply has.
+    pub characters: usize,
+}
+
+impl From<AllocError> for AnswerFault {
+    ghost use Rattle.applications.specs.declared.application_reply.AnswerFault.TheVariants.{Memory};
+
+    ghost from_gives = { λ _ fault. fault ≡ Memory };
+
+    fn from(_: AllocError) -> AnswerFault {
+        AnswerFault::Memory
+    }
+}
+
+/// The codes of a text's characters, as far as they have one. Those of an empty text take no memory.
+#[tactic(auto, using(crate::proofs::Replies::no_codes))]
+fn codes_of(alloc: Global, text: &str) -> Result<Vec<u8>, AllocError>
+    ensures codes { IfOk result (λ codes. codes.items ≡ codes_of (chars text.now)) }
+    ensures memory { OnErr result (0 < length text.now) }
+{
+    if text.is_empty() {
+        return Ok(Vec::new(alloc));
+    }
+    text.chars()
+        .filter_map(|character| from_latin1(character))
+        .collect(alloc)
+}
+
+/// The front of a field's text, as far as the largest screen can show it.
+fn cut(codes: &[u8]) -> &[u8]
+    ensures { result.now ≡ take most_characters codes.now }
+{
+    if codes.len() < MOST_CHARACTERS {
+        codes
+    } else {
+        &codes[..MOST_CHARACTERS]
+    }
+}
+
+/// Sets the value of a field to a text, whose characters have codes. An empty text takes memory only if the field has no value yet.
+#[tactic(auto, using(crate::proofs::Replies::takes_memory, crate::proofs::Replies::value_takes_memory))]
+pub(crate) fn set_text(
+    alloc: Global,
+    field: usize,
+    text: &str,
+    values: &mut Values,
+) -> Result<(), AllocError>
+    ensures set { OnOk result (values.new ≡ insert_entry nat_cmp values.old field (value_by text.now)) }
+    ensures memory { OnErr result (TakesMemory (value_of values.old field) text.now) }
+{
+    let codes = codes_of(alloc, text)?;
+    values.set(field, cut(codes.as_slice()))
+}
+
+/// Sets the value of the field of a name to its text, in plain characters.
+#[tactic(auto, using(crate::proofs::Replies::takes_memory, crate::proofs::Replies::plain_takes))]
+fn set_value(
+    alloc: Global,
+    panels: &PanelSet,
+    field: &FieldText,
+    values: &mut Values,
+) -> Result<(), AnswerFault>
+    ensures set { OnOk result (values.new ≡ with_text panels.now (field_text field.now) values.old) }
+    ensures known { OnOk result (is_known_text panels.now (field_text field.now) ≡ true) }
+    ensures wrong { IfErr result (IsTextFault panels.now values.old (field_text field.now)) }
+{
+    let name = field.name.as_str();
+    let Some(found) = panels.field_named(name) else {
+        return Err(AnswerFault::UnknownField(copy_of(alloc, name)?));
+    };
+    let text = plain_text(alloc, field.text.as_str())?;
+    set_text(alloc, found.number, text.as_str(), values)?;
+    Ok(())
+}
+
+/// The values of fields.
+fn values_of(alloc: Global, panels: &PanelSet, fields: &[FieldText]) -> Result<Values, AnswerFault>
+    ensures set { IfOk result (λ values. values ≡ with_texts panels.now fields.now []) }
+    ensures known { OnOk result (AreKnownTexts panels.now fields.now) }
+    ensures wrong { IfErr result (IsFirstTextFault panels.now [] fields.now) }
+{
+    let mut values = Values::new(alloc);
+    for field in fields {
+        set_value(alloc, panels, field, &mut values)?;
+    }
+    Ok(values)
+}
+
+/// The number of the panel that a reply names, if it names one.
+fn panel_of(panels: &PanelSet, name: Option<&str>) -> Result<Option<usize>, AnswerFault>
+    ensures found { IfOk result (λ panel. panel ≡ option_and_then (panel_number panels.now) (option_map (λ it. it.now) name.entry)) }
+    ensures known { OnOk result (IsKnown (panel_number panels.now) (option_map (λ it. it.now) name.entry)) }
+    ensures wrong { IfErr result (λ why. (why ≡ flaw.UnknownPanel) × IsUnknown (panel_number panels.now) (option_map (λ it. it.now) name.entry)) }
+{
+    let Some(name) = name else {
+        return Ok(None);
+    };
+    match panels.panel_named(name) {
+        Some(number) => Ok(Some(number)),
+        None => Err(AnswerFault::UnknownPanel),
+    }
+}
+
+/// The number of a panel's field with a name.
+fn number_on(panels: &PanelSet, panel: usize, name: &str) -> Option<usize>
+    ensures { result ≡ number_on panels.now panel name.now }
+{
+    let field = panels.panel(panel)?.field_named(name)?;
+    Some(field.number)
+}
+
+/// The number of the field of a panel that a reply puts the cursor in, if it does.
+fn cursor_of(
+    panels: &PanelSet,
+    panel: usize,
+    name: Option<&str>,
+) -> Result<Option<usize>, AnswerFault>
+    ensures found { IfOk result (λ cursor. cursor ≡ option_and_then (number_on panels.now panel) (option_map (λ it. it.now) name.entry)) }
+    ensures known { OnOk result (IsKnown (number_on panels.now panel) (option_map (λ it. it.now) name.entry)) }
+    ensures wrong { IfErr result (λ why. (why ≡ flaw.UnknownCursor) × IsUnknown (number_on panels.now panel) (option_map (λ it. it.now) name.entry)) }
+{
+    let Some(name) = name else {
+        return Ok(None);
+    };
+    match number_on(panels, panel, name) {
+        Some(number) => Ok(Some(number)),
+        None => Err(AnswerFault::UnknownCursor),
+    }
+}
+
+/// A character as one byte, if it is one of U+0000 to U+00FF.
+fn as_byte(character: char) -> Option<u8>
+    ensures { result ≡ as_byte character }
+{
+    u8::try_from(character).ok()
+}
+
+/// The characters of a message as bytes; those beyond U+00FF, which have no code, are left out. An empty message takes no memory.
+#[tactic(auto, using(crate::proofs::Replies::no_bytes))]
+pub(crate) fn message_bytes(alloc: Global, text: &str) -> Result<Vec<u8>, AllocError>
+    ensures bytes { IfOk result (λ bytes. bytes.items ≡ message_bytes text.now) }
+    ensures memory { OnErr result (0 < length text.now) }
+{
+    if text.is_empty() {
+        return Ok(Vec::new(alloc));
+    }
+    text.chars()
+        .filter_map(|character| as_byte(character))
+        .collect(alloc)
+}
+
+/// The message of a reply, in plain characters. An empty one takes no memory.
+#[tactic(auto, using(crate::proofs::Replies::plain_is_of_a_text))]
+fn message_of(alloc: Global, text: &str) -> Result<MessageText, AllocError>
+    ensures memory { OnErr result (0 < length text.now) }
+    ensures message { IfOk result (λ message. message.characters ≡ message_of (message_bytes (plain_text text.now))) }
+{
+    let text = plain_text(alloc, text)?;
+    let characters = message_bytes(alloc, text.as_str())?;
+    Ok(MessageText::new(characters.as_slice()))
+}
+
+/// A text that a reply may have.
+fn text_of(text: &Option<String>) -> Option<&str>
+    ensures { option_map (λ it. it.now) result ≡ option_map string_bytes text.now }
+{
+    match text {
+        Some(text) => Some(text.as_str()),
+        None => None,
+    }
+}
+
+/// The text of a reply's message; empty if it has none.
+fn message_in(reply: &Reply) -> &str
+    ensures { result.now ≡ message_in reply.now }
+{
+    text_of(&reply.message).unwrap_or("")
+}
+
+/// What the host does for a reply, if the panel of this number is on the screen: the reply's panel is found first, then its cursor's
+/// field, then its message and its fields. The fault of a refused reply is the first of these.
+#[tactic(auto, using(crate::proofs::Replies::fields_refused, crate::proofs::Replies::message_refused))]
+pub fn answer_of(
+    alloc: Global,
+    panels: &PanelSet,
+    shown: usize,
+    reply: &Reply,
+) -> Result<Answer, AnswerFault>
+    ensures answer { IfOk result (IsAnswerFor panels.now shown reply.now) }
+    ensures refused { IfErr result (IsAnswerFault panels.now shown reply.now) }
+{
+    let panel = panel_of(panels, text_of(&reply.panel))?;
+    let cursor = cursor_of(panels, panel.unwrap_or(shown), text_of(&reply.cursor))?;
+    let message = message_of(alloc, message_in(reply))?;
+    let values = values_of(alloc, panels, reply.fields.as_slice())?;
+    Ok(Answer {
+        panel,
+        values,
+        message,
+        cursor,
+    })
+}
+
+/// The name of the first field whose text has a character that is replaced.
+fn first_field_replaced(fields: &[FieldText]) -> Option<&str>
+    ensures { option_copied result ≡ first_field_replaced fields.now }
+{
+    for field in fields {
+        if lacks_code(field.text.as_str()) {
+            return Some(field.name.as_str());
+        }
+    }
+    None
+}
+
+/// The first key whose text has a character that is replaced: `message`, or the name of a field.
+fn first_replaced(reply: &Reply) -> Option<&str>
+    ensures { option_copied result ≡ first_replaced reply.now }
+{
+    if lacks_code(message_in(reply)) {
+        Some("message")
+    } else {
+        first_field_replaced(reply.fields.as_slice())
+    }
+}
+
+/// What is replaced in a reply, if anything is.
+pub fn replaced_in(reply: &Reply) -> Option<Replaced<'_>>
+    ensures { option_map (λ replaced. replaced.key.now) result ≡ first_replaced reply.now }
+{
+    let key = first_replaced(reply)?;
+    let mut characters = count_without_code(message_in(reply));
+    for field in reply.fields.as_slice() {
+        characters = characters.saturating_add(count_without_code(field.text.as_str()));
+    }
+    Some(Replaced { key, characters })
+}
+
+/// The answer that shows the same panel again, with a message.
+pub fn telling(alloc: Global, message: &str) -> Answer {
+    Answer {
+        panel: None,
+        values: Values::new(alloc),
+        message: MessageText::new(message.as_bytes()),
+        cursor: None,
+    }
+}

@@ -1,0 +1,191 @@
+//! What an application is sent for a question: names and characters of panels, in place of numbers and bytes of the host.
+ghost use Rattle.std.specs.Prelude.{◌≡◌, IfOk, map, option_map, string_bytes};
+ghost use Rattle.application_http.specs.Replies.{field_text};
+ghost use Rattle.application_http.specs.Requests.{request_bytes};
+ghost use Rattle.tn3270e_msg.specs.Words.{lu_text};
+ghost use Rattle.applications.specs.ApplicationRequests.{AsksQuestion, IsRequestFor, IsRequestOn, session_asking, text_asked, texts_asked};
+ghost use Rattle.applications.specs.Applications.{key_name, shown_character};
+ghost use Rattle.applications.specs.QuestionLines.{column_of, row_of, unicode_of};
+ghost use Rattle.applications.specs.SessionNames.{session_text};
+
+use crate::session_name::{SessionName, session_text};
+use application_http::{Endpoint, FieldText, Request, request_text};
+use codes3270::{Addr, Aid, Size, to_latin1};
+use host_core::Question;
+use panels::{Field, Panel, PanelSet, Values};
+use std::alloc::{AllocError, Global};
+use std::fmt;
+
+/// The character for a byte that code page 037 has none for (Unicode, REPLACEMENT CHARACTER).
+const NO_CHARACTER: char = '\u{FFFD}';
+
+/// A byte of the host's code as a character.
+fn shown_character(byte: u8) -> char
+    ensures { result ≡ shown_character byte }
+{
+    to_latin1(byte).unwrap_or(NO_CHARACTER)
+}
+
+/// A text in the host's code, in Unicode.
+pub(crate) fn unicode_of(alloc: Global, bytes: &[u8]) -> Result<String, AllocError>
+    ensures { IfOk result (λ text. string_bytes text ≡ unicode_of bytes.now) }
+{
+    let mut text = String::new(alloc);
+    for byte in bytes {
+        text.push(shown_character(*byte))?;
+    }
+    Ok(text)
+}
+
+/// A key, which prints as its name in a panel text. No key has no name.
+#[derive(Clone, Copy)]
+pub struct KeyName(pub Aid);
+
+impl fmt::Display for KeyName {
+    ghost use Rattle.std.specs.Prelude.{Some};
+    ghost use Rattle.applications.specs.Applications.{key_name};
+
+    ghost output = { λ key. Some (key_name key.0) };
+
+    fn fmt<W: fmt::Write>(&self, f: &mut fmt::Formatter<W>) -> fmt::Result {
+        match self.0 {
+            Aid::NoAid => Ok(()),
+            Aid::Enter => f.write_str("enter"),
+            Aid::Clear => f.write_str("clear"),
+            Aid::Pf(number) => {
+                let number = number.get();
+                write!(f, "pf{number}")
+            }
+            Aid::Pa(number) => {
+                let number = number.get();
+                write!(f, "pa{number}")
+            }
+        }
+    }
+}
+
+/// The name of a key as text.
+pub(crate) fn key_name(alloc: Global, aid: Aid) -> Result<String, AllocError>
+    ensures { IfOk result (λ name. string_bytes name ≡ key_name aid) }
+{
+    let key = KeyName(aid);
+    format!(in alloc; "{key}")
+}
+
+/// The row and the column of an address on a screen of a size, each from 1 on.
+pub(crate) fn place_of(address: Addr, size: Size) -> (u16, u16)
+    ensures row { result.0 ≡ row_of address size }
+    ensures column { result.1 ≡ column_of address size }
+{
+    let (place, columns) = (address.get(), size.cols());
+    (place / columns + 1, place % columns + 1)
+}
+
+/// The name of a field, and its text in Unicode.
+fn text_asked(alloc: Global, field: &Field, values: &Values) -> Result<FieldText, AllocError>
+    ensures { IfOk result (λ text. field_text text ≡ text_asked values.now field.now) }
+{
+    let bytes = values.get(field.number).unwrap_or(&[]);
+    Ok(FieldText {
+        name: String::from_str(alloc, field.name.as_str())?,
+        text: unicode_of(alloc, bytes)?,
+    })
+}
+
+/// The names and texts of fields, in their order.
+fn texts_asked(
+    alloc: Global,
+    fields: &[Field],
+    values: &Values,
+) -> Result<Vec<FieldText>, AllocError>
+    ensures { IfOk result (λ texts. map field_text texts.items ≡ texts_asked values.now fields.now) }
+{
+    let mut texts = Vec::new(alloc);
+    for field in fields {
+        texts.push(text_asked(alloc, field, values)?)?;
+    }
+    Ok(texts)
+}
+
+/// The name of the session that a question is of, at a host that drew this number when it started.
+fn session_asking(boot: u64, question: &Question) -> SessionName
+    ensures { result ≡ session_asking boot question.now }
+{
+    SessionName {
+        boot,
+        number: question.ticket.session,
+    }
+}
+
+/// The request of a question on a panel, by the texts of its session, its LU, its key and its fields.
+fn request_by<'a>(
+    panel: &'a Panel,
+    question: &Question,
+    boot: u64,
+    session: &'a str,
+    lu: &'a str,
+    key: &'a str,
+    fields: &'a [FieldText],
+) -> Request<'a>
+    requires session { session.now ≡ session_text (session_asking boot question.now) }
+    requires lu { lu.now ≡ lu_text question.now.lu }
+    requires key { key.now ≡ key_name question.now.aid }
+    requires fields { map field_text fields.now ≡ texts_asked question.now.values panel.now.fields }
+    ensures { AsksQuestion boot panel.now question.now result }
+{
+    let (row, col) = place_of(question.cursor, panel.size());
+    Request {
+        session,
+        turn: question.ticket.turn,
+        lu,
+        panel: panel.name().as_str(),
+        key,
+        row,
+        col,
+        fields,
+    }
+}
+
+/// The request of a question on a panel, as it is sent.
+fn request_on(
+    alloc: Global,
+    endpoint: &Endpoint,
+    boot: u64,
+    panel: &Panel,
+    question: &Question,
+) -> Result<String, AllocError>
+    ensures { IfOk result (λ text. IsRequestOn (request_bytes endpoint.now) boot panel.now question.now (string_bytes text)) }
+{
+    let session = session_text(alloc, session_asking(boot, question))?;
+    let lu = question.lu;
+    let lu = format!(in alloc; "{lu}")?;
+    let key = key_name(alloc, question.aid)?;
+    let fields = texts_asked(alloc, panel.fields(), &question.values)?;
+    let request = request_by(
+        panel,
+        question,
+        boot,
+        session.as_str(),
+        lu.as_str(),
+        key.as_str(),
+        fields.as_slice(),
+    );
+    let text = request_text(alloc, endpoint, &request)?;
+    Ok(text)
+}
+
+/// The request of a question, from a start of the host that drew this number; None if its panel isn't one of the panels.
+pub fn request_of(
+    alloc: Global,
+    endpoint: &Endpoint,
+    boot: u64,
+    panels: &PanelSet,
+    question: &Question,
+) -> Result<Option<String>, AllocError>
+    ensures { IfOk result (λ text. IsRequestFor (request_bytes endpoint.now) boot panels.now question.now (option_map string_bytes text)) }
+{
+    match panels.panel(question.panel) {
+        Some(panel) => Ok(Some(request_on(alloc, endpoint, boot, panel, question)?)),
+        None => Ok(None),
+    }
+}

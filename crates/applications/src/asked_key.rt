@@ -1,0 +1,129 @@
+//! Panels that ask an application, at a job that has none.
+ghost use Rattle.std.specs.Prelude.{◌≡◌, map, option_map};
+ghost use Rattle.std.specs.List.{range_with_len};
+ghost use Rattle.codes3270.specs.declared.attention.Aid.TheVariants.{Pa, Pf};
+ghost use Rattle.panels.specs.Panel.{is_asked};
+ghost use Rattle.applications.specs.AskedKeys.{advice_of, asked_among, asked_key, asked_text, first_asked, panels_ask};
+ghost use Rattle.job_streams.specs.Runs.{IsToldIn};
+
+use crate::application_request::KeyName;
+use codes3270::{Aid, PaNo, PfNo};
+use job_streams::Sink;
+use panels::{Next, Panel, PanelSet};
+use std::fmt;
+
+/// The exit status of a job that refuses panels that ask.
+const PANELS_ASK: u8 = 2;
+
+/// A job that has no application.
+#[derive(Clone, Copy)]
+pub enum Refusing {
+    /// `serve` without the option `--application`.
+    Serve,
+    /// `host`, which takes none.
+    Host,
+}
+
+/// A key about which a panel asks, at a job that has no application. Prints as the line that refuses the panels.
+#[derive(Clone, Copy)]
+struct AskedKey<'a> {
+    /// The panel's name.
+    panel: &'a str,
+    /// The key.
+    key: Aid,
+    /// The job.
+    by: Refusing,
+}
+
+/// What to do.
+fn advice_of(by: Refusing) -> &'static str
+    ensures { result.now ≡ advice_of by }
+{
+    match by {
+        Refusing::Serve => "; give --application URL",
+        Refusing::Host => "; host has no application: use serve --application URL",
+    }
+}
+
+impl fmt::Display for AskedKey<'_> {
+    ghost use Rattle.std.specs.Prelude.{Some};
+    ghost use Rattle.applications.specs.AskedKeys.{asked_text};
+
+    ghost output = { λ asked. Some (asked_text asked.panel.now asked.key asked.by) };
+
+    fn fmt<W: fmt::Write>(&self, f: &mut fmt::Formatter<W>) -> fmt::Result {
+        let panel = self.panel;
+        let key = KeyName(self.key);
+        let advice = advice_of(self.by);
+        write!(f, "panel {panel} asks the application about {key}{advice}")
+    }
+}
+
+/// Whether a panel asks about a key.
+fn is_asked(panel: &Panel, key: Aid) -> bool
+    ensures { result ≡ is_asked panel.now key }
+{
+    matches!(panel.next(key), Next::Ask)
+}
+
+/// The first program attention key that a panel asks about.
+fn asked_pa(panel: &Panel) -> Option<Aid>
+    ensures { result ≡ asked_among panel.now (map Pa (range_with_len 1 3)) }
+{
+    for number in 1..=3 {
+        let key = Aid::Pa(PaNo::new(number)?);
+        if is_asked(panel, key) {
+            return Some(key);
+        }
+    }
+    None
+}
+
+/// The first program function key that a panel asks about.
+fn asked_pf(panel: &Panel) -> Option<Aid>
+    ensures { result ≡ asked_among panel.now (map Pf (range_with_len 1 24)) }
+{
+    for number in 1..=24 {
+        let key = Aid::Pf(PfNo::new(number)?);
+        if is_asked(panel, key) {
+            return Some(key);
+        }
+    }
+    None
+}
+
+/// The first key that a panel asks about, if it asks: Enter, PA1 to PA3, PF1 to PF24.
+fn asked_key(panel: &Panel) -> Option<Aid>
+    ensures { result ≡ asked_key panel.now }
+{
+    if is_asked(panel, Aid::Enter) {
+        return Some(Aid::Enter);
+    }
+    match asked_pa(panel) {
+        Some(key) => Some(key),
+        None => asked_pf(panel),
+    }
+}
+
+/// The name of the first panel that asks the application, if one does, and its first key.
+pub fn first_asked(panels: &PanelSet) -> Option<(&str, Aid)>
+    ensures { option_map (λ asked. (asked.0.now, asked.1)) result ≡ first_asked panels.now.panels }
+{
+    for index in 0..panels.len() {
+        let panel = panels.panel(index)?;
+        match asked_key(panel) {
+            Some(key) => return Some((panel.name().as_str(), key)),
+            None => {}
+        }
+    }
+    None
+}
+
+/// Prints that a panel asks an application about a key, and returns the exit status. A line that can't be written is left out.
+pub fn refuse_asking<E: Sink>(panel: &str, key: Aid, by: Refusing, faults: &mut E) -> u8
+    ensures status { result ≡ panels_ask }
+    ensures told { IsToldIn (E.seen faults.old) (E.seen faults.new) (asked_text panel.now key by) }
+{
+    let _ = faults.write_line(AskedKey { panel, key, by });
+    PANELS_ASK
+}

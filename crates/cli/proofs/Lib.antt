@@ -1,0 +1,2 @@
+pub mod WordWalk
+pub mod ClapJobs

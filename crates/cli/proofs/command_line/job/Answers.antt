@@ -1,0 +1,10 @@
+use Rattle.std.proofs.lemmas.Result.{IfOk-weaker}
+use Rattle.cli.proofs.ClapJobs.{job_made}
+use Rattle.cli.proofs.command_line.job.Goals as goal
+
+pub returns : goal.returns
+returns c =
+    IfOk-weaker c.with_operand.result _ _
+    (λ new adds. job_made c.args.topic _ _ _ c.new-bare.result c.in_ok-job.job new c.name_of.ensures c.options_of.ensures c.operand_of.ensures
+    (record { is = c.new-bare.ensures.app; local = c.new-bare.ensures.local }) c.in_ok-job.ensures adds)
+    c.with_operand.ensures

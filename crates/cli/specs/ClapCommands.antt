@@ -1,0 +1,55 @@
+-- The command line (specs/Words) as clap's values.
+use Rattle.std.specs.Prelude.{◌≡◌, ◌⊎◌, ℕ, List, [], ◌∷◌, true, false, Result, Ok, Err}
+use Rattle.clap.specs.Built.{AddsArg, AddsSubcommand}
+use Rattle.clap.specs.Faults.{fault_of}
+use Rattle.clap.specs.Kinds.{IsAmong}
+use Rattle.clap.specs.Walk.{Rule, rule_of}
+use Rattle.clap.specs.Simple.{App, Shape, app_of, subcommand_of, subcommand_rows_of}
+use Rattle.clap.specs.declared.builder.arg.Arg.{Arg}
+use Rattle.clap.specs.declared.builder.command.Command.{Command}
+use Rattle.clap.specs.declared.builder.command.Command.TheViews.{out-Command}
+use Rattle.clap.specs.declared.error.kind.ErrorKind.{ErrorKind}
+use Rattle.clap.specs.declared.error.kind.ErrorKind.TheVariants.{DisplayHelp, DisplayVersion, OutOfMemory}
+use Rattle.clap.specs.declared.parser.matches.ArgMatches.{ArgMatches}
+use Rattle.cli.specs.Words.{program, is_taken, topic_of}
+use Rattle.jobs.specs.declared.job.Job.{Job}
+use Rattle.jobs.specs.declared.job.Job.TheVariants.{Help, Version}
+use Rattle.jobs.specs.declared.job.WordFault.{WordFault}
+use Rattle.jobs.specs.declared.job.WordFault.TheVariants.{Refused, Memory}
+
+pub record IsArgument (rule : Rule) (argument : Arg) : Type 0 where
+  pub is : rule_of argument ≡ rule
+  pub local : argument.global ≡ false
+
+pub record IsCommand (app : App) (command : Command) : Type 0 where
+  pub is : app_of command ≡ app
+  pub local : (out-Command command).has_globals ≡ false
+
+abbrev pub IsJob : Shape → Command → Type 0
+IsJob shape command = IsCommand (record { top = shape; subs = [] }) command
+
+-- arguments with these rules are added to a job in turn
+abbrev pub AddsArguments : List Rule → Command → Command → Type 0
+AddsArguments [] old new = old ≡ new
+AddsArguments (rule ∷ rules) old new = (argument : Arg) × (mid : Command) × IsArgument rule argument × AddsArg old argument mid × AddsArguments rules mid new
+
+-- jobs of these shapes are added to a command in turn
+abbrev pub AddsJobs : List Shape → Command → Command → Type 0
+AddsJobs [] old new = old ≡ new
+AddsJobs (shape ∷ shapes) old new = (job mid : Command) × IsJob shape job × AddsSubcommand old job mid × AddsJobs shapes mid new
+
+-- the command line takes the words, and parses them as these matches
+pub record IsMatch (words : List (List ℕ)) (matches : ArgMatches) : Type 0 where
+  pub taken : is_taken words ≡ true
+  pub rows : subcommand_rows_of matches ≡ subcommand_of program words
+
+-- a parse of the words may fail by this kind of error
+abbrev pub MayFail : List (List ℕ) → ErrorKind → Type 0
+MayFail words kind = (kind ≡ OutOfMemory) ⊎ IsAmong kind (fault_of program words)
+
+-- what words whose parse fails by this kind of error ask for
+abbrev pub job_or_fault : List (List ℕ) → ErrorKind → Result Job WordFault
+job_or_fault words DisplayHelp = Ok (Help (topic_of words))
+job_or_fault words DisplayVersion = Ok Version
+job_or_fault words OutOfMemory = Err Memory
+job_or_fault words _ = Err Refused

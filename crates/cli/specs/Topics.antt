@@ -1,0 +1,111 @@
+-- The jobs: their names and options (our profile).
+use Rattle.std.specs.Prelude.{ℕ, Bool, true, false, List, [], ◌∷◌, ◌++◌, Option, Some, None, codes, bytes_eq, if◌then◌else◌, is_some}
+use Rattle.jobs.specs.declared.job.Topic.{Topic}
+use Rattle.jobs.specs.declared.job.Topic.TheVariants as topic
+use Rattle.cli.specs.declared.job_table.JobOption.{JobOption}
+use Rattle.cli.specs.declared.job_table.ValueKind.{ValueKind}
+use Rattle.cli.specs.declared.job_table.ValueKind.TheVariants as kind
+use Rattle.tn3270e_msg.specs.Lu.{lu_of}
+use Rattle.jobs.specs.OptionValues.{address_of, model_of, port_of, reply_time_of, seconds_of, service_port_of, tty_size_of, turns_of}
+
+-- ---- names
+
+-- the name of a topic's job; the whole program has none
+abbrev pub name_of : Topic → List ℕ
+name_of topic.Program = []
+name_of topic.Script = codes "script"
+name_of topic.Show = codes "show"
+name_of topic.Selfrun = codes "selfrun"
+name_of topic.Check = codes "check"
+name_of topic.Host = codes "host"
+name_of topic.Serve = codes "serve"
+name_of topic.Term = codes "term"
+name_of topic.Operate = codes "operate"
+name_of topic.Help = codes "help"
+name_of topic.Version = codes "version"
+
+-- the jobs of the program
+abbrev pub jobs : List Topic
+jobs = topic.Script ∷ topic.Show ∷ topic.Selfrun ∷ topic.Check ∷ topic.Host ∷ topic.Serve ∷ topic.Term ∷ topic.Operate ∷ topic.Help
+    ∷ topic.Version ∷ []
+
+-- the job with this name
+abbrev pub topic_named : List ℕ → Option Topic
+topic_named name =
+    if bytes_eq name (codes "script") then Some topic.Script else
+    if bytes_eq name (codes "show") then Some topic.Show else
+    if bytes_eq name (codes "selfrun") then Some topic.Selfrun else
+    if bytes_eq name (codes "check") then Some topic.Check else
+    if bytes_eq name (codes "host") then Some topic.Host else
+    if bytes_eq name (codes "serve") then Some topic.Serve else
+    if bytes_eq name (codes "term") then Some topic.Term else
+    if bytes_eq name (codes "operate") then Some topic.Operate else
+    if bytes_eq name (codes "help") then Some topic.Help else
+    if bytes_eq name (codes "version") then Some topic.Version else
+    None
+
+-- ---- options
+
+-- an option takes a value, unless it is a flag
+abbrev pub takes_value : ValueKind → Bool
+takes_value kind.Flag = false
+takes_value _ = true
+
+-- an option: its name, the word that names it, what its value is, and whether it must be given
+pub record OptionRow : Type 0 where
+  pub name : List ℕ
+  pub word : List ℕ
+  pub kind : ValueKind
+  pub required : Bool
+
+abbrev pub row_of : JobOption → OptionRow
+row_of option = record { name = option.name.now; word = option.word.now; kind = option.kind; required = option.required }
+
+abbrev pub needed : List ℕ → ValueKind → OptionRow
+needed name kind = record { name = name; word = codes "--" ++ name; kind = kind; required = true }
+
+abbrev pub optional : List ℕ → ValueKind → OptionRow
+optional name kind = record { name = name; word = codes "--" ++ name; kind = kind; required = false }
+
+-- the options of a job
+abbrev pub options_of : Topic → List OptionRow
+options_of topic.Script = optional (codes "any-terminal") kind.Flag ∷ []
+options_of topic.Show = optional (codes "model") kind.Model ∷ []
+options_of topic.Selfrun = optional (codes "turns") kind.Turns ∷ []
+options_of topic.Host = needed (codes "port") kind.Port ∷ optional (codes "turns") kind.Turns ∷ []
+options_of topic.Serve =
+    needed (codes "port") kind.ServicePort ∷ optional (codes "listen") kind.Address ∷ optional (codes "panels") kind.File
+    ∷ optional (codes "negotiate") kind.Seconds ∷ optional (codes "keepalive") kind.Seconds ∷ optional (codes "idle") kind.Seconds
+    ∷ optional (codes "application") kind.Url ∷ optional (codes "application-timeout") kind.ReplyTime
+    ∷ optional (codes "metrics") kind.ServicePort ∷ optional (codes "own-terminals") kind.Flag ∷ optional (codes "verify") kind.Flag
+    ∷ optional (codes "quiet") kind.Flag ∷ []
+options_of topic.Term = needed (codes "port") kind.Port ∷ optional (codes "lu") kind.LuName ∷ optional (codes "model") kind.Model ∷ []
+options_of topic.Operate =
+    needed (codes "port") kind.Port ∷ optional (codes "lu") kind.LuName ∷ optional (codes "model") kind.Model ∷ optional (codes "raw") kind.TtySize ∷ []
+options_of _ = []
+
+-- the name of the word that a job may be given without an option: the job that `help` is asked for, the file that `check` reads
+abbrev pub operand_of : Topic → Option (List ℕ)
+operand_of topic.Help = Some (codes "job")
+operand_of topic.Check = Some (codes "file")
+operand_of _ = None
+
+-- what the option that a word names takes
+abbrev pub kind_named : List OptionRow → List ℕ → Option ValueKind
+kind_named [] word = None
+kind_named (option ∷ options) word = if bytes_eq word option.word then Some option.kind else kind_named options word
+
+-- the word is a value of this kind
+abbrev pub is_value : ValueKind → List ℕ → Bool
+is_value kind.Port word = is_some (port_of word)
+is_value kind.ServicePort word = is_some (service_port_of word)
+is_value kind.Turns word = is_some (turns_of word)
+is_value kind.LuName word = is_some (lu_of word)
+is_value kind.Address word = is_some (address_of word)
+is_value kind.Seconds word = is_some (seconds_of word)
+is_value kind.Model word = is_some (model_of word)
+is_value kind.ReplyTime word = is_some (reply_time_of word)
+is_value kind.Url word = true
+is_value kind.File word = true
+is_value kind.TtySize word = is_some (tty_size_of word)
+is_value kind.Flag word = false

@@ -1,0 +1,509 @@
+//! Reads the program's arguments.
+ghost use Rattle.std.specs.Prelude.{◌≡◌, [], IfOk, IfErr, Some, codes, false, map, option_map, string_bytes, true};
+ghost use Rattle.clap.specs.Walk.{first_of, rows_of};
+ghost use Rattle.clap.specs.Simple.{new_rule, subcommand_rows_of};
+ghost use Rattle.clap.specs.Matches.{found_of};
+ghost use Rattle.jobs.specs.OptionValues.{is_same_port};
+ghost use Rattle.cli.specs.Topics.{row_of};
+ghost use Rattle.cli.specs.Words.{HasNoJob, IsJobOf, program, job_by, job_named, job_of, given_address, given_application, given_limits, given_live_options, given_lu, given_metrics, given_model, given_port, given_reply_time, given_script_terminals, given_seconds, given_service, given_service_port, given_terminals, given_topic, given_tty, given_turns, ends_by_dashes, is_given, job_shape, job_taken, operand_rules, option_rule, sound_service, topic_of, terminals_by};
+ghost use Rattle.cli.specs.ClapCommands.{AddsArguments, AddsJobs, IsArgument, IsCommand, IsJob, IsMatch, MayFail, job_or_fault};
+
+use crate::help::VERSION;
+use crate::job_table::{JobOption, name_of, operand_of, options_of, topic_named};
+use clap::error::ErrorKind;
+use clap::{Arg, ArgAction, ArgMatches, Command};
+use codes3270::Model;
+use host_core::Terminals;
+use jobs::{
+    ApplicationChoice, FileName, Job, LiveOptions, Port, ReplyTime, Seconds, Service, ServicePort,
+    TimeLimits, Topic, TtySize, Turns, UrlText, WordFault, address_of, model_of,
+};
+use std::alloc::{AllocError, Global};
+use std::net::{IpAddr, Ipv4Addr};
+use tn3270e_msg::Lu;
+
+// ---- the command line
+
+/// An option.
+fn argument<'a>(alloc: Global, option: &JobOption<'a>) -> Arg<'a>
+    ensures { IsArgument (option_rule (row_of option.now)) result }
+{
+    let argument = Arg::new(alloc, option.name)
+        .long(option.name)
+        .required(option.required);
+    if option.kind.takes_value() {
+        argument
+    } else {
+        argument.action(ArgAction::SetTrue)
+    }
+}
+
+/// A job with these options.
+fn with_options<'a>(
+    alloc: Global,
+    job: Command<'a>,
+    options: &[JobOption<'a>],
+) -> Result<Command<'a>, AllocError>
+    ensures { IfOk result (AddsArguments (map (λ option. option_rule (row_of option)) options.now) job.entry) }
+{
+    let mut job = job;
+    for option in options {
+        job = job.arg(argument(alloc, option))?;
+    }
+    Ok(job)
+}
+
+/// A job that may be given a word without an option.
+fn with_word<'a>(alloc: Global, job: Command<'a>, name: &'a str) -> Result<Command<'a>, AllocError>
+    ensures { IfOk result (AddsArguments (operand_rules (Some name.entry.now)) job.entry) }
+{
+    let word = Arg::new(alloc, name);
+    job.arg(word)
+}
+
+/// A job with its operand, if it has one.
+fn with_operand<'a>(
+    alloc: Global,
+    job: Command<'a>,
+    operand: Option<&'a str>,
+) -> Result<Command<'a>, AllocError>
+    ensures { IfOk result (AddsArguments (operand_rules (option_map (λ name. name.now) operand.entry)) job.entry) }
+{
+    match operand {
+        Some(name) => with_word(alloc, job, name),
+        None => Ok(job),
+    }
+}
+
+/// A job with its options and its operand.
+fn job<'a>(alloc: Global, topic: Topic) -> Result<Command<'a>, AllocError>
+    ensures { IfOk result (IsJob (job_shape topic)) }
+{
+    let bare = Command::new(alloc, name_of(topic));
+    let job = with_options(alloc, bare, options_of(topic))?;
+    with_operand(alloc, job, operand_of(topic))
+}
+
+/// A command with these jobs as subcommands.
+fn with_jobs<'a>(
+    alloc: Global,
+    command: Command<'a>,
+    jobs: &[Topic],
+) -> Result<Command<'a>, AllocError>
+    ensures { IfOk result (AddsJobs (map job_shape jobs.now) command.entry) }
+{
+    let mut command = command;
+    for topic in jobs {
+        command = command.subcommand(job(alloc, *topic)?)?;
+    }
+    Ok(command)
+}
+
+/// The program without its jobs. Its own `help` is used in place of clap's.
+fn bare<'a>(alloc: Global) -> Command<'a>
+    ensures { IsCommand (record program { top = record program.top { is_leaf = true }; subs = [] }) result }
+{
+    let named = Command::new(alloc, "panel3270").no_binary_name(true);
+    named.disable_help_subcommand(true).version(VERSION)
+}
+
+/// The jobs of the program.
+pub(crate) static JOBS: [Topic; 10] = [
+    Topic::Script,
+    Topic::Show,
+    Topic::Selfrun,
+    Topic::Check,
+    Topic::Host,
+    Topic::Serve,
+    Topic::Term,
+    Topic::Operate,
+    Topic::Help,
+    Topic::Version,
+];
+
+/// The program, with its jobs as subcommands.
+fn program<'a>(alloc: Global) -> Result<Command<'a>, AllocError>
+    ensures { IfOk result (IsCommand program) }
+{
+    with_jobs(alloc, bare(alloc), &JOBS)
+}
+
+// ---- what was given
+
+/// The value of an option, if it is given.
+fn given<'a>(options: &ArgMatches<'a>, name: &str) -> Option<&'a str>
+    ensures { option_map (λ word. word.now) result ≡ first_of name.now (rows_of (found_of options.now)) }
+{
+    options.get_str(name)
+}
+
+/// The value of an option or operand that is a file's name, if it is given.
+fn file_in<'a>(options: &ArgMatches<'a>, name: &str) -> Option<FileName<'a>>
+    ensures { result ≡ first_of name.now (rows_of (found_of options.now)) }
+{
+    Some(FileName::new(given(options, name)?))
+}
+
+/// The value of `--port`, of a job for users without privileges.
+fn port_in(options: &ArgMatches<'_>) -> Option<Port>
+    ensures { result ≡ given_port (rows_of (found_of options.now)) }
+{
+    Port::read(given(options, "port")?)
+}
+
+/// The value of `--turns`; the usual number if it isn't given.
+fn turns_in(options: &ArgMatches<'_>) -> Option<Turns>
+    ensures { result ≡ given_turns (rows_of (found_of options.now)) }
+{
+    match given(options, "turns") {
+        Some(word) => Turns::read(word),
+        None => Some(Turns::usual()),
+    }
+}
+
+/// The value of `--lu`, if it is given. None if it isn't an LU's name.
+fn lu_in(options: &ArgMatches<'_>) -> Option<Option<Lu>>
+    ensures { result ≡ given_lu (rows_of (found_of options.now)) }
+{
+    match given(options, "lu") {
+        Some(word) => Some(Some(Lu::read(word.as_bytes())?)),
+        None => Some(None),
+    }
+}
+
+/// The value of `--model`; model 2 if it isn't given.
+fn model_in(options: &ArgMatches<'_>) -> Option<Model>
+    ensures { result ≡ given_model (rows_of (found_of options.now)) }
+{
+    match given(options, "model") {
+        Some(word) => model_of(word),
+        None => Some(Model::M2),
+    }
+}
+
+/// The value of `--raw`, if it is given. None if it is no size of a tty.
+fn tty_in(options: &ArgMatches<'_>) -> Option<Option<TtySize>>
+    ensures { result ≡ given_tty (rows_of (found_of options.now)) }
+{
+    match given(options, "raw") {
+        Some(word) => Some(Some(TtySize::read(word)?)),
+        None => Some(None),
+    }
+}
+
+/// The value of `--port`, of a service.
+fn service_port_in(options: &ArgMatches<'_>) -> Option<ServicePort>
+    ensures { result ≡ given_service_port (rows_of (found_of options.now)) }
+{
+    ServicePort::read(given(options, "port")?)
+}
+
+/// The value of `--listen`; 127.0.0.1 if it isn't given.
+fn address_in(options: &ArgMatches<'_>) -> Option<IpAddr>
+    ensures { result ≡ given_address (rows_of (found_of options.now)) }
+{
+    match given(options, "listen") {
+        Some(word) => address_of(word),
+        None => Some(IpAddr::V4(Ipv4Addr::LOCALHOST)),
+    }
+}
+
+/// The value of an option of seconds; `usual` if it isn't given.
+fn seconds_in(options: &ArgMatches<'_>, name: &str, usual: Seconds) -> Option<Seconds>
+    ensures { result ≡ given_seconds name.now usual (rows_of (found_of options.now)) }
+{
+    match given(options, name) {
+        Some(word) => Seconds::read(word),
+        None => Some(usual),
+    }
+}
+
+/// The values of `--negotiate`, `--keepalive` and `--idle`.
+fn limits_in(options: &ArgMatches<'_>) -> Option<TimeLimits>
+    ensures { result ≡ given_limits (rows_of (found_of options.now)) }
+{
+    Some(TimeLimits {
+        negotiate: seconds_in(options, "negotiate", Seconds::usual_negotiate())?,
+        keepalive: seconds_in(options, "keepalive", Seconds::usual_keepalive())?,
+        idle: seconds_in(options, "idle", Seconds::usual_idle())?,
+    })
+}
+
+/// The value of `--metrics`, if it is given. None if it is no port.
+fn metrics_in(options: &ArgMatches<'_>) -> Option<Option<ServicePort>>
+    ensures { result ≡ given_metrics (rows_of (found_of options.now)) }
+{
+    match given(options, "metrics") {
+        Some(word) => Some(Some(ServicePort::read(word)?)),
+        None => Some(None),
+    }
+}
+
+/// Whether a flag is given.
+fn is_given(options: &ArgMatches<'_>, flag: &str) -> bool
+    ensures { result ≡ is_given flag.now (rows_of (found_of options.now)) }
+{
+    match given(options, flag) {
+        Some(word) => word == "true",
+        None => false,
+    }
+}
+
+/// Which terminals connect, by whether all are ours and whether the host verifies them. None if both are said.
+fn terminals_by(own: bool, verify: bool) -> Option<Terminals>
+    ensures { result ≡ terminals_by own verify }
+{
+    if verify {
+        return if own { None } else { Some(Terminals::Verified) };
+    }
+    Some(if own {
+        Terminals::Waiting
+    } else {
+        Terminals::Any
+    })
+}
+
+/// Which terminals connect: those that wait if `--own-terminals` is given, else any, which the host verifies if `--verify` is given.
+/// None if both are given.
+fn terminals_in(options: &ArgMatches<'_>) -> Option<Terminals>
+    ensures { result ≡ given_terminals (rows_of (found_of options.now)) }
+{
+    terminals_by(
+        is_given(options, "own-terminals"),
+        is_given(options, "verify"),
+    )
+}
+
+/// Which terminals the host of a script serves: any if `--any-terminal` is given, else those that wait.
+fn script_terminals_in(options: &ArgMatches<'_>) -> Terminals
+    ensures { result ≡ given_script_terminals (rows_of (found_of options.now)) }
+{
+    if is_given(options, "any-terminal") {
+        Terminals::Any
+    } else {
+        Terminals::Waiting
+    }
+}
+
+/// How `serve` serves.
+fn service_in(options: &ArgMatches<'_>) -> Option<Service>
+    ensures { result ≡ given_service (rows_of (found_of options.now)) }
+{
+    Some(Service {
+        port: service_port_in(options)?,
+        listen: address_in(options)?,
+        limits: limits_in(options)?,
+        metrics: metrics_in(options)?,
+        terminals: terminals_in(options)?,
+        quiet: is_given(options, "quiet"),
+    })
+}
+
+/// Whether another port, if there is one, is the same.
+pub(crate) fn is_same_port(port: ServicePort, other: Option<ServicePort>) -> bool
+    ensures { result ≡ is_same_port port other }
+{
+    match other {
+        Some(other) => port.get() == other.get(),
+        None => false,
+    }
+}
+
+/// How `serve` serves. None if metrics were answered on the port that terminals connect to.
+fn sound_service_in(options: &ArgMatches<'_>) -> Option<Service>
+    ensures { result ≡ sound_service (rows_of (found_of options.now)) }
+{
+    let service = service_in(options)?;
+    if is_same_port(service.port, service.metrics) {
+        None
+    } else {
+        Some(service)
+    }
+}
+
+/// What `operate` connects to, and its tty.
+fn live_options_in(options: &ArgMatches<'_>) -> Option<LiveOptions>
+    ensures { result ≡ given_live_options (rows_of (found_of options.now)) }
+{
+    Some(LiveOptions {
+        port: port_in(options)?,
+        lu: lu_in(options)?,
+        model: model_in(options)?,
+        tty: tty_in(options)?,
+    })
+}
+
+/// The value of `--application`, if it is given.
+fn url_in<'a>(options: &ArgMatches<'a>) -> Option<UrlText<'a>>
+    ensures { result ≡ first_of (codes "application") (rows_of (found_of options.now)) }
+{
+    Some(UrlText::new(given(options, "application")?))
+}
+
+/// The value of `--application-timeout`; the usual time if it isn't given.
+fn reply_time_in(options: &ArgMatches<'_>) -> Option<ReplyTime>
+    ensures { result ≡ given_reply_time (rows_of (found_of options.now)) }
+{
+    match given(options, "application-timeout") {
+        Some(word) => ReplyTime::read(word),
+        None => Some(ReplyTime::usual()),
+    }
+}
+
+/// Which application decides for `serve`.
+fn application_in<'a>(options: &ArgMatches<'a>) -> Option<ApplicationChoice<'a>>
+    ensures { result ≡ given_application (rows_of (found_of options.now)) }
+{
+    Some(ApplicationChoice {
+        url: url_in(options),
+        reply_time: reply_time_in(options)?,
+    })
+}
+
+/// The topic after `help`: the whole program if no job is named. None if the word is no job's name.
+fn topic_in(options: &ArgMatches<'_>) -> Option<Topic>
+    ensures { result ≡ given_topic (rows_of (found_of options.now)) }
+{
+    match given(options, "job") {
+        Some(word) => topic_named(word),
+        None => Some(Topic::Program),
+    }
+}
+
+/// The topic of `--help`: the job whose option it is.
+fn topic_of(words: &[String]) -> Topic
+    ensures { result ≡ topic_of (map string_bytes words.now) }
+{
+    match words {
+        [first, ..] => topic_named(first.as_str()).unwrap_or(Topic::Program),
+        [] => Topic::Program,
+    }
+}
+
+/// The job of a topic with these options.
+fn job_of<'a>(topic: Topic, options: &ArgMatches<'a>) -> Option<Job<'a>>
+    ensures { result ≡ job_of topic (rows_of (found_of options.now)) }
+{
+    let job = match topic {
+        Topic::Program => return None,
+        Topic::Script => Job::Script {
+            terminals: script_terminals_in(options),
+        },
+        Topic::Show => Job::Show {
+            model: model_in(options)?,
+        },
+        Topic::Selfrun => Job::Selfrun {
+            turns: turns_in(options)?,
+        },
+        Topic::Check => Job::Check {
+            file: file_in(options, "file"),
+        },
+        Topic::Host => Job::Host {
+            port: port_in(options)?,
+            turns: turns_in(options)?,
+        },
+        Topic::Serve => Job::Serve {
+            service: sound_service_in(options)?,
+            panels: file_in(options, "panels"),
+            application: application_in(options)?,
+        },
+        Topic::Term => Job::Term {
+            port: port_in(options)?,
+            lu: lu_in(options)?,
+            model: model_in(options)?,
+        },
+        Topic::Operate => Job::Operate(live_options_in(options)?),
+        Topic::Help => Job::Help(topic_in(options)?),
+        Topic::Version => Job::Version,
+    };
+    Some(job)
+}
+
+/// The job with this name and these options.
+fn job_named<'a>(name: &str, options: &ArgMatches<'a>) -> Option<Job<'a>>
+    ensures { result ≡ job_named name.now (rows_of (found_of options.now)) }
+{
+    match topic_named(name) {
+        Some(topic) => job_of(topic, options),
+        None => None,
+    }
+}
+
+/// The job of a parsed command line: `script` if there is no argument.
+fn job_in<'a>(matches: &ArgMatches<'a>) -> Option<Job<'a>>
+    ensures { result ≡ job_by (subcommand_rows_of matches.now) }
+{
+    match matches.subcommand() {
+        Some((name, options)) => job_named(name, options),
+        None => Some(Job::Script {
+            terminals: Terminals::Waiting,
+        }),
+    }
+}
+
+/// Whether the last word is the one that ends options, so that nothing follows it.
+fn ends_by_dashes(words: &[String]) -> bool
+    ensures { result ≡ ends_by_dashes false (map string_bytes words.now) }
+{
+    let mut dashes = false;
+    for word in words {
+        dashes = word.as_str() == "--";
+    }
+    dashes
+}
+
+/// The job of words that are parsed as these matches.
+fn job_taken<'a>(words: &[String], matches: &ArgMatches<'a>) -> Option<Job<'a>>
+    ensures { result ≡ job_taken (map string_bytes words.now) (subcommand_rows_of matches.now) }
+{
+    if ends_by_dashes(words) {
+        None
+    } else {
+        job_in(matches)
+    }
+}
+
+// ---- words
+
+/// What words ask for whose parse failed by this kind of error.
+fn job_or_fault<'a>(words: &'a [String], kind: ErrorKind) -> Result<Job<'a>, WordFault>
+    ensures { result ≡ job_or_fault (map string_bytes words.now) kind }
+{
+    match kind {
+        ErrorKind::DisplayHelp => Ok(Job::Help(topic_of(words))),
+        ErrorKind::DisplayVersion => Ok(Job::Version),
+        ErrorKind::OutOfMemory => Err(WordFault::Memory),
+        _ => Err(WordFault::Refused),
+    }
+}
+
+/// The arguments, parsed by the command line; or the kind of the parse's error.
+fn matches_of<'a>(alloc: Global, words: &'a [String]) -> Result<ArgMatches<'a>, ErrorKind>
+    ensures matches { IfOk result (IsMatch (map string_bytes words.now)) }
+    ensures kind { IfErr result (MayFail (map string_bytes words.now)) }
+{
+    let Ok(command) = program(alloc) else {
+        return Err(ErrorKind::OutOfMemory);
+    };
+    match command.try_get_matches_from(words) {
+        Ok(matches) => Ok(matches),
+        Err(error) => Err(error.kind()),
+    }
+}
+
+/// The job of the program's arguments: `script` if there are none.
+///
+/// Refused if the command line doesn't take them, if a port, a number of turns or seconds, an address, an LU's name, a model, a size or a
+/// job's name isn't valid, if `--metrics` has the port of `--port`, or if the last word is `--`; Memory if memory is refused.
+pub fn words<'a>(alloc: Global, words: &'a [String]) -> Result<Job<'a>, WordFault>
+    ensures job { IfOk result (λ job. IsJobOf (map string_bytes words.now) (Some job)) }
+    ensures fault { IfErr result (HasNoJob (map string_bytes words.now)) }
+{
+    match matches_of(alloc, words) {
+        Ok(matches) => match job_taken(words, &matches) {
+            Some(job) => Ok(job),
+            None => Err(WordFault::Refused),
+        },
+        Err(kind) => job_or_fault(words, kind),
+    }
+}

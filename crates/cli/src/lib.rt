@@ -1,0 +1,15 @@
+//! The words of the command line: the job that they ask for, why they are refused, and the help.
+//!
+//! It does no job. [`words`] makes a [`Job`](jobs::Job) of the arguments, by clap. [`refusal_of`] says what is wrong
+//! with words that give none, and [`run_help`] prints the help of a topic. `specs/Topics` has each job's options,
+//! `Words` which arguments give which job, `Refusals` what is printed for others, and `Helps` the help.
+#![tactic(auto)]
+
+mod command_line;
+mod help;
+mod job_table;
+mod refusal;
+
+pub use command_line::words;
+pub use help::{run_help, run_version};
+pub use refusal::{Refusal, refusal_of, refuse_words, similar_to};

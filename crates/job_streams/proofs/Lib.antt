@@ -1,0 +1,4 @@
+pub mod Known
+pub mod InputEnds
+pub mod ReadsOn
+pub mod WriteCalls

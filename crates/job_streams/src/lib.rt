@@ -1,0 +1,37 @@
+//! How a job reads its input, writes its output, and ends by a fault. It has no job and opens no socket.
+//!
+//! A job reads from a [`Source`] and writes to a [`Sink`], which count failures. [`CountedReader`] and
+//! [`CountedWriter`] make these of any reader and writer, through single calls that contracts can name ([`RawRead`],
+//! [`RawWrite`]). [`read_whole`] reads an input as text. A [`Fault`] that ends a job prints as one line, and has an
+//! exit status; [`end_by`] does both.
+//!
+//! ```rust
+//! let mut input = CountedReader::new(rt.stdin());
+//! let mut faults = CountedWriter::new(rt.stderr());
+//! let status = match read_whole(rt.alloc(), &mut input) {
+//!     Ok(text) => 0,
+//!     Err(fault) => end_by(fault, &mut faults),
+//! };
+//! ```
+//!
+//! `specs/Counting` says what a stream counts, `RawCalls` what the answers of readers and writers mean, `Runs` what an
+//! input is and how a fault is told, and `Faults`, `LiveFaults` and `FileFaults` each fault's line and status.
+#![tactic(auto)]
+
+mod ending;
+mod fault;
+mod file_fault;
+mod input;
+mod live_fault;
+mod raw;
+mod streams;
+
+pub use ending::end_by;
+pub use fault::Fault;
+pub use file_fault::{FileFault, refuse_file};
+pub use input::{MOST_BYTES, MOST_READS, read_whole};
+pub use live_fault::LiveFault;
+pub use raw::{RawRead, RawWrite};
+pub use streams::{
+    Answer, CHUNK, CountedReader, CountedWriter, Sink, Source, UntilClosed, WriteFailed, read_chunk,
+};

@@ -1,0 +1,113 @@
+-- The values of options (our profile).
+use Rattle.std.specs.Prelude.{ℕ, ◌==◌, ◌&&◌, Bool, false, nat_le, List, [], ◌∷◌, Option, Some, None, option_map, if◌then◌else◌, bytes_eq, codes}
+use Rattle.std.specs.List.{after_first, before_first}
+use Rattle.std.specs.Option.{option_and_then, option_map_or}
+use Rattle.std.specs.Net.Reader.{read_ipv4, read_ipv6, whole_value}
+use Rattle.std.specs.declared.net.ip_addr.IpAddr.{IpAddr}
+use Rattle.std.specs.declared.net.ip_addr.IpAddr.TheVariants as ip
+use Rattle.codes3270.specs.declared.size.Model.{Model}
+use Rattle.codes3270.specs.declared.size.Model.TheVariants.{M2, M3, M4, M5}
+use Rattle.line_words.specs.LineParts.{number_of}
+use Rattle.jobs.specs.declared.tty_size.TtySize.{TtySize}
+
+-- ports that need no privilege
+abbrev pub port_numbered : ℕ → Option ℕ
+port_numbered number = if nat_le 1024 number && nat_le number 65535 then Some number else None
+
+-- the ports of a service
+abbrev pub service_port_numbered : ℕ → Option ℕ
+service_port_numbered number = if nat_le 1 number && nat_le number 65535 then Some number else None
+
+-- the other port, if there is one, is the same
+abbrev pub is_same_port : ℕ → Option ℕ → Bool
+is_same_port port None = false
+is_same_port port (Some other) = port == other
+
+-- time limits in seconds; 0 is none
+abbrev pub seconds_numbered : ℕ → Option ℕ
+seconds_numbered number = if nat_le number 1000000 then Some number else None
+
+-- how long an application may take for a reply, in seconds
+abbrev pub reply_time_numbered : ℕ → Option ℕ
+reply_time_numbered number = if nat_le 1 number && nat_le number 3600 then Some number else None
+
+abbrev pub turns_numbered : ℕ → Option ℕ
+turns_numbered number = if nat_le 1 number && nat_le number 1000000 then Some number else None
+
+-- the models of the 3278, by their numbers
+abbrev pub model_numbered : ℕ → Option Model
+model_numbered number =
+    if number == 2 then Some M2 else
+    if number == 3 then Some M3 else
+    if number == 4 then Some M4 else
+    if number == 5 then Some M5 else
+    None
+
+abbrev pub port_of : List ℕ → Option ℕ
+port_of word = option_and_then port_numbered (number_of word)
+
+abbrev pub service_port_of : List ℕ → Option ℕ
+service_port_of word = option_and_then service_port_numbered (number_of word)
+
+abbrev pub seconds_of : List ℕ → Option ℕ
+seconds_of word = option_and_then seconds_numbered (number_of word)
+
+abbrev pub reply_time_of : List ℕ → Option ℕ
+reply_time_of word = option_and_then reply_time_numbered (number_of word)
+
+abbrev pub turns_of : List ℕ → Option ℕ
+turns_of word = option_and_then turns_numbered (number_of word)
+
+abbrev pub model_of : List ℕ → Option Model
+model_of word = option_and_then model_numbered (number_of word)
+
+-- 127.0.0.1
+abbrev pub this_machine : IpAddr
+this_machine = ip.V4 (record { octets = 127 ∷ 0 ∷ 0 ∷ 1 ∷ [] })
+
+-- the address that a word writes: four decimal octets, else the groups of an IPv6 address (RFC 4291, 2.2)
+unfoldable pub written_address : List ℕ → Option IpAddr
+written_address word =
+    option_map_or (λ octets. Some (ip.V4 (record { octets = octets }))) (whole_value (read_ipv4 word))
+    (option_map (λ segments. ip.V6 (record { segments = segments })) (whole_value (read_ipv6 word)))
+
+-- the address that a word names: `localhost` is 127.0.0.1 (RFC 6761, 6.3)
+abbrev pub address_of : List ℕ → Option IpAddr
+address_of word = if bytes_eq word (codes "localhost") then Some this_machine else written_address word
+
+-- the letter between rows and columns
+abbrev pub is_x : ℕ → Bool
+is_x char = char == 120
+
+-- how many rows or columns a tty may have
+abbrev pub tty_side_numbered : ℕ → Option ℕ
+tty_side_numbered number = if nat_le 1 number && nat_le number 9999 then Some number else None
+
+abbrev pub tty_side_of : List ℕ → Option ℕ
+tty_side_of word = option_and_then tty_side_numbered (number_of word)
+
+-- the size of a tty, as `24x80`: its rows and its columns
+abbrev pub tty_size_of : List ℕ → Option TtySize
+tty_size_of word =
+    option_and_then (λ rows. option_map (λ columns. record { rows = rows; columns = columns }) (tty_side_of (after_first is_x word)))
+    (tty_side_of (before_first is_x word))
+
+-- the values of options that aren't given
+
+abbrev pub usual_turns : ℕ
+usual_turns = 10000
+
+abbrev pub usual_model : Model
+usual_model = M2
+
+abbrev pub usual_reply_time : ℕ
+usual_reply_time = 30
+
+abbrev pub usual_negotiate : ℕ
+usual_negotiate = 30
+
+abbrev pub usual_keepalive : ℕ
+usual_keepalive = 60
+
+abbrev pub usual_idle : ℕ
+usual_idle = 0

@@ -1,6 +1,0 @@
-use Rattle.std.proofs.Common.{◌≡◌, ◌+◌, false, drop}
-use Rattle.jobs3270.specs.AnswerLines.{word_length}
-use Rattle.jobs3270.proofs.answer_line.word_length.Given as goal
-
-abbrev pub invariant-loop-place : goal.invariant-loop-place
-invariant-loop-place l = word_length false l.text ≡ l.place + word_length l.quoted (drop l.place l.text)

@@ -1,7 +1,0 @@
-use Rattle.std.proofs.Common.{sym, arith}
-use Rattle.std.proofs.lemmas.List.{take_all}
-use Rattle.jobs3270.specs.Applications.{most_characters}
-use Rattle.jobs3270.proofs.application_reply.cut.Goals as goal
-
-pub returns-then-codes-lt-MOST_CHARACTERS : goal.returns-then-codes-lt-MOST_CHARACTERS
-returns-then-codes-lt-MOST_CHARACTERS c = sym (take_all most_characters c.args.codes.now (omega arith))

@@ -1,6 +1,0 @@
-use Rattle.std.proofs.Common.{rules}
-use Rattle.jobs3270.proofs.Replies.{value_fits}
-use Rattle.jobs3270.proofs.application_reply.set_text.Goals as goal
-
-pub set-requires : goal.set-requires
-set-requires c = value_fits c.args.text.now c.cut.result.now (search rules)

@@ -1,6 +1,0 @@
-use Rattle.std.proofs.Common.{◌≡◌, drop}
-use Rattle.jobs3270.specs.AskedKeys.{first_asked}
-use Rattle.jobs3270.proofs.asked_key.first_asked.Given as goal
-
-abbrev pub invariant-loop-index : goal.invariant-loop-index
-invariant-loop-index l = first_asked (drop l.index l.panels.panels) ≡ first_asked l.panels.panels

@@ -1,5 +1,0 @@
-use Rattle.jobs3270.proofs.Rounds.{RoundsMade}
-use Rattle.jobs3270.proofs.idle.run_until_idle.Given as goal
-
-abbrev pub invariant-loop : goal.invariant-loop
-invariant-loop l = RoundsMade l.counter l.initial.world l.world

@@ -1,6 +1,0 @@
-use Rattle.jobs3270.specs.Scrapes.{field_lines}
-use Rattle.jobs3270.proofs.scrape.FieldsDisplay.fmt.Goals as goal
-
-pub returns-clause-writes : goal.returns-clause-writes
-unfolding field_lines
-returns-clause-writes g c = rw (← c.content_type-kind.ensures, ← c.connection_field-close.ensures) c.write.ensures.writes

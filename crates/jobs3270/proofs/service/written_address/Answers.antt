@@ -1,6 +1,0 @@
-use Rattle.std.proofs.Common.{◌∙◌}
-use Rattle.jobs3270.proofs.Addresses.{address_parsed}
-use Rattle.jobs3270.proofs.service.written_address.Goals as goal
-
-pub returns : goal.returns
-returns c = c.ok.ensures.value ∙ address_parsed c.args.word.now c.parse.result c.parse.ensures.value

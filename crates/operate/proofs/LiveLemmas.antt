@@ -1,0 +1,75 @@
+-- Keystrokes of a live terminal, one after another.
+use Rattle.std.proofs.Common.{◌≡◌, ◌∙◌, refl, sym, ap, subst, ℕ, ◌+◌, ◌<◌, ◌≤◌, Bool, true, false, if◌then◌else◌, List, [], ◌∷◌, ◌++◌, length, drop, get_or, Option, None, Some, append-nil}
+use Rattle.std.proofs.lemmas.List.{drop_more, drop_all}
+use Rattle.std.specs.Option.{option_to_list}
+use Rattle.tty_keys.specs.Reading.{after_pause, keystrokes_of, read_byte, read_bytes}
+use Rattle.tty_keys.specs.declared.keystroke.Keystroke.{Keystroke}
+use Rattle.tty_keys.specs.declared.keystroke.Keystroke.TheVariants.{Unknown}
+use Rattle.tty_keys.specs.declared.keystroke.Pushed.{Pushed}
+use Rattle.operate.specs.Live.{Live, ReadsTyped, Seat, Types, after_keystroke, after_keystrokes, is_quit}
+
+-- what means nothing changes nothing
+either_way : (seat : Seat) (quits : Bool) → (if quits then seat else seat) ≡ seat
+either_way seat true = refl
+either_way seat false = refl
+
+unknown_is_nothing : (seat : Seat) → after_keystroke Unknown seat ≡ seat
+unknown_is_nothing seat = either_way seat (is_quit seat.asks)
+
+-- one list of keystrokes after another
+pub in_turn : (front back : List Keystroke) (seat : Seat) → after_keystrokes (front ++ back) seat ≡ after_keystrokes back (after_keystrokes front seat)
+in_turn [] back seat = refl
+in_turn (keystroke ∷ front) back seat = in_turn front back (after_keystroke keystroke seat)
+
+-- the keystroke that a byte completes, if it does
+abbrev pub after_option : Option Keystroke → Seat → Seat
+after_option None seat = seat
+after_option (Some keystroke) seat = after_keystroke keystroke seat
+
+option_taken : (keystroke : Option Keystroke) (seat : Seat) → after_keystrokes (option_to_list keystroke) seat ≡ after_option keystroke seat
+option_taken None seat = refl
+option_taken (Some keystroke) seat = refl
+
+taken_behind : (interrupted : Bool) (keystroke : Option Keystroke) (seat : Seat)
+    → after_keystrokes ((if interrupted then Unknown ∷ [] else []) ++ option_to_list keystroke) seat ≡ after_option keystroke seat
+taken_behind false keystroke seat = option_taken keystroke seat
+taken_behind true keystroke seat = ap (λ (s : Seat). after_keystrokes (option_to_list keystroke) s) (unknown_is_nothing seat) ∙ option_taken keystroke seat
+
+-- what a byte breaks off means nothing
+pub pushed_taken : (pushed : Pushed) (strokes : List Keystroke) (seat : Seat) → keystrokes_of pushed ≡ strokes
+    → after_option pushed.keystroke seat ≡ after_keystrokes strokes seat
+pushed_taken pushed strokes seat is =
+    sym (taken_behind pushed.interrupted pushed.keystroke seat) ∙ ap (λ (all : List Keystroke). after_keystrokes all seat) is
+
+-- a pause means nothing
+pub pause_taken : (kept : List ℕ) (seat : Seat) → after_keystrokes (option_to_list (after_pause kept)) seat ≡ seat
+pause_taken [] seat = refl
+pause_taken (first ∷ rest) seat = unknown_is_nothing seat
+
+-- a byte and those behind it
+pub byte_more : (byte : ℕ) (bytes : List ℕ) (old mid new : Live) → mid.seat ≡ after_keystrokes (read_byte old.kept byte).keystrokes old.seat
+    → mid.kept ≡ (read_byte old.kept byte).kept → ReadsTyped bytes mid new → ReadsTyped (byte ∷ bytes) old new
+byte_more byte bytes old mid new seat kept others = record {
+  seat = others.seat
+      ∙ ap (λ (rest : List ℕ). after_keystrokes (read_bytes rest bytes).keystrokes mid.seat) kept
+      ∙ ap (λ (s : Seat). after_keystrokes (read_bytes (read_byte old.kept byte).kept bytes).keystrokes s) seat
+      ∙ sym (in_turn (read_byte old.kept byte).keystrokes (read_bytes (read_byte old.kept byte).kept bytes).keystrokes old.seat);
+  kept = others.kept ∙ ap (λ (rest : List ℕ). (read_bytes rest bytes).kept) kept;
+}
+
+-- bytes from a place on
+pub bytes_more : (typed : List ℕ) (place other byte : ℕ) (old mid new : Live) → place < length typed → byte ≡ get_or typed place other
+    → mid.seat ≡ after_keystrokes (read_byte old.kept byte).keystrokes old.seat → mid.kept ≡ (read_byte old.kept byte).kept
+    → ReadsTyped (drop (place + 1) typed) mid new → ReadsTyped (drop place typed) old new
+bytes_more typed place other byte old mid new below is seat kept others =
+    subst (λ (bytes : List ℕ). ReadsTyped bytes old new) (sym (drop_more typed place other below ∙ ap (λ (first : ℕ). first ∷ drop (place + 1) typed) (sym is)))
+    (byte_more byte (drop (place + 1) typed) old mid new seat kept others)
+
+pub no_more : (typed : List ℕ) (place : ℕ) (live : Live) → length typed ≤ place → ReadsTyped (drop place typed) live live
+no_more typed place live above =
+    subst (λ (bytes : List ℕ). ReadsTyped bytes live live) (sym (drop_all place typed above)) (record { seat = refl; kept = refl })
+
+-- a read that gave some bytes
+pub typed_some : (typed : List ℕ) (old new : Live) → (typed ≡ [] → ⊥) → ReadsTyped typed old new → Types typed old new
+typed_some [] old new some reads = absurd (some refl)
+typed_some (byte ∷ bytes) old new some reads = reads

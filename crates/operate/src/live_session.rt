@@ -1,0 +1,436 @@
+//! `operate`: a terminal of a host, for an operator at a tty.
+ghost use Rattle.std.specs.Prelude.{◌≡◌, ◌≤◌, ◌||◌, IfOk, OnOk, length, take};
+ghost use Rattle.term_core.specs.State.{is_bound, phase_of};
+ghost use Rattle.job_streams.specs.Counting.{chunk_size};
+ghost use Rattle.operate.specs.LiveSessions.{AfterRead, Loses, ReadsHost, ReadsKeys, Rests, SendsOnce, SendsOver, TakesInput, TakesTurnOver, Works, WritesTty, got_count, is_quiet};
+ghost use Rattle.host_core.specs.Serves.{GotWithin, bytes_got};
+ghost use Rattle.socket_links.specs.Sockets.{Gives};
+
+use crate::live::{Asked, LiveTerminal};
+use codes3270::Model;
+use host_core::{LinkRead, LinkWrite};
+use job_streams::{
+    Answer, CHUNK, Fault, LiveFault, RawRead, RawWrite, Sink, Source, end_by, read_chunk,
+};
+use jobs::{LiveOptions, Port, TtySize};
+use mio::net::TcpStream;
+use mio::{Events, Interest, Poll, Token};
+use socket_links::{SocketSlot, patience};
+use std::alloc::Global;
+use std::io::ErrorKind;
+use std::marker;
+use std::net::{Ipv4Addr, Net, SocketAddr};
+use term_core::TermPhase;
+use tn3270e_msg::Lu;
+use tty_screen::check_room;
+
+/// The most events of one poll. A socket without an event is read too.
+const MOST_EVENTS: usize = 8;
+
+/// A live terminal with its connection of type `S`, if there is one, and its tty: the keys, and what is written.
+#[derive(Drop)]
+pub struct OperatorSession<S, K, T> {
+    live: LiveTerminal,
+    socket: SocketSlot<S>,
+    keys: K,
+    tty: T,
+    /// What the tty is to be written.
+    drawn: Vec<u8>,
+    /// Whether the screen changed since it was drawn, other than by bytes that came.
+    stale: bool,
+    /// Whether the terminal was bound to an LU at some time.
+    was_bound: bool,
+}
+
+/// Reads a connection once, into a buffer of `CHUNK` bytes.
+fn read_socket<S: RawRead + RawWrite + Drop>(
+    socket: &mut SocketSlot<S>,
+    came: &mut [u8],
+) -> LinkRead
+    requires { length came.old ≡ chunk_size }
+    ensures within { GotWithin result (length came.new) }
+    ensures gives { Gives S.read_gave socket.old chunk_size (bytes_got result came.new) result socket.new }
+{
+    socket.read(came)
+}
+
+/// How many bytes a read gave.
+fn got_count(answer: LinkRead) -> usize
+    ensures { result ≡ got_count answer }
+{
+    match answer {
+        LinkRead::Got(count) => count,
+        LinkRead::NotNow | LinkRead::Ended | LinkRead::Failed => 0,
+    }
+}
+
+/// Writes the terminal's output to the connection once. Answers whether a byte was taken. A read finds out whether the connection
+/// failed.
+fn send<S: RawRead + RawWrite + Drop>(live: &mut LiveTerminal, socket: &mut SocketSlot<S>) -> bool
+    ensures { SendsOnce S.write_took live.old live.new socket.old socket.new result }
+{
+    match socket.write(live.out()) {
+        LinkWrite::Took(count) => {
+            live.sent(count);
+            true
+        }
+        LinkWrite::NotNow | LinkWrite::Failed => false,
+    }
+}
+
+impl<S, K, T> marker::Model for OperatorSession<S, K, T> {
+    ghost use Rattle.operate.specs.LiveSessions.{Session};
+
+    ghost Value = { Session S K T };
+
+    ghost view = { λ session. record {
+      live = session.live;
+      socket = session.socket;
+      keys = session.keys;
+      tty = session.tty;
+      drawn = session.drawn.items;
+      stale = session.stale;
+      was_bound = session.was_bound;
+    } };
+}
+
+/// Whether nothing came, nothing was typed, and the tty shows the screen.
+fn is_quiet(came: &[u8], typed: &[u8], stale: bool) -> bool
+    ensures { result ≡ is_quiet came.now typed.now stale }
+{
+    came.is_empty() && typed.is_empty() && !stale
+}
+
+impl<S: RawRead + RawWrite + Drop, K: Source + Drop, T: Sink + Drop> OperatorSession<S, K, T> {
+    /// A terminal of a model without a connection, at a tty.
+    pub fn new(
+        alloc: Global,
+        model: Model,
+        keys: K,
+        tty: T,
+    ) -> Result<OperatorSession<S, K, T>, Fault> {
+        Ok(OperatorSession {
+            live: LiveTerminal::new(alloc, model)?,
+            socket: SocketSlot::unused(),
+            keys,
+            tty,
+            drawn: Vec::new(alloc),
+            stale: true,
+            was_bound: false,
+        })
+    }
+
+    /// Begins a connection, if there is none. The terminal requests this LU, if there is one.
+    pub fn connect(&mut self, socket: S, wanted: Option<Lu>) -> Result<(), Fault> {
+        if let TermPhase::Idle = self.live.phase() {
+            self.live.connect(wanted)?;
+            self.socket.open(socket);
+            self.stale = true;
+        }
+        Ok(())
+    }
+
+    /// Ends the connection. If the terminal was never bound to an LU, that ends the run, by this fault.
+    fn lose(&mut self, fault: Fault) -> Result<(), Fault>
+        ensures { OnOk result (Loses self.old self.new) }
+    {
+        self.socket.close();
+        self.live.lose();
+        self.stale = true;
+        if self.was_bound { Ok(()) } else { Err(fault) }
+    }
+
+    /// Reads the connection once. Answers how many bytes came.
+    fn read_host(&mut self, came: &mut [u8]) -> Result<usize, Fault>
+        requires { length came.old ≡ chunk_size }
+        ensures within { IfOk result (λ count. count ≤ length came.new) }
+        ensures reads { IfOk result (λ count. ReadsHost S.read_gave (take count came.new) self.old self.new) }
+    {
+        let answer = read_socket(&mut self.socket, came);
+        self.follow(answer)?;
+        Ok(got_count(answer))
+    }
+
+    /// Ends the connection, if a read found its end or failed.
+    fn follow(&mut self, answer: LinkRead) -> Result<(), Fault>
+        ensures { OnOk result (AfterRead answer self.old self.new) }
+    {
+        match answer {
+            LinkRead::Got(_) => Ok(()),
+            LinkRead::NotNow => Ok(()),
+            LinkRead::Ended => self.lose(Fault::Live(LiveFault::HostEnded)),
+            LinkRead::Failed => self.lose(Fault::SocketFailed),
+        }
+    }
+
+    /// Writes the terminal's output to the connection once. Answers whether a byte was taken.
+    fn send(&mut self) -> bool
+        ensures { SendsOver S.write_took self.old self.new result }
+    {
+        send(&mut self.live, &mut self.socket)
+    }
+
+    /// Reads the tty once. Answers how many bytes were typed: a tty in raw mode gives none if no key was pressed.
+    fn read_keys(&mut self, typed: &mut [u8]) -> Result<usize, Fault>
+        requires { length typed.old ≡ chunk_size }
+        ensures within { IfOk result (λ count. count ≤ length typed.new) }
+        ensures reads { IfOk result (λ count. ReadsKeys K.gave (take count typed.new) self.old self.new) }
+    {
+        match read_chunk(&mut self.keys, typed) {
+            Answer::Gave(count) => Ok(count),
+            Answer::Ended | Answer::Interrupted => Ok(0),
+            Answer::Failed => Err(Fault::InputNotRead),
+        }
+    }
+
+    /// Writes what the tty is to be written.
+    fn write_tty(&mut self) -> Result<(), Fault>
+        ensures { OnOk result (WritesTty T.seen self.old self.new) }
+    {
+        if self.tty.write_all(self.drawn.as_slice()).is_err() {
+            return Err(Fault::OutputFailed);
+        }
+        self.drawn.clear();
+        Ok(())
+    }
+
+    /// Takes the bytes that came and those that were typed, and draws the screen, unless nothing happened.
+    fn take(&mut self, alloc: Global, came: &[u8], typed: &[u8]) -> Result<(), Fault>
+        ensures { OnOk result (TakesInput T.seen came.now typed.now self.old self.new) }
+    {
+        if is_quiet(came, typed, self.stale) {
+            self.rest(typed)
+        } else {
+            self.work(alloc, came, typed)
+        }
+    }
+
+    /// Takes what was typed, and draws nothing.
+    fn rest(&mut self, typed: &[u8]) -> Result<(), Fault>
+        ensures { OnOk result (Rests typed.now self.old self.new) }
+    {
+        self.live.take_typed(typed)?;
+        Ok(())
+    }
+
+    /// Takes a turn of the live terminal, and writes the tty.
+    fn work(&mut self, alloc: Global, came: &[u8], typed: &[u8]) -> Result<(), Fault>
+        ensures { OnOk result (Works T.seen came.now typed.now self.old self.new) }
+    {
+        self.live.turn(alloc, came, typed, &mut self.drawn)?;
+        self.stale = false;
+        self.write_tty()
+    }
+
+    /// A fault if the host refused the terminal an LU, or if the terminal closed the connection.
+    fn check_phase(&mut self) -> Result<(), Fault>
+        ensures { OnOk result (self.new ≡ record self.old { was_bound = self.old.was_bound || is_bound (phase_of self.old.live.seat.terminal.link) }) }
+    {
+        let phase = self.live.phase();
+        self.was_bound |= phase.is_bound();
+        match phase {
+            TermPhase::Refused(reason) => Err(Fault::Live(LiveFault::LuRefused(reason))),
+            TermPhase::Closed(cause) => Err(Fault::Live(LiveFault::Closed(cause))),
+            TermPhase::Bound(_) => Ok(()),
+            TermPhase::Idle => Ok(()),
+            TermPhase::Talking => Ok(()),
+        }
+    }
+
+    /// One turn: reads connection and tty once, has the terminal take the bytes, writes the screen to the tty if something happened,
+    /// and writes the terminal's output to the connection once. Answers whether a byte was read from the connection or written there.
+    ///
+    /// LiveFault::LuRefused if the host refused the terminal an LU; LiveFault::Closed if the terminal closed the connection;
+    /// LiveFault::HostEnded or SocketFailed if the connection ended or failed before the terminal was bound for the first time;
+    /// InputNotRead or OutputFailed if the tty fails; NoMemory if memory is refused.
+    pub fn turn(&mut self, alloc: Global) -> Result<bool, Fault>
+        ensures { OnOk result (TakesTurnOver S.read_gave S.write_took K.gave T.seen self.old self.new) }
+    {
+        let mut came = [0; CHUNK];
+        let mut typed = [0; CHUNK];
+        let came_count = self.read_host(&mut came)?;
+        let typed_count = self.read_keys(&mut typed)?;
+        self.take(alloc, &came[..came_count], &typed[..typed_count])?;
+        let sent = self.send();
+        self.check_phase()?;
+        Ok((came_count > 0) | sent)
+    }
+
+    /// The connection, if there is one, and the tty.
+    pub fn into_parts(self) -> (Option<S>, T) {
+        (self.socket.into_socket(), self.tty)
+    }
+
+    /// What the operator asked for since the last such call.
+    pub fn take_asked(&mut self) -> Asked {
+        self.live.take_asked()
+    }
+}
+
+// ---- over a socket and a tty
+
+/// A host's address, the poll that waits for a connection to it, and the connection that the operator asked for, as long as the host
+/// neither took nor refused it. Until then the session is without a connection, and the operator sees the last screen.
+#[derive(Drop)]
+struct Dialer {
+    address: SocketAddr,
+    wanted: Option<Lu>,
+    poll: Poll,
+    events: Events,
+    dialed: Option<TcpStream>,
+    /// Whether the host took a connection before. If it never did, a refusal ends the run.
+    was_taken: bool,
+}
+
+impl Dialer {
+    fn new(net: &impl Net, alloc: Global, port: Port, wanted: Option<Lu>) -> Result<Dialer, Fault> {
+        let events = Events::with_capacity(alloc, MOST_EVENTS)?;
+        let Ok(poll) = Poll::new(net) else {
+            return Err(Fault::SocketFailed);
+        };
+        Ok(Dialer {
+            address: SocketAddr::from((Ipv4Addr::LOCALHOST, port.get())),
+            wanted,
+            poll,
+            events,
+            dialed: None,
+            was_taken: false,
+        })
+    }
+
+    /// Begins a connection. The host may refuse it at once, or later.
+    fn dial(&self, net: &impl Net) -> Result<TcpStream, ErrorKind> {
+        let mut socket = match TcpStream::connect(net, self.address) {
+            Ok(socket) => socket,
+            Err(error) => return Err(error.kind()),
+        };
+        // As in `Server::admit`: if one of these calls fails, the socket is used anyway.
+        let _ = socket.set_nodelay(true);
+        let interest = Interest::READABLE | Interest::WRITABLE;
+        let _ = self
+            .poll
+            .registry()
+            .register(&mut socket, Token(0), interest);
+        Ok(socket)
+    }
+
+    /// Begins a connection, unless one is under way. CannotConnect if the host refuses it at once, and never took one before.
+    fn redial(&mut self, net: &impl Net) -> Result<(), Fault> {
+        if self.dialed.is_none() {
+            match self.dial(net) {
+                Ok(socket) => self.dialed = Some(socket),
+                Err(kind) => return self.give_up(kind),
+            }
+        }
+        Ok(())
+    }
+
+    /// Goes on without a connection if the host took one before.
+    fn give_up(&self, kind: ErrorKind) -> Result<(), Fault> {
+        if self.was_taken {
+            Ok(())
+        } else {
+            Err(Fault::Live(LiveFault::CannotConnect(self.address, kind)))
+        }
+    }
+
+    /// The connection that is under way, once the host took it. If the host refused it, there is none, and CannotConnect if it never
+    /// took one before.
+    fn take_connected(&mut self) -> Result<Option<TcpStream>, Fault> {
+        let Some(socket) = self.dialed.take() else {
+            return Ok(None);
+        };
+        if socket.peer_addr().is_ok() {
+            self.was_taken = true;
+            return Ok(Some(socket));
+        }
+        match socket.take_error() {
+            Ok(None) => self.dialed = Some(socket),
+            Ok(Some(error)) => self.give_up(error.kind())?,
+            Err(error) => self.give_up(error.kind())?,
+        }
+        Ok(None)
+    }
+
+    /// Waits for the connection: not at all if bytes moved in the turn before, or 10 milliseconds at most.
+    fn wait(&mut self, moved: bool) -> Result<(), Fault> {
+        match self.poll.poll(&mut self.events, Some(patience(moved))) {
+            Ok(()) => Ok(()),
+            // The program was stopped and goes on.
+            Err(error) if error.kind() == ErrorKind::Interrupted => Ok(()),
+            Err(_) => Err(Fault::SocketFailed),
+        }
+    }
+}
+
+/// Connects a session, and takes turns until the operator ends the program.
+fn take_turns<N: Net, K: Source + Drop, T: Sink + Drop>(
+    net: &N,
+    alloc: Global,
+    dialer: &mut Dialer,
+    session: &mut OperatorSession<TcpStream, K, T>,
+) -> Result<(), Fault> {
+    dialer.redial(net)?;
+    let mut moved = true;
+    for _ in 0..u64::MAX {
+        if let Some(socket) = dialer.take_connected()? {
+            session.connect(socket, dialer.wanted)?;
+        }
+        dialer.wait(moved)?;
+        moved = session.turn(alloc)?;
+        match session.take_asked() {
+            Asked::Nothing => {}
+            Asked::Quit => return Ok(()),
+            Asked::Connect => dialer.redial(net)?,
+        }
+    }
+    Ok(())
+}
+
+/// Whether a tty has room for all screens of a model and the status row.
+fn check_tty(model: Model, tty: Option<TtySize>) -> Result<(), Fault> {
+    let Some(TtySize { rows, columns }) = tty else {
+        return Err(Fault::Live(LiveFault::NotRaw));
+    };
+    match check_room(model.alternate(), rows, columns) {
+        Ok(()) => Ok(()),
+        Err(fault) => Err(Fault::Live(LiveFault::TooSmall(fault))),
+    }
+}
+
+/// Runs a live terminal.
+fn operate<N: Net, K: Source + Drop, T: Sink + Drop>(
+    net: &N,
+    alloc: Global,
+    options: &LiveOptions,
+    keys: K,
+    tty: T,
+) -> Result<(), Fault> {
+    check_tty(options.model, options.tty)?;
+    let mut dialer = Dialer::new(net, alloc, options.port, options.lu)?;
+    let mut session = OperatorSession::new(alloc, options.model, keys, tty)?;
+    take_turns(net, alloc, &mut dialer, &mut session)
+}
+
+/// Runs a terminal at the host on a port of 127.0.0.1, for an operator whose keys are read from a tty in raw mode, and whose screen is
+/// written there, until the operator presses Ctrl-]. A read of the keys must answer at once, as with `stty min 0 time 0`. Without a
+/// connection Enter connects again. A turn with nothing to do takes at most 10 milliseconds. Writes what ends the run to `faults` as
+/// one line.
+///
+/// Returns the exit status: 0 if the operator ended it; 1 if the keys can't be read; 2 if it isn't known that there is a tty in raw
+/// mode, or if it is too small; 3 if memory is refused; 4 if nothing listens on the port, if the host refuses the terminal an LU or
+/// ends the connection before the terminal was bound to one, or if the terminal closes the connection because the host breaks the
+/// protocol; 6 if the output fails.
+pub fn run_operate<N: Net, K: Source + Drop, T: Sink + Drop, E: Sink>(
+    net: &N,
+    alloc: Global,
+    options: &LiveOptions,
+    keys: K,
+    tty: T,
+    faults: &mut E,
+) -> u8 {
+    match operate(net, alloc, options, keys, tty) {
+        Ok(()) => 0,
+        Err(fault) => end_by(fault, faults),
+    }
+}

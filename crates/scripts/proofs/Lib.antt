@@ -1,0 +1,10 @@
+pub mod Commands
+pub mod OnePage
+pub mod OneScript
+pub mod Endings
+pub mod ScriptLines
+pub mod Happenings
+pub mod Rounds
+pub mod Typing
+pub mod Playing
+pub mod Checking

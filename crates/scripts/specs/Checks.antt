@@ -1,0 +1,61 @@
+-- How a run of `check` ends: what it read, what it printed, and the fault that it reports (our profile).
+use Rattle.std.specs.Prelude.{◌≡◌, ◌==◌, ℕ, Bool, true, false, List, Option, Some, None, Result, Ok, Err}
+use Rattle.panel_check.specs.PanelText.{panel_text}
+use Rattle.panel_check.specs.Pages.{page_text}
+use Rattle.panel_check.specs.Report.{HasFirstCause, IsFaultlessIfAccepted, fault_count}
+use Rattle.panel_check.specs.declared.report.Report.{Report}
+use Rattle.job_streams.specs.Counting.{Input, Output, Untouched, Written, CutShort}
+use Rattle.job_streams.specs.Faults.{status_of}
+use Rattle.job_streams.specs.Runs.{IsTold, NotRead, OnInput}
+use Rattle.job_streams.specs.declared.fault.Fault.{Fault}
+use Rattle.job_streams.specs.declared.fault.Fault.TheVariants.{InputNotRead, NoMemory, OutputFailed}
+
+-- a report on the panel text of an input; `clean`: it has no fault
+pub record IsReportOf (input : List ℕ) (report : Report) (clean : Bool) : Type 0 where
+  pub faultless : IsFaultlessIfAccepted (panel_text input) report.findings.items
+  pub reason : HasFirstCause (panel_text input) report.findings.items
+  pub clean_is : clean ≡ (fault_count report.findings.items == 0)
+
+-- its page was written
+pub record WritesReport (name input : List ℕ) (clean : Bool) (old new : Output) : Type 0 where
+  pub report : Report
+  pub is_report : IsReportOf input report clean
+  pub written : Written old new (page_text name report)
+
+-- the first bytes of its page were written, and the write failed
+pub record WritesReportInPart (name input : List ℕ) (old new : Output) : Type 0 where
+  pub report : Report
+  pub clean : Bool
+  pub is_report : IsReportOf input report clean
+  pub cut_short : CutShort old new (page_text name report)
+
+-- what the printing of the report on an input did if it ends well, or by a fault
+abbrev pub EndsReporting : Result Bool Fault → (name input : List ℕ) → (old new : Output) → Type 0
+EndsReporting (Ok clean) name input old new = WritesReport name input clean old new
+EndsReporting (Err NoMemory) name input old new = Untouched old new
+EndsReporting (Err OutputFailed) name input old new = WritesReportInPart name input old new
+EndsReporting (Err _) name input old new = ⊥
+
+-- What a run did if it ends well, or by a fault. `Came bytes`: the reads gave these bytes.
+abbrev pub HasCheckCause : (Came : List ℕ → Type 0) → Result Bool Fault → (name : List ℕ) → (in_old in_new : Input) (out_old out_new : Output) → Type 0
+HasCheckCause Came (Err InputNotRead) name in_old in_new out_old out_new = NotRead in_old in_new × ((bytes : List ℕ) × Came bytes) × Untouched out_old out_new
+HasCheckCause Came (Err NoMemory) name in_old in_new out_old out_new = ((bytes : List ℕ) × Came bytes) × Untouched out_old out_new
+HasCheckCause Came ending name in_old in_new out_old out_new = OnInput Came in_old in_new (λ input. EndsReporting ending name input out_old out_new)
+
+-- the fault that ends a run, if any
+abbrev pub check_fault : Result Bool Fault → Option Fault
+check_fault (Ok clean) = None
+check_fault (Err fault) = Some fault
+
+-- the exit status
+abbrev pub check_status : Result Bool Fault → ℕ
+check_status (Ok true) = 0
+check_status (Ok false) = 1
+check_status (Err fault) = status_of fault
+
+-- the end of a run
+pub record IsCheckEnd (Came : List ℕ → Type 0) (name : List ℕ) (in_old in_new : Input) (out_old out_new faults_old faults_new : Output) (status : ℕ) : Type 0 where
+  pub ending : Result Bool Fault
+  pub has_cause : HasCheckCause Came ending name in_old in_new out_old out_new
+  pub is_told : IsTold (check_fault ending) faults_old faults_new
+  pub status_is : status ≡ check_status ending

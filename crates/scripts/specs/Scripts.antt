@@ -1,0 +1,62 @@
+-- An input with a panel text and a script, and the page that is printed of it (our profile).
+use Rattle.std.specs.Prelude.{◌≡◌, ℕ, ◌+◌, ◌==◌, ◌&&◌, ◌||◌, Bool, true, List, [], ◌∷◌, codes, bytes_eq, nat_eq, Option, take, drop, if◌then◌else◌}
+use Rattle.std.specs.List.{after_first, starts_with}
+use Rattle.host_core.specs.declared.terminals.Terminals.{Terminals}
+use Rattle.lu_pool.specs.Reading.{IsReadFrom as IsPoolReadFrom, IsRight}
+use Rattle.lu_pool.specs.declared.entry.Entry.{Entry}
+use Rattle.panels.specs.Defines.{IsReadFrom}
+use Rattle.panels.specs.Panel.{Panels as PanelsRead}
+use Rattle.term_core.specs.ScreenText.{newline}
+use Rattle.world3270.specs.ByteWorld.{ByteWorld, new_byte_world}
+use Rattle.scripts.specs.Plays.{IsPlayed, terminal_models}
+use Rattle.applications.specs.PanelHosts.{lus_of}
+
+-- ---- the two parts of an input
+
+-- the text begins with a line `%%`
+abbrev pub is_at_mark : List ℕ → Bool
+is_at_mark text = bytes_eq text (codes "%%") || starts_with nat_eq text (codes "%%\n")
+
+-- The index of the first line `%%`; the text's length if there is no such line. `begins`: a line begins here.
+abbrev pub mark_place : Bool → List ℕ → ℕ
+mark_place begins [] = 0
+mark_place begins (char ∷ text) = if begins && is_at_mark (char ∷ text) then 0 else 1 + mark_place (char == newline) text
+
+-- the panel text, before that line
+abbrev pub panel_text : List ℕ → List ℕ
+panel_text input = take (mark_place true input) input
+
+-- the text after the first line
+abbrev pub behind_line : List ℕ → List ℕ
+behind_line text = after_first (λ char. char == newline) text
+
+-- the script, after that line
+abbrev pub script_text : List ℕ → List ℕ
+script_text input = behind_line (drop (mark_place true input) input)
+
+-- ---- the world in which a script begins
+
+-- the text's panels, a pool of their LUs, a host that serves such terminals, and terminals of models 2 to 5; the text and the names have
+-- no fault
+pub record IsWorldOf (serves : Terminals) (text : List ℕ) (world : ByteWorld) : Type 0 where
+  pub panels : PanelsRead
+  pub panels_read : IsReadFrom text panels
+  pub pool : List Entry
+  pub pool_read : IsPoolReadFrom (lus_of panels) pool
+  pub lus_right : IsRight (lus_of panels)
+  pub world_is : world ≡ new_byte_world serves panels pool terminal_models
+
+-- ---- the page
+
+-- The page of an input, with a host that serves such terminals: the output of its script, up to the first line that isn't understood, if
+-- any.
+pub record IsScriptPage (serves : Terminals) (input page : List ℕ) (stopped : Option ℕ) : Type 0 where
+  pub old : ByteWorld
+  pub begins : IsWorldOf serves (panel_text input) old
+  pub new : ByteWorld
+  pub is_played : IsPlayed (script_text input) old page stopped new
+
+-- An input has one page, and one number of the line that isn't understood, if any.
+abbrev pub ScriptsHaveOnePage : Type 0
+ScriptsHaveOnePage = (serves : Terminals) (input page other : List ℕ) (stopped ended : Option ℕ) → IsScriptPage serves input page stopped → IsScriptPage serves input other ended
+    → (page ≡ other) × (stopped ≡ ended)

@@ -1,0 +1,83 @@
+//! The page that `show` prints.
+ghost use Rattle.std.specs.Prelude.{◌≡◌, ◌++◌, ℕ, List, Option, IfOk, OnOk, string_bytes};
+ghost use Rattle.scripts.specs.Pages.{first_screen, sense_text, TakesCommand, IsPage};
+
+use crate::screen_text::put_screen;
+use codes3270::Model;
+use datastream::{Sense, read_command};
+use line_words::bytes_of_line;
+use presentation::Screen;
+use std::alloc::{AllocError, Global};
+
+/// The page of an input.
+#[derive(Drop)]
+pub struct Page {
+    /// A line for each refused command; then the screen and its cursor, if all lines are hexadecimal.
+    pub text: String,
+    /// The number, from 1 on, of the first line that isn't hexadecimal. It ends the run.
+    pub not_hex: Option<usize>,
+}
+
+/// A blank screen of a model.
+fn first_screen(model: Model) -> Screen
+    ensures { result ≡ first_screen model }
+{
+    Screen::blank(model)
+}
+
+/// The name of a negative response (RFC 1647, section 10.4).
+fn sense_text(sense: Sense) -> &'static str
+    ensures { result.now ≡ sense_text sense }
+{
+    match sense {
+        Sense::CommandReject => "COMMAND-REJECT",
+        Sense::OperationCheck => "OPERATION-CHECK",
+    }
+}
+
+/// Applies the command that the bytes spell, read for the screen's sizes. If it has a fault, changes nothing, and adds the refusal to the text.
+fn take_command(screen: &mut Screen, bytes: &[u8], text: &mut String) -> Result<(), AllocError>
+    ensures { OnOk result ((said : List ℕ) × TakesCommand bytes.now screen.old screen.new said
+        × (string_bytes text.new ≡ string_bytes text.old ++ said)) }
+{
+    match read_command(bytes, screen.size(), screen.model().alternate()) {
+        Ok(command) => {
+            screen.apply(&command);
+            Ok(())
+        }
+        Err(fault) => {
+            let response = sense_text(fault.sense());
+            write!(text, "refused {response}\n")
+        }
+    }
+}
+
+/// Applies the commands of an input, one a line in hexadecimal, in order to one blank screen of a model, and prints the
+/// refusals, the screen, a line for each row of its size, and its cursor. Ends at a line that isn't hexadecimal, without a
+/// screen.
+///
+/// A line ends with a newline, which the last line may lack. It is pairs of hexadecimal digits in either case, with blanks
+/// before, between and after them; a line without digits is a command of no bytes.
+pub fn page_of(alloc: Global, model: Model, input: &str) -> Result<Page, AllocError>
+    ensures found { IfOk result (λ page. IsPage model input.now (string_bytes page.text) page.not_hex) }
+    // There is no other page.
+    ensures only { (printed : List ℕ) (not_hex : Option ℕ) → IsPage model input.now printed not_hex
+        → IfOk result (λ page. (string_bytes page.text ≡ printed) × (page.not_hex ≡ not_hex)) }
+{
+    let mut text = String::new(alloc);
+    let mut screen = first_screen(model);
+    for (index, line) in input.split_terminator('\n').enumerate() {
+        let Some(bytes) = bytes_of_line(alloc, line)? else {
+            return Ok(Page {
+                text,
+                not_hex: Some(index + 1),
+            });
+        };
+        take_command(&mut screen, bytes.as_slice(), &mut text)?;
+    }
+    put_screen(alloc, &mut text, &screen)?;
+    Ok(Page {
+        text,
+        not_hex: None,
+    })
+}

@@ -1,0 +1,200 @@
+//! Plays the lines of a script in a world, and adds what they print to a text.
+ghost use Rattle.std.specs.Prelude.{◌≡◌, ◌<◌, ◌++◌, ℕ, List, None, Some, IfOk, OnOk, chars, length, string_bytes, true};
+ghost use Rattle.term_core.specs.ScreenText.{screen_text};
+ghost use Rattle.term_core.specs.State.{phase_of};
+ghost use Rattle.world3270.specs.ByteRuns.{refused_at};
+ghost use Rattle.world3270.specs.ByteSteps.{Steps};
+ghost use Rattle.scripts.specs.Happenings.{AreTyped, Happening, TakePlace, answer_text, answers_text, is_refused};
+ghost use Rattle.terminal_lines.specs.Operating.{phase_line};
+ghost use Rattle.scripts.specs.Plays.{GivesAnswer, IsPlayed, PrintsIf, command_in_range, is_in_range, terminal_count, terminal_of};
+ghost use Rattle.applications.specs.QuestionLines.{question_on, question_text};
+
+use crate::idle::{run_until_idle, step_whole};
+use crate::script_line::{ScriptCommand, typed_text};
+use applications::{answer_in, put_question, question_on, ticket_on};
+use codes3270::Model;
+use keyboard::Key;
+use std::alloc::{AllocError, Global};
+use world3270::{Event, Stepped, World};
+
+/// The models of the terminals of a script, by their numbers.
+pub static MODELS: [Model; 4] = [Model::M2, Model::M3, Model::M4, Model::M5];
+
+/// Adds the line of an event's answer: `refused N` for a refused key, with the number of the refusal, `skipped`, or none.
+pub fn put_answer(text: &mut String, answer: Stepped) -> Result<(), AllocError>
+    ensures { OnOk result (string_bytes text.new ≡ string_bytes text.old ++ answer_text answer) }
+{
+    match answer {
+        Stepped::Done | Stepped::Part(_) | Stepped::Memory => Ok(()),
+        Stepped::Refused(why) => {
+            let number = why.number();
+            write!(text, "refused {number}\n")
+        }
+        Stepped::Skipped => text.push_str("skipped\n"),
+    }
+}
+
+/// Makes an event happen, unless it is skipped, and adds the line of its answer.
+fn happen(world: &mut World, event: Event, text: &mut String) -> Result<Stepped, AllocError>
+    ensures steps { IfOk result (λ answer. Steps event world.old answer world.new) }
+    ensures whole { IfOk result (λ answer. refused_at answer ≡ None) }
+    ensures said { IfOk result (λ answer. string_bytes text.new ≡ string_bytes text.old ++ answer_text answer) }
+{
+    let answer = step_whole(world, event)?;
+    put_answer(text, answer)?;
+    Ok(answer)
+}
+
+/// Whether a key was refused.
+fn is_refused(answer: Stepped) -> bool
+    ensures { result ≡ is_refused answer }
+{
+    matches!(answer, Stepped::Refused(_))
+}
+
+/// Types the characters of a text at a terminal, up to the first that is refused.
+fn type_text(
+    world: &mut World,
+    terminal: usize,
+    typed: &str,
+    text: &mut String,
+) -> Result<(), AllocError>
+    ensures { OnOk result ((happenings : List Happening) × AreTyped terminal (chars typed.now) happenings × TakePlace happenings world.old world.new
+        × (string_bytes text.new ≡ string_bytes text.old ++ answers_text happenings)) }
+{
+    for letter in typed.chars() {
+        let answer = happen(world, Event::Key(terminal, Key::Char(letter)), text)?;
+        if is_refused(answer) {
+            return Ok(());
+        }
+    }
+    Ok(())
+}
+
+/// Adds a terminal's screen.
+fn show(alloc: Global, world: &World, terminal: usize, text: &mut String) -> Result<(), AllocError>
+    requires { terminal < length world.now.slots }
+    ensures { OnOk result (string_bytes text.new ≡ string_bytes text.old ++ screen_text (terminal_of terminal world.now).station) }
+{
+    let screen = world.terminal(terminal).screen_text(alloc)?;
+    text.push_str(screen.as_str())
+}
+
+/// Adds the line of a terminal's phase: `idle`, `talking`, `bound LU`, `refused N` or `closed N`.
+fn status(world: &World, terminal: usize, text: &mut String) -> Result<(), AllocError>
+    requires { terminal < length world.now.slots }
+    ensures { OnOk result (string_bytes text.new ≡ string_bytes text.old ++ phase_line (phase_of (terminal_of terminal world.now).link)) }
+{
+    let phase = world.terminal(terminal).phase();
+    write!(text, "{phase}\n")
+}
+
+/// Answers the question that is open on a connection by what a text says, and adds the line of the event's answer. False if the text
+/// isn't understood: then nothing happens.
+fn give_answer(
+    alloc: Global,
+    world: &mut World,
+    conn: usize,
+    said: &str,
+    text: &mut String,
+) -> Result<bool, AllocError>
+    ensures { IfOk result (λ given. GivesAnswer given conn said.now world.old world.new (string_bytes text.old) (string_bytes text.new)) }
+{
+    let Some(answer) = answer_in(alloc, world.host().panels(), said)? else {
+        return Ok(false);
+    };
+    let ticket = ticket_on(world.host(), conn)?;
+    happen(world, Event::Answer(conn, ticket, answer), text)?;
+    Ok(true)
+}
+
+/// Adds the lines of the question that is open on a connection.
+fn ask(alloc: Global, world: &World, conn: usize, text: &mut String) -> Result<(), AllocError>
+    ensures { OnOk result (string_bytes text.new ≡ string_bytes text.old ++ question_text world.now.host.panels (question_on conn world.now.host)) }
+{
+    let question = question_on(world.host(), conn)?;
+    put_question(alloc, text, world.host().panels(), &question)
+}
+
+/// Whether the world has the terminal of a `show` or `status`.
+fn is_in_range(command: &ScriptCommand) -> bool
+    ensures { result ≡ is_in_range terminal_count command.now }
+{
+    match command {
+        ScriptCommand::Nothing
+        | ScriptCommand::Happen(_)
+        | ScriptCommand::TypeText(_)
+        | ScriptCommand::Answer(_)
+        | ScriptCommand::Settle
+        | ScriptCommand::Question(_) => true,
+        ScriptCommand::Show(terminal) | ScriptCommand::Status(terminal) => {
+            *terminal < MODELS.len()
+        }
+    }
+}
+
+/// The command of a line; None if the line isn't understood. What an `answer` says isn't read yet.
+pub fn command_in_range(line: &str) -> Option<ScriptCommand>
+    ensures { result ≡ command_in_range terminal_count line.now }
+{
+    let command = ScriptCommand::read(line)?;
+    if is_in_range(&command) {
+        Some(command)
+    } else {
+        None
+    }
+}
+
+/// Does a command, and adds its output. False if its line isn't understood: then nothing happens.
+fn play_line(
+    alloc: Global,
+    world: &mut World,
+    command: ScriptCommand,
+    line: &str,
+    text: &mut String,
+) -> Result<bool, AllocError>
+    requires terminals { length world.old.slots ≡ terminal_count }
+    requires in_range { is_in_range terminal_count command ≡ true }
+    ensures { IfOk result (λ understood. PrintsIf understood command line.now world.old world.new (string_bytes text.old) (string_bytes text.new)) }
+{
+    match command {
+        ScriptCommand::Nothing => {}
+        ScriptCommand::Happen(event) => {
+            happen(world, event, text)?;
+        }
+        ScriptCommand::TypeText(terminal) => type_text(world, terminal, typed_text(line), text)?,
+        ScriptCommand::Answer(conn) => {
+            return give_answer(alloc, world, conn, typed_text(line), text);
+        }
+        ScriptCommand::Settle => run_until_idle(world)?,
+        ScriptCommand::Show(terminal) => show(alloc, world, terminal, text)?,
+        ScriptCommand::Status(terminal) => status(world, terminal, text)?,
+        ScriptCommand::Question(conn) => ask(alloc, world, conn, text)?,
+    }
+    Ok(true)
+}
+
+/// Plays a script, one command a line, and adds its output. Ends at the first line that isn't understood, and answers its
+/// number, from 1 on; the lines before it are done.
+///
+/// A line ends with a newline, which the last line may lack.
+pub(crate) fn play(
+    alloc: Global,
+    world: &mut World,
+    script: &str,
+    text: &mut String,
+) -> Result<Option<usize>, AllocError>
+    requires { length world.old.slots ≡ terminal_count }
+    ensures { IfOk result (λ stopped. (printed : List ℕ) × IsPlayed script.now world.old printed stopped world.new
+        × (string_bytes text.new ≡ string_bytes text.old ++ printed)) }
+{
+    for (index, line) in script.split_terminator('\n').enumerate() {
+        let Some(command) = command_in_range(line) else {
+            return Ok(Some(index + 1));
+        };
+        if !play_line(alloc, world, command, line, text)? {
+            return Ok(Some(index + 1));
+        }
+    }
+    Ok(None)
+}

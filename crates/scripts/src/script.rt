@@ -1,0 +1,142 @@
+//! `script`: plays a script in a world of panels and terminals, and prints what the operators see.
+ghost use Rattle.std.specs.Prelude.{◌≡◌, true, string_bytes, IfOk, IfErr};
+ghost use Rattle.std.specs.Str.{IsCharBoundary};
+ghost use Rattle.job_streams.specs.Runs.{InPieces, ending_of};
+ghost use Rattle.scripts.specs.TaskRuns.{EndsPrinting, IsEnd};
+ghost use Rattle.applications.specs.PanelHosts.{HasNoWorld};
+ghost use Rattle.scripts.specs.Scripts.{IsScriptPage, IsWorldOf, behind_line, is_at_mark, mark_place, panel_text, script_text};
+ghost use Rattle.scripts.specs.declared.task.Task.TheVariants.{Script};
+
+use crate::player::{MODELS, play};
+use crate::task::{Task, run};
+use applications::application_of;
+use host_core::Terminals;
+use job_streams::{Fault, Sink, Source};
+use std::alloc::Global;
+use world3270::World;
+
+/// Serves the panels of the input to four terminals, and does the commands of its script, one a line. The input is the panel text, a
+/// line `%%` and the script. Terminals 0 to 3 have models 2 to 5; they wait, on which the host relies or not. Prints the page when the
+/// script has ended. Writes a fault that ends the run to `faults` as one line.
+///
+/// Returns the exit status: 0 if the whole page was printed; 1 if the input can't be read (as for
+/// [`run_show`](crate::run_show)), if the panel text defines no panels, if their LUs are no pool, or if a line of the script isn't
+/// understood, after the output of the lines before it; 3 if memory is refused; 6 if the output fails.
+pub fn run_script<I: Source, O: Sink, E: Sink>(
+    alloc: Global,
+    terminals: Terminals,
+    input: &mut I,
+    out: &mut O,
+    faults: &mut E,
+) -> u8
+    ensures { IsEnd (Script terminals) (InPieces I.gave input.old input.new) (I.seen input.old) (I.seen input.new) (O.seen out.old) (O.seen out.new) (E.seen faults.old) (E.seen faults.new) result }
+{
+    run(alloc, Task::Script(terminals), input, out, faults)
+}
+
+/// Prints the page of a text.
+pub(crate) fn print_script<O: Sink>(
+    alloc: Global,
+    terminals: Terminals,
+    text: &str,
+    out: &mut O,
+) -> Result<(), Fault>
+    ensures { EndsPrinting (Script terminals) (ending_of result) text.now (O.seen out.old) (O.seen out.new) }
+{
+    let page = match page_of_script(alloc, terminals, text) {
+        Ok(page) => page,
+        Err(fault) => return Err(fault),
+    };
+    if out.write_all(page.text.as_bytes()).is_err() {
+        return Err(Fault::OutputFailed);
+    }
+    match page.stopped {
+        Some(line) => Err(Fault::NotUnderstood(line)),
+        None => Ok(()),
+    }
+}
+
+/// The page of an input.
+#[derive(Drop)]
+struct ScriptPage {
+    text: String,
+    /// The number of the first line that isn't understood, if there is one.
+    stopped: Option<usize>,
+}
+
+/// Plays the script of an input in the world of its panel text.
+fn page_of_script(alloc: Global, terminals: Terminals, input: &str) -> Result<ScriptPage, Fault>
+    ensures page { IfOk result (λ page. IsScriptPage terminals input.now (string_bytes page.text) page.stopped) }
+    ensures fault { IfErr result (HasNoWorld (panel_text input.now)) }
+{
+    let (panel_text, script) = parted(input);
+    let mut world = match world_of(alloc, terminals, panel_text) {
+        Ok(world) => world,
+        Err(fault) => return Err(fault),
+    };
+    let mut text = String::new(alloc);
+    match play(alloc, &mut world, script, &mut text) {
+        Ok(stopped) => Ok(ScriptPage { text, stopped }),
+        Err(_) => Err(Fault::NoMemory),
+    }
+}
+
+// ---- the two parts of an input
+
+/// Whether the text begins with a line `%%`.
+fn is_at_mark(text: &[u8]) -> bool
+    ensures { result ≡ is_at_mark text.now }
+{
+    text == b"%%".as_slice() || text.starts_with(b"%%\n")
+}
+
+/// The index of the first line `%%`; the text's length if there is no such line.
+fn mark_place(text: &[u8]) -> usize
+    ensures place { result ≡ mark_place true text.now }
+    ensures boundary { IsCharBoundary text.now result }
+{
+    let mut begins = true;
+    for (place, letter) in text.iter().enumerate() {
+        if begins && is_at_mark(&text[place..]) {
+            return place;
+        }
+        begins = *letter == b'\n';
+    }
+    text.len()
+}
+
+/// The text after the first line.
+fn behind_line(text: &str) -> &str
+    ensures { result.now ≡ behind_line text.now }
+{
+    match text.split_once('\n') {
+        Some((_, behind)) => behind,
+        None => "",
+    }
+}
+
+/// The panel text and the script.
+pub fn parted(input: &str) -> (&str, &str)
+    ensures panels { result.0.now ≡ panel_text input.now }
+    ensures script { result.1.now ≡ script_text input.now }
+{
+    let (panels, marked) = input.split_at(mark_place(input.as_bytes()));
+    (panels, behind_line(marked))
+}
+
+// ---- what a panel text defines
+
+/// The world of a panel text: its panels, a pool of their LUs, a host that serves such terminals, and the terminals of a script.
+fn world_of(alloc: Global, terminals: Terminals, text: &str) -> Result<World, Fault>
+    ensures world { IfOk result (IsWorldOf terminals text.now) }
+    ensures fault { IfErr result (HasNoWorld text.now) }
+{
+    let (panels, pool) = match application_of(alloc, text) {
+        Ok(parts) => parts,
+        Err(fault) => return Err(fault),
+    };
+    match World::serving(alloc, terminals, panels, pool, &MODELS) {
+        Ok(world) => Ok(world),
+        Err(_) => Err(Fault::NoMemory),
+    }
+}

@@ -1,0 +1,118 @@
+//! A terminal with the socket of its connection.
+ghost use Rattle.std.specs.Prelude.{◌≡◌, length};
+ghost use Rattle.host_core.specs.Serves.{GotWithin};
+ghost use Rattle.world3270.specs.ByteSteps.{answer_pressed};
+
+use host_core::{LinkRead, LinkWrite};
+use job_streams::{CHUNK, Fault};
+use keyboard::{Key, Pressed};
+use mio::net::TcpStream;
+use socket_links::{read_once, write_once};
+use std::net::SocketAddr;
+use term_core::{TermPhase, Terminal};
+use tn3270e_msg::{Lu, Stop};
+use world3270::Stepped;
+
+/// The answer of a key's event, by the keyboard's answer.
+fn pressed_as(pressed: Pressed) -> Stepped
+    ensures { result ≡ answer_pressed pressed }
+{
+    match pressed {
+        Pressed::Done => Stepped::Done,
+        Pressed::Refused(why) => Stepped::Refused(why),
+        Pressed::Send(_) => Stepped::Done,
+    }
+}
+
+/// A terminal, and the socket of its connection if there is one.
+#[derive(Drop)]
+pub(crate) struct SocketTerminal {
+    pub(crate) terminal: Terminal,
+    pub(crate) socket: Option<TcpStream>,
+}
+
+impl SocketTerminal {
+    /// Whether it has no connection.
+    pub(crate) fn is_idle(&self) -> bool {
+        matches!(self.terminal.phase(), TermPhase::Idle)
+    }
+
+    /// Whether its socket has this local address.
+    pub(crate) fn is_at(&self, address: SocketAddr) -> bool {
+        match &self.socket {
+            Some(socket) => socket.local_addr().ok() == Some(address),
+            None => false,
+        }
+    }
+
+    /// Begins a connection, if the terminal is idle.
+    pub(crate) fn connect(&mut self, socket: TcpStream, wanted: Option<Lu>) {
+        if let TermPhase::Idle = self.terminal.phase() {
+            self.terminal.connected(wanted);
+            self.socket = Some(socket);
+        }
+    }
+
+    /// Ends the connection, and closes the socket. Unsent output is lost.
+    pub(crate) fn disconnect(&mut self) {
+        self.terminal.lost();
+        self.socket = None;
+    }
+
+    /// Presses a key, and returns the answer of that event.
+    pub(crate) fn press(&mut self, key: Key) -> Result<Stepped, Fault> {
+        match self.terminal.press(key) {
+            Ok(pressed) => Ok(pressed_as(pressed)),
+            Err(_) => Err(Fault::NoMemory),
+        }
+    }
+
+    /// Reads the socket once; NotNow without a connection.
+    fn read(&mut self, buffer: &mut [u8]) -> LinkRead
+        ensures { GotWithin result (length buffer.new) }
+    {
+        match &mut self.socket {
+            Some(socket) => read_once(socket, buffer),
+            None => LinkRead::NotNow,
+        }
+    }
+
+    /// Writes the terminal's output once. Answers whether a byte was taken. A read finds out whether the connection failed.
+    fn send(&mut self) -> bool {
+        if self.terminal.out().is_empty() {
+            return false;
+        }
+        let Some(socket) = &mut self.socket else {
+            return false;
+        };
+        match write_once(socket, self.terminal.out()) {
+            LinkWrite::Took(count) => {
+                self.terminal.sent(count);
+                true
+            }
+            LinkWrite::NotNow | LinkWrite::Failed => false,
+        }
+    }
+
+    /// Reads once, feeds the terminal the bytes, and writes once. If the connection ended or failed, or the terminal closes it,
+    /// ends it. Answers whether a byte was read or written.
+    pub(crate) fn turn(&mut self) -> Result<bool, Fault> {
+        let mut buffer = [0; CHUNK];
+        let count = match self.read(&mut buffer) {
+            LinkRead::Got(count) => count,
+            LinkRead::NotNow => 0,
+            LinkRead::Ended | LinkRead::Failed => {
+                self.disconnect();
+                return Ok(false);
+            }
+        };
+        let stop = self.terminal.feed(&buffer[..count]).stop;
+        let sent = self.send();
+        match stop {
+            Stop::Going => {}
+            Stop::Closed(_) => self.disconnect(),
+            Stop::Memory => return Err(Fault::NoMemory),
+        }
+        Ok((count > 0) | sent)
+    }
+}

@@ -1,0 +1,2 @@
+pub mod Uptimes
+pub mod ServiceTurns

@@ -1,0 +1,88 @@
+//! Counting what a server does, and answering with the counts.
+ghost use Rattle.std.specs.Prelude.{◌<◌};
+ghost use Rattle.host_core.specs.State.{most_connections};
+
+use crate::metrics_port::MetricsPort;
+use crate::server::{Server, Watcher};
+use applications::{ApplicationFault, Replaced};
+use host_core::{Host, MOST_CONNECTIONS, ScreenMeasure};
+use job_streams::Fault;
+use jobs::ServicePort;
+use service_events::{Client, Metrics, Notice};
+use std::alloc::Global;
+use std::net::Net;
+
+/// Counts notices and screens, answers with the counts at a port of this machine, and hands each on to another watcher.
+#[derive(Drop)]
+pub(crate) struct Metered<'a, W> {
+    watcher: &'a mut W,
+    metrics: Metrics,
+    measure: ScreenMeasure,
+    port: MetricsPort,
+}
+
+impl<'a, W: Watcher> Metered<'a, W> {
+    /// Nothing is counted yet. CannotListen if the system refuses to listen on the port; NoMemory if memory is refused.
+    pub(crate) fn new(
+        net: &impl Net,
+        alloc: Global,
+        server: &Server,
+        port: ServicePort,
+        watcher: &'a mut W,
+    ) -> Result<Metered<'a, W>, Fault> {
+        let mut port = MetricsPort::listen(net, alloc, port)?;
+        port.register(server);
+        let Ok(measure) = ScreenMeasure::new(alloc) else {
+            return Err(Fault::NoMemory);
+        };
+        Ok(Metered {
+            watcher,
+            metrics: Metrics::new(),
+            measure,
+            port,
+        })
+    }
+
+    /// The counts, with what the connections that are open took so far.
+    fn counts(&self, server: &Server) -> Metrics {
+        let mut counts = self.metrics;
+        for conn in 0..MOST_CONNECTIONS {
+            match server.usage(conn) {
+                Some(usage) => counts.count_usage(usage.turns, usage.received, usage.sent),
+                None => {}
+            }
+        }
+        counts
+    }
+}
+
+impl<W: Watcher> Watcher for Metered<'_, W> {
+    fn notice(&mut self, notice: &Notice) -> Result<(), Fault> {
+        self.metrics.count(notice);
+        self.watcher.notice(notice)
+    }
+
+    fn unanswered(&mut self, client: &Client, fault: &ApplicationFault) -> Result<(), Fault> {
+        self.watcher.unanswered(client, fault)
+    }
+
+    fn replaced(&mut self, client: &Client, replaced: &Replaced<'_>) -> Result<(), Fault> {
+        self.watcher.replaced(client, replaced)
+    }
+
+    fn shown(&mut self, host: &Host, conn: usize) -> Result<(), Fault> {
+        match host.whole_length(conn, &mut self.measure) {
+            Some(length) => self.metrics.count_paint(length as u64),
+            None => {}
+        }
+        self.watcher.shown(host, conn)
+    }
+
+    fn turned(&mut self, server: &Server, now: u64) -> bool {
+        if !self.port.accept_all(server, now) {
+            return false;
+        }
+        let counts = self.counts(server);
+        self.port.serve_all(now, &counts)
+    }
+}

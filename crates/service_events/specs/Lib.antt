@@ -1,0 +1,4 @@
+pub mod Notices
+pub mod Metrics
+pub mod Scrapes
+pub mod Timing

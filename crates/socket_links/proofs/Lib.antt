@@ -1,0 +1,2 @@
+pub mod RawCalls
+pub mod SocketCalls

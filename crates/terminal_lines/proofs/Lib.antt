@@ -1,0 +1,3 @@
+pub mod Waits
+pub mod TermLines
+pub mod TextTyped

@@ -1,0 +1,4 @@
+pub mod TermLines
+pub mod Operating
+pub mod Waits
+pub mod DoneLines
