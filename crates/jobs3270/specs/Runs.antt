@@ -1,7 +1,7 @@
--- How a run ends: what it read, what it printed, and the fault that it reports (our profile).
+-- How a run ends: what it read, what it printed, and its fault and exit status (our profile).
 use Rattle.std.specs.Prelude.{◌≡◌, ◌<◌, ◌≤◌, ◌++◌, ◌∷◌, ◌⊎◌, [], ⊤, ℕ, List, length, Option, Some, None, Result, Ok, Err, IsUtf8}
 use Rattle.std.specs.Io.KnownBytes.{Consumes, IsAtEnd}
-use Rattle.jobs3270.specs.Faults.{status_of, fault_text}
+use Rattle.jobs3270.specs.Faults.{status_of}
 use Rattle.jobs3270.specs.Pages.{IsPage}
 use Rattle.jobs3270.specs.Counting.{Input, Output, Reads, chunk_size, more, Untouched, Written, CutShort}
 use Rattle.jobs3270.specs.declared.streams.Answer.{Answer}
@@ -115,10 +115,10 @@ ending_of (Err fault) = Some fault
 abbrev pub IsToldIn : Output → Output → List ℕ → Type 0
 IsToldIn old new text = Written old new (text ++ 10 ∷ []) ⊎ (new.failures ≡ more old.failures 1)
 
--- a fault is reported in one line; without a fault nothing is written
-abbrev pub IsTold : Option Fault → Output → Output → Type 0
-IsTold None old new = Untouched old new
-IsTold (Some fault) old new = IsToldIn old new (fault_text fault)
+-- without a fault nothing is written to the output that faults are written to
+abbrev pub IsSilent : Option Fault → Output → Output → Type 0
+IsSilent None old new = Untouched old new
+IsSilent (Some fault) old new = ⊤
 
 -- the exit status
 abbrev pub status_after : Option Fault → ℕ
@@ -129,5 +129,5 @@ status_after (Some fault) = status_of fault
 pub record IsEnd (task : Task) (Came : List ℕ → Type 0) (in_old in_new : Input) (out_old out_new faults_old faults_new : Output) (status : ℕ) : Type 0 where
   pub ending : Option Fault
   pub has_cause : HasCause task Came ending in_old in_new out_old out_new
-  pub is_told : IsTold ending faults_old faults_new
+  pub is_silent : IsSilent ending faults_old faults_new
   pub status_is : status ≡ status_after ending
