@@ -23,7 +23,6 @@ pub mod ClapJobs
 pub mod TermLines
 pub mod TextTyped
 pub mod Checking
-pub mod Appended
 pub mod ScrapeLemmas
 pub mod LiveLemmas
 pub mod LiveReads

@@ -3,9 +3,8 @@ ghost use Rattle.std.specs.Prelude.{◌≡◌};
 ghost use Rattle.jobs3270.specs.Applications.{message_for, message_for_answer, message_for_reply, failure_text};
 
 use crate::application_reply::{AnswerFault, Replaced};
-use crate::notice::{Client, put_client};
 use application_http::{KeyFault, ReplyFault};
-use std::alloc::AllocError;
+use std::fmt;
 
 /// The most characters of a key that the log shows.
 const MOST_SHOWN: usize = 64;
@@ -93,38 +92,33 @@ impl ApplicationFault {
 
 // ---- what the log says
 
-/// Adds a reason.
-fn put_reason(text: &mut String, reason: &str) -> Result<(), AllocError> {
-    write!(text, " reason={reason}")
-}
+/// The front of a key. Prints in quotes.
+#[derive(Clone, Copy)]
+struct Key<'a>(&'a str);
 
-/// Adds the front of a key, quoted.
-fn put_key(text: &mut String, key: &str) -> Result<(), AllocError> {
-    text.push_str(" key=\"")?;
-    for character in key.chars().take(MOST_SHOWN) {
-        // A quote or a control character would end the value, or the line.
-        if character == '"' || character == '\\' || character.is_control() {
-            text.push('?')?;
-        } else {
-            text.push(character)?;
+impl fmt::Display for Key<'_> {
+    fn fmt<W: fmt::Write>(&self, f: &mut fmt::Formatter<W>) -> fmt::Result {
+        f.write_char('"')?;
+        for character in self.0.chars().take(MOST_SHOWN) {
+            // A quote or a control character would end the value, or the line.
+            if character == '"' || character == '\\' || character.is_control() {
+                f.write_char('?')?;
+            } else {
+                f.write_char(character)?;
+            }
         }
+        f.write_char('"')
     }
-    text.push('"')
 }
 
-/// Adds a reason and the key that has the fault.
-fn put_reason_at(text: &mut String, reason: &str, key: &str) -> Result<(), AllocError> {
-    put_reason(text, reason)?;
-    put_key(text, key)
-}
-
-/// Why an application isn't there, as a word.
-fn absence_word(absence: Absence) -> &'static str {
-    match absence {
-        Absence::Refused => "refused",
-        Absence::Broken => "broken",
-        Absence::Late => "timeout",
-        Absence::NoMemory => "no-memory",
+impl fmt::Display for Absence {
+    fn fmt<W: fmt::Write>(&self, f: &mut fmt::Formatter<W>) -> fmt::Result {
+        f.write_str(match self {
+            Absence::Refused => "refused",
+            Absence::Broken => "broken",
+            Absence::Late => "timeout",
+            Absence::NoMemory => "no-memory",
+        })
     }
 }
 
@@ -138,36 +132,37 @@ fn key_word(what: KeyFault) -> &'static str {
     }
 }
 
-/// Adds the status of a reply.
-fn put_status(text: &mut String, status: u16) -> Result<(), AllocError> {
-    put_reason(text, "status")?;
-    write!(text, " status={status}")
-}
-
 /// Adds why a reply is none.
-fn put_reply_fault(text: &mut String, fault: &ReplyFault) -> Result<(), AllocError> {
-    match fault {
-        ReplyFault::Memory => put_reason(text, "no-memory"),
-        ReplyFault::TooLong => put_reason(text, "too-long"),
-        ReplyFault::CutShort => put_reason(text, "broken"),
-        ReplyFault::NotHttp => put_reason(text, "not-http"),
-        ReplyFault::TooManyFields => put_reason(text, "too-many-fields"),
-        ReplyFault::Status(status) => put_status(text, *status),
-        ReplyFault::BadLength => put_reason(text, "bad-length"),
-        ReplyFault::BadChunks => put_reason(text, "bad-chunks"),
-        ReplyFault::NotJson => put_reason(text, "not-json"),
-        ReplyFault::Key { what, key } => put_reason_at(text, key_word(*what), key.as_str()),
-    }
+fn put_reply_fault<W: fmt::Write>(f: &mut fmt::Formatter<W>, fault: &ReplyFault) -> fmt::Result {
+    let reason = match fault {
+        ReplyFault::Memory => "no-memory",
+        ReplyFault::TooLong => "too-long",
+        ReplyFault::CutShort => "broken",
+        ReplyFault::NotHttp => "not-http",
+        ReplyFault::TooManyFields => "too-many-fields",
+        ReplyFault::BadLength => "bad-length",
+        ReplyFault::BadChunks => "bad-chunks",
+        ReplyFault::NotJson => "not-json",
+        ReplyFault::Status(status) => return write!(f, " reason=status status={status}"),
+        ReplyFault::Key { what, key } => {
+            let reason = key_word(*what);
+            let key = Key(key.as_str());
+            return write!(f, " reason={reason} key={key}");
+        }
+    };
+    write!(f, " reason={reason}")
 }
 
 /// Adds why the host can't do what a reply says.
-fn put_answer_fault(text: &mut String, fault: &AnswerFault) -> Result<(), AllocError> {
-    match fault {
-        AnswerFault::Memory => put_reason(text, "no-memory"),
-        AnswerFault::UnknownPanel => put_reason_at(text, "unknown-panel", "panel"),
-        AnswerFault::UnknownCursor => put_reason_at(text, "unknown-field", "cursor"),
-        AnswerFault::UnknownField(name) => put_reason_at(text, "unknown-field", name.as_str()),
-    }
+fn put_answer_fault<W: fmt::Write>(f: &mut fmt::Formatter<W>, fault: &AnswerFault) -> fmt::Result {
+    let (reason, key) = match fault {
+        AnswerFault::Memory => return f.write_str(" reason=no-memory"),
+        AnswerFault::UnknownPanel => ("unknown-panel", "panel"),
+        AnswerFault::UnknownCursor => ("unknown-field", "cursor"),
+        AnswerFault::UnknownField(name) => ("unknown-field", name.as_str()),
+    };
+    let key = Key(key);
+    write!(f, " reason={reason} key={key}")
 }
 
 /// What happened, as a word.
@@ -179,42 +174,28 @@ fn event_word(fault: &ApplicationFault) -> &'static str {
     }
 }
 
-/// Adds the event and its reason: what was wrong and where, and no field's text.
-fn put_application_fault(text: &mut String, fault: &ApplicationFault) -> Result<(), AllocError> {
-    let event = event_word(fault);
-    write!(text, " event={event}")?;
-    match fault {
-        ApplicationFault::Absent(absence) => put_reason(text, absence_word(*absence)),
-        ApplicationFault::Reply(fault) => put_reply_fault(text, fault),
-        ApplicationFault::Answer(fault) => put_answer_fault(text, fault),
-        ApplicationFault::Left => Ok(()),
+/// Prints as the event and its reason: what was wrong and where, and no field's text.
+impl fmt::Display for ApplicationFault {
+    fn fmt<W: fmt::Write>(&self, f: &mut fmt::Formatter<W>) -> fmt::Result {
+        let event = event_word(self);
+        write!(f, "event={event}")?;
+        match self {
+            ApplicationFault::Absent(absence) => write!(f, " reason={absence}"),
+            ApplicationFault::Reply(fault) => put_reply_fault(f, fault),
+            ApplicationFault::Answer(fault) => put_answer_fault(f, fault),
+            ApplicationFault::Left => Ok(()),
+        }
     }
 }
 
-/// Adds the line of a question without an answer, in logfmt, with the time first.
-pub(crate) fn put_application_line(
-    text: &mut String,
-    time: &str,
-    client: &Client,
-    fault: &ApplicationFault,
-) -> Result<(), AllocError> {
-    write!(text, "time={time}")?;
-    put_client(text, client)?;
-    put_application_fault(text, fault)?;
-    text.push('\n')
-}
-
-/// Adds the line of a reply in which characters were replaced, in logfmt, with the time first.
-pub(crate) fn put_replaced_line(
-    text: &mut String,
-    time: &str,
-    client: &Client,
-    replaced: &Replaced<'_>,
-) -> Result<(), AllocError> {
-    write!(text, "time={time}")?;
-    put_client(text, client)?;
-    text.push_str(" event=application-replaced")?;
-    put_key(text, replaced.key)?;
-    let characters = replaced.characters;
-    write!(text, " characters={characters}\n")
+/// Prints as the event: the first key of the reply with a character that was replaced, and the number of these characters.
+impl fmt::Display for Replaced<'_> {
+    fn fmt<W: fmt::Write>(&self, f: &mut fmt::Formatter<W>) -> fmt::Result {
+        let key = Key(self.key);
+        let characters = self.characters;
+        write!(
+            f,
+            "event=application-replaced key={key} characters={characters}"
+        )
+    }
 }
