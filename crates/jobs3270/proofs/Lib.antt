@@ -18,7 +18,6 @@ pub mod Typing
 pub mod Playing
 pub mod LuNames
 pub mod Addresses
-pub mod WordWalk
 pub mod ClapJobs
 pub mod TermLines
 pub mod TextTyped

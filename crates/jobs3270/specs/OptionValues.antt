@@ -1,5 +1,5 @@
 -- The values of options (our profile).
-use Rattle.std.specs.Prelude.{ℕ, ◌==◌, ◌&&◌, Bool, true, false, nat_le, List, [], ◌∷◌, Option, Some, None, is_some, option_map, if◌then◌else◌, bytes_eq, codes}
+use Rattle.std.specs.Prelude.{ℕ, ◌==◌, ◌&&◌, Bool, false, nat_le, List, [], ◌∷◌, Option, Some, None, option_map, if◌then◌else◌, bytes_eq, codes}
 use Rattle.std.specs.List.{after_first, before_first}
 use Rattle.std.specs.Option.{option_and_then, option_map_or}
 use Rattle.std.specs.Net.Reader.{read_ipv4, read_ipv6, whole_value}
@@ -7,10 +7,7 @@ use Rattle.std.specs.declared.net.ip_addr.IpAddr.{IpAddr}
 use Rattle.std.specs.declared.net.ip_addr.IpAddr.TheVariants as ip
 use Rattle.codes3270.specs.declared.size.Model.{Model}
 use Rattle.codes3270.specs.declared.size.Model.TheVariants.{M2, M3, M4, M5}
-use Rattle.tn3270e_msg.specs.Lu.{lu_of}
 use Rattle.jobs3270.specs.ScriptLines.{number_of}
-use Rattle.jobs3270.specs.declared.job_table.ValueKind.{ValueKind}
-use Rattle.jobs3270.specs.declared.job_table.ValueKind.TheVariants as kind
 use Rattle.jobs3270.specs.declared.tty_size.TtySize.{TtySize}
 
 -- ports that need no privilege
@@ -94,21 +91,6 @@ abbrev pub tty_size_of : List ℕ → Option TtySize
 tty_size_of word =
     option_and_then (λ rows. option_map (λ columns. record { rows = rows; columns = columns }) (tty_side_of (after_first is_x word)))
     (tty_side_of (before_first is_x word))
-
--- the word is a value of this kind
-abbrev pub is_value : ValueKind → List ℕ → Bool
-is_value kind.Port word = is_some (port_of word)
-is_value kind.ServicePort word = is_some (service_port_of word)
-is_value kind.Turns word = is_some (turns_of word)
-is_value kind.LuName word = is_some (lu_of word)
-is_value kind.Address word = is_some (address_of word)
-is_value kind.Seconds word = is_some (seconds_of word)
-is_value kind.Model word = is_some (model_of word)
-is_value kind.ReplyTime word = is_some (reply_time_of word)
-is_value kind.Url word = true
-is_value kind.File word = true
-is_value kind.TtySize word = is_some (tty_size_of word)
-is_value kind.Flag word = false
 
 -- the values of options that aren't given
 
