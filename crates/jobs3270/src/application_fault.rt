@@ -188,7 +188,8 @@ impl fmt::Display for ApplicationFault {
     }
 }
 
-/// Prints as the event: the first key of the reply with a character that was replaced, and the number of these characters.
+/// Prints as the event: the first key of the reply with a character that was replaced, and the number of such
+/// characters.
 impl fmt::Display for Replaced<'_> {
     fn fmt<W: fmt::Write>(&self, f: &mut fmt::Formatter<W>) -> fmt::Result {
         let key = Key(self.key);

@@ -11,13 +11,14 @@
 //! let status = run_show(rt.alloc(), Model::M2, &mut input, &mut out, &mut faults);
 //! ```
 //!
-//! [`words`] reads the arguments. `specs/Runs` says how a run of show or script ends, `Pages` and `Scripts` what it prints, `Words`
-//! which arguments give which job, `Topics` each job's options, and `Faults`, `LiveFaults`, `FileFaults` and `Refusals` each exit status.
-//! Help, the log, the page of metrics and the lines for faults and refused arguments have no definitions: cases compare them (`tests/`).
-//! Readers and sockets are read and written by single calls that contracts can name ([`RawRead`], [`RawWrite`]):
-//! `RawCalls` says what their answers mean, `Sockets` what they do to a connection that is served, and `Waits` what they do to a
-//! terminal. `ServiceTurns` says what a turn of `serve` is, `Timing` what the time limits of a connection ask for, and `Notices` which
-//! ends and bindings the log has. Nothing more is proved of the bytes on a socket.
+//! [`words`] reads the arguments. `specs/Runs` says how a run of show or script ends, `Pages` and `Scripts` what it
+//! prints, `Words` which arguments give which job, `Topics` each job's options, and `Faults`, `LiveFaults`,
+//! `FileFaults` and `Refusals` each exit status. Help, the log, the page of metrics and the lines for faults and
+//! refused arguments have no definitions: cases compare them (`tests/`). Readers and sockets are read and written by
+//! single calls that contracts can name ([`RawRead`], [`RawWrite`]): `RawCalls` says what their answers mean,
+//! `Sockets` what they do to a connection that is served, and `Waits` what they do to a terminal. `ServiceTurns` says
+//! what a turn of `serve` is, `Timing` what the time limits of a connection ask for, and `Notices` which ends and
+//! bindings the log has. Nothing more is proved of the bytes on a socket.
 #![tactic(auto)]
 
 mod answer_line;

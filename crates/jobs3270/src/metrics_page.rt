@@ -78,7 +78,8 @@ impl fmt::Display for TrafficCounts {
             sent,
             whole_screens,
         } = *self;
-        let whole = "Bytes of the records of all screens sent, had nothing been known of what the terminals showed.";
+        let whole =
+            "Bytes of the records of all screens sent, had nothing been known of what the terminals showed.";
         write!(
             f,
             "# HELP panel3270_turns_total Screens sent after the first one of a connection.

@@ -50,7 +50,11 @@ struct MetricsClient {
 }
 
 /// The response of a status, with the page of metrics if it has one.
-fn response_for(alloc: Global, status: HttpStatus, metrics: &Metrics) -> Result<String, AllocError> {
+fn response_for(
+    alloc: Global,
+    status: HttpStatus,
+    metrics: &Metrics,
+) -> Result<String, AllocError> {
     let page = format!(in alloc; "{metrics}")?;
     response_of(alloc, status, page.as_str())
 }

@@ -325,7 +325,8 @@ pub fn similar_to<'a>(alloc: Global, refusal: &Refusal<'a>) -> Result<Option<&'a
 
 // ---- printing
 
-/// A refusal, and the word that was probably meant, if there is one. Prints as two lines: the wrong word, and where help is.
+/// A refusal, and the word that was probably meant, if there is one. Prints as two lines: what is wrong, and where
+/// help is.
 #[derive(Drop)]
 struct Advice<'a> {
     refusal: Refusal<'a>,
@@ -344,8 +345,8 @@ impl fmt::Display for Advice<'_> {
     }
 }
 
-/// Prints a refusal, with the word that was probably meant, if there is one, and returns the exit status. Lines that can't be
-/// written are left out.
+/// Prints a refusal, with the word that was probably meant, if there is one, and returns the exit status. Lines that
+/// can't be written are left out.
 pub fn refuse_words<E: Sink>(refusal: Refusal<'_>, similar: Option<&str>, faults: &mut E) -> u8
     ensures { result ≡ words_refused }
 {

@@ -1,4 +1,4 @@
-//! What the program prints of faults and events, a line for each kind. The address, the file and the connection are made up.
+//! What the program prints of faults and events, a line for each kind.
 //!
 //! ```text
 //! faults      why a run ends early
@@ -112,7 +112,11 @@ fn put_notices(out: &mut String) -> Result<(), AllocError> {
     writeln!(out, "{}", Notice::Connected(client))?;
     let reason = Reason::DEVICE_IN_USE;
     for lu in [None, Lu::read("PNL01".as_bytes())] {
-        writeln!(out, "{}", Notice::Rejected(client, Rejection { lu, reason }))?;
+        writeln!(
+            out,
+            "{}",
+            Notice::Rejected(client, Rejection { lu, reason })
+        )?;
     }
     if let Some(lu) = Lu::read("PNL01".as_bytes()) {
         writeln!(out, "{}", Notice::Bound(client, lu))?;
@@ -136,8 +140,16 @@ fn put_questions(alloc: Global, out: &mut String) -> Result<(), AllocError> {
         writeln!(out, "{}", ApplicationFault::Absent(absence))?;
     }
     writeln!(out, "{}", ApplicationFault::Answer(AnswerFault::Memory))?;
-    writeln!(out, "{}", ApplicationFault::Answer(AnswerFault::UnknownPanel))?;
-    writeln!(out, "{}", ApplicationFault::Answer(AnswerFault::UnknownCursor))?;
+    writeln!(
+        out,
+        "{}",
+        ApplicationFault::Answer(AnswerFault::UnknownPanel)
+    )?;
+    writeln!(
+        out,
+        "{}",
+        ApplicationFault::Answer(AnswerFault::UnknownCursor)
+    )?;
     let name = String::from_str(alloc, "a\"b\\c\n")?;
     let unknown = AnswerFault::UnknownField(name);
     writeln!(out, "{}", ApplicationFault::Answer(unknown))?;
