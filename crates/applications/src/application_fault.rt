@@ -1,9 +1,13 @@
-//! Why a question to an application has no answer, and what the operator sees.
+//! Why a question to an application has no answer: what the operator sees, and what the log says.
 ghost use Rattle.std.specs.Prelude.{◌≡◌};
 ghost use Rattle.applications.specs.Applications.{message_for, message_for_answer, message_for_reply, failure_text};
 
-use crate::application_reply::AnswerFault;
-use application_http::ReplyFault;
+use crate::application_reply::{AnswerFault, Replaced};
+use application_http::{KeyFault, ReplyFault};
+use std::fmt;
+
+/// The most characters of a key that the log shows.
+const MOST_SHOWN: usize = 64;
 
 /// Why an application isn't there.
 #[derive(Clone, Copy)]
@@ -83,5 +87,116 @@ impl ApplicationFault {
             ApplicationFault::Answer(fault) => Some(message_for_answer(fault)),
             ApplicationFault::Left => None,
         }
+    }
+}
+
+// ---- what the log says
+
+/// The front of a key. Prints in quotes.
+#[derive(Clone, Copy)]
+struct Key<'a>(&'a str);
+
+impl fmt::Display for Key<'_> {
+    fn fmt<W: fmt::Write>(&self, f: &mut fmt::Formatter<W>) -> fmt::Result {
+        f.write_char('"')?;
+        for character in self.0.chars().take(MOST_SHOWN) {
+            // A quote or a control character would end the value, or the line.
+            if character == '"' || character == '\\' || character.is_control() {
+                f.write_char('?')?;
+            } else {
+                f.write_char(character)?;
+            }
+        }
+        f.write_char('"')
+    }
+}
+
+impl fmt::Display for Absence {
+    fn fmt<W: fmt::Write>(&self, f: &mut fmt::Formatter<W>) -> fmt::Result {
+        f.write_str(match self {
+            Absence::Refused => "refused",
+            Absence::Broken => "broken",
+            Absence::Late => "timeout",
+            Absence::NoMemory => "no-memory",
+        })
+    }
+}
+
+/// What is wrong with a key, as a word.
+fn key_word(what: KeyFault) -> &'static str {
+    match what {
+        KeyFault::UnknownKey => "unknown-key",
+        KeyFault::NotText => "not-text",
+        KeyFault::NotObject => "not-object",
+        KeyFault::FieldNotText => "field-not-text",
+    }
+}
+
+/// Adds why a reply is none.
+fn put_reply_fault<W: fmt::Write>(f: &mut fmt::Formatter<W>, fault: &ReplyFault) -> fmt::Result {
+    let reason = match fault {
+        ReplyFault::Memory => "no-memory",
+        ReplyFault::TooLong => "too-long",
+        ReplyFault::CutShort => "broken",
+        ReplyFault::NotHttp => "not-http",
+        ReplyFault::TooManyFields => "too-many-fields",
+        ReplyFault::BadLength => "bad-length",
+        ReplyFault::BadChunks => "bad-chunks",
+        ReplyFault::NotJson => "not-json",
+        ReplyFault::Status(status) => return write!(f, " reason=status status={status}"),
+        ReplyFault::Key { what, key } => {
+            let reason = key_word(*what);
+            let key = Key(key.as_str());
+            return write!(f, " reason={reason} key={key}");
+        }
+    };
+    write!(f, " reason={reason}")
+}
+
+/// Adds why the host can't do what a reply says.
+fn put_answer_fault<W: fmt::Write>(f: &mut fmt::Formatter<W>, fault: &AnswerFault) -> fmt::Result {
+    let (reason, key) = match fault {
+        AnswerFault::Memory => return f.write_str(" reason=no-memory"),
+        AnswerFault::UnknownPanel => ("unknown-panel", "panel"),
+        AnswerFault::UnknownCursor => ("unknown-field", "cursor"),
+        AnswerFault::UnknownField(name) => ("unknown-field", name.as_str()),
+    };
+    let key = Key(key);
+    write!(f, " reason={reason} key={key}")
+}
+
+/// What happened, as a word.
+fn event_word(fault: &ApplicationFault) -> &'static str {
+    match fault.message() {
+        Some(FailureMessage::NotAvailable) => "application-not-available",
+        Some(FailureMessage::Error) => "application-error",
+        None => "application-reply-dropped",
+    }
+}
+
+/// Prints as the event and its reason: what was wrong and where, and no field's text.
+impl fmt::Display for ApplicationFault {
+    fn fmt<W: fmt::Write>(&self, f: &mut fmt::Formatter<W>) -> fmt::Result {
+        let event = event_word(self);
+        write!(f, "event={event}")?;
+        match self {
+            ApplicationFault::Absent(absence) => write!(f, " reason={absence}"),
+            ApplicationFault::Reply(fault) => put_reply_fault(f, fault),
+            ApplicationFault::Answer(fault) => put_answer_fault(f, fault),
+            ApplicationFault::Left => Ok(()),
+        }
+    }
+}
+
+/// Prints as the event: the first key of the reply with a character that was replaced, and the number of such
+/// characters.
+impl fmt::Display for Replaced<'_> {
+    fn fmt<W: fmt::Write>(&self, f: &mut fmt::Formatter<W>) -> fmt::Result {
+        let key = Key(self.key);
+        let characters = self.characters;
+        write!(
+            f,
+            "event=application-replaced key={key} characters={characters}"
+        )
     }
 }

@@ -1,5 +1,5 @@
 -- The jobs: their names and options (our profile).
-use Rattle.std.specs.Prelude.{ℕ, Bool, true, false, List, [], ◌∷◌, ◌++◌, Option, Some, None, codes, bytes_eq, if◌then◌else◌, is_some}
+use Rattle.std.specs.Prelude.{ℕ, Bool, true, false, List, [], ◌∷◌, Option, Some, None, codes, bytes_eq, if◌then◌else◌}
 use Rattle.jobs.specs.declared.job.Topic.{Topic}
 use Rattle.jobs.specs.declared.job.Topic.TheVariants as topic
 use Rattle.cli.specs.declared.job_table.JobOption.{JobOption}
@@ -51,21 +51,20 @@ abbrev pub takes_value : ValueKind → Bool
 takes_value kind.Flag = false
 takes_value _ = true
 
--- an option: its name, the word that names it, what its value is, and whether it must be given
+-- an option: its name, what its value is, and whether it must be given
 pub record OptionRow : Type 0 where
   pub name : List ℕ
-  pub word : List ℕ
   pub kind : ValueKind
   pub required : Bool
 
 abbrev pub row_of : JobOption → OptionRow
-row_of option = record { name = option.name.now; word = option.word.now; kind = option.kind; required = option.required }
+row_of option = record { name = option.name.now; kind = option.kind; required = option.required }
 
 abbrev pub needed : List ℕ → ValueKind → OptionRow
-needed name kind = record { name = name; word = codes "--" ++ name; kind = kind; required = true }
+needed name kind = record { name = name; kind = kind; required = true }
 
 abbrev pub optional : List ℕ → ValueKind → OptionRow
-optional name kind = record { name = name; word = codes "--" ++ name; kind = kind; required = false }
+optional name kind = record { name = name; kind = kind; required = false }
 
 -- the options of a job
 abbrev pub options_of : Topic → List OptionRow
@@ -89,23 +88,3 @@ abbrev pub operand_of : Topic → Option (List ℕ)
 operand_of topic.Help = Some (codes "job")
 operand_of topic.Check = Some (codes "file")
 operand_of _ = None
-
--- what the option that a word names takes
-abbrev pub kind_named : List OptionRow → List ℕ → Option ValueKind
-kind_named [] word = None
-kind_named (option ∷ options) word = if bytes_eq word option.word then Some option.kind else kind_named options word
-
--- the word is a value of this kind
-abbrev pub is_value : ValueKind → List ℕ → Bool
-is_value kind.Port word = is_some (port_of word)
-is_value kind.ServicePort word = is_some (service_port_of word)
-is_value kind.Turns word = is_some (turns_of word)
-is_value kind.LuName word = is_some (lu_of word)
-is_value kind.Address word = is_some (address_of word)
-is_value kind.Seconds word = is_some (seconds_of word)
-is_value kind.Model word = is_some (model_of word)
-is_value kind.ReplyTime word = is_some (reply_time_of word)
-is_value kind.Url word = true
-is_value kind.File word = true
-is_value kind.TtySize word = is_some (tty_size_of word)
-is_value kind.Flag word = false

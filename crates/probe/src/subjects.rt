@@ -14,6 +14,7 @@ mod reports;
 mod screen;
 mod streams;
 mod terminal;
+mod texts;
 mod wire;
 mod world;
 
@@ -105,6 +106,7 @@ pub(crate) fn run(rt: &HostRuntime, name: &str) -> io::Result<bool> {
         "screen" => serve(rt, screen::Display::blank(Model::M2)),
         "streams" => serve(rt, streams::Streams),
         "terminal" => serve(rt, None::<Terminal>),
+        "texts" => serve(rt, texts::Texts),
         "wire" => serve(rt, wire::Wire::new(alloc)?),
         "world" => serve(rt, None::<world::Worlds>),
         _ => Ok(false),

@@ -1,4 +1,4 @@
--- How a run of `check` ends: what it read, what it printed, and the fault that it reports (our profile).
+-- How a run of `check` ends: what it read, what it printed, and its fault and exit status (our profile).
 use Rattle.std.specs.Prelude.{◌≡◌, ◌==◌, ℕ, Bool, true, false, List, Option, Some, None, Result, Ok, Err}
 use Rattle.panel_check.specs.PanelText.{panel_text}
 use Rattle.panel_check.specs.Pages.{page_text}
@@ -6,7 +6,7 @@ use Rattle.panel_check.specs.Report.{HasFirstCause, IsFaultlessIfAccepted, fault
 use Rattle.panel_check.specs.declared.report.Report.{Report}
 use Rattle.job_streams.specs.Counting.{Input, Output, Untouched, Written, CutShort}
 use Rattle.job_streams.specs.Faults.{status_of}
-use Rattle.job_streams.specs.Runs.{IsTold, NotRead, OnInput}
+use Rattle.job_streams.specs.Runs.{IsSilent, NotRead, OnInput}
 use Rattle.job_streams.specs.declared.fault.Fault.{Fault}
 use Rattle.job_streams.specs.declared.fault.Fault.TheVariants.{InputNotRead, NoMemory, OutputFailed}
 
@@ -57,5 +57,5 @@ check_status (Err fault) = status_of fault
 pub record IsCheckEnd (Came : List ℕ → Type 0) (name : List ℕ) (in_old in_new : Input) (out_old out_new faults_old faults_new : Output) (status : ℕ) : Type 0 where
   pub ending : Result Bool Fault
   pub has_cause : HasCheckCause Came ending name in_old in_new out_old out_new
-  pub is_told : IsTold (check_fault ending) faults_old faults_new
+  pub is_silent : IsSilent (check_fault ending) faults_old faults_new
   pub status_is : status ≡ check_status ending

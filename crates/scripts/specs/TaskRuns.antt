@@ -8,7 +8,7 @@ use Rattle.scripts.specs.declared.task.Task.{Task}
 use Rattle.scripts.specs.declared.task.Task.TheVariants.{Script, Show}
 use Rattle.applications.specs.PanelHosts.{HasPanelFault, HasPoolFault}
 use Rattle.scripts.specs.Scripts.{panel_text, IsScriptPage}
-use Rattle.job_streams.specs.Runs.{IsTold, NotRead, OnInput, status_after}
+use Rattle.job_streams.specs.Runs.{IsSilent, NotRead, OnInput, status_after}
 
 -- ---- the output
 
@@ -63,5 +63,5 @@ HasCause task Came ending in_old in_new out_old out_new = OnInput Came in_old in
 pub record IsEnd (task : Task) (Came : List ℕ → Type 0) (in_old in_new : Input) (out_old out_new faults_old faults_new : Output) (status : ℕ) : Type 0 where
   pub ending : Option Fault
   pub has_cause : HasCause task Came ending in_old in_new out_old out_new
-  pub is_told : IsTold ending faults_old faults_new
+  pub is_silent : IsSilent ending faults_old faults_new
   pub status_is : status ≡ status_after ending

@@ -4,7 +4,7 @@ use applications::{ApplicationFault, Replaced};
 use host_core::Host;
 use jiff::Timestamp;
 use job_streams::{Fault, Sink};
-use service_events::{Client, Notice, put_application_line, put_notice, put_replaced_line};
+use service_events::{Client, Notice};
 use std::alloc::{AllocError, Global};
 use std::time::Clock;
 
@@ -22,55 +22,24 @@ pub struct Log<'a, C, E> {
     pub quiet: bool,
 }
 
-/// Room for the text of a time, in bytes.
-const TIME_ROOM: usize = 32;
-
 /// Room for a line of the usual length, in bytes.
 const LINE_ROOM: usize = 256;
 
-/// Adds the time in UTC, in whole seconds (RFC 3339); `unknown` if the clock fails.
-fn put_time(text: &mut String, clock: &impl Clock) -> Result<(), AllocError> {
-    match Timestamp::now(clock) {
-        Ok(now) => write!(text, "{now:.0}"),
-        Err(_) => text.push_str("unknown"),
+impl<C: Clock, E: Sink> Log<'_, C, E> {
+    /// The front of an event's line: the time in UTC, in whole seconds (RFC 3339); `unknown` if the clock fails.
+    fn timed_line(&self) -> Result<String, AllocError> {
+        let mut line = String::with_capacity(self.alloc, LINE_ROOM)?;
+        match Timestamp::now(self.clock) {
+            Ok(now) => write!(line, "time={now:.0} ")?,
+            Err(_) => line.push_str("time=unknown ")?,
+        }
+        Ok(line)
     }
-}
 
-/// The line of a notice at this time.
-fn line_of(alloc: Global, clock: &impl Clock, notice: &Notice) -> Result<String, AllocError> {
-    let mut time = String::with_capacity(alloc, TIME_ROOM)?;
-    put_time(&mut time, clock)?;
-    let mut line = String::with_capacity(alloc, LINE_ROOM)?;
-    put_notice(&mut line, time.as_str(), notice)?;
-    Ok(line)
-}
-
-/// The line of a question without an answer, at this time.
-fn application_line_of(
-    alloc: Global,
-    clock: &impl Clock,
-    client: &Client,
-    fault: &ApplicationFault,
-) -> Result<String, AllocError> {
-    let mut time = String::with_capacity(alloc, TIME_ROOM)?;
-    put_time(&mut time, clock)?;
-    let mut line = String::with_capacity(alloc, LINE_ROOM)?;
-    put_application_line(&mut line, time.as_str(), client, fault)?;
-    Ok(line)
-}
-
-/// The line of a reply in which characters were replaced, at this time.
-fn replaced_line_of(
-    alloc: Global,
-    clock: &impl Clock,
-    client: &Client,
-    replaced: &Replaced<'_>,
-) -> Result<String, AllocError> {
-    let mut time = String::with_capacity(alloc, TIME_ROOM)?;
-    put_time(&mut time, clock)?;
-    let mut line = String::with_capacity(alloc, LINE_ROOM)?;
-    put_replaced_line(&mut line, time.as_str(), client, replaced)?;
-    Ok(line)
+    /// Writes a line. Terminals are served even if it can't be written.
+    fn put(&mut self, line: &str) {
+        let _ = self.lines.write_all(line.as_bytes());
+    }
 }
 
 impl<C: Clock, E: Sink> Watcher for Log<'_, C, E> {
@@ -78,9 +47,12 @@ impl<C: Clock, E: Sink> Watcher for Log<'_, C, E> {
         if self.quiet {
             return Ok(());
         }
-        let line = line_of(self.alloc, self.clock, notice)?;
-        // Terminals are served even if the log can't be written.
-        let _ = self.lines.write_all(line.as_bytes());
+        let mut line = match notice {
+            Notice::Listening(_) => String::new(self.alloc),
+            _ => self.timed_line()?,
+        };
+        write!(line, "{notice}\n")?;
+        self.put(line.as_str());
         Ok(())
     }
 
@@ -88,9 +60,9 @@ impl<C: Clock, E: Sink> Watcher for Log<'_, C, E> {
         if self.quiet {
             return Ok(());
         }
-        let line = application_line_of(self.alloc, self.clock, client, fault)?;
-        // Terminals are served even if the log can't be written.
-        let _ = self.lines.write_all(line.as_bytes());
+        let mut line = self.timed_line()?;
+        write!(line, "{client} {fault}\n")?;
+        self.put(line.as_str());
         Ok(())
     }
 
@@ -98,9 +70,9 @@ impl<C: Clock, E: Sink> Watcher for Log<'_, C, E> {
         if self.quiet {
             return Ok(());
         }
-        let line = replaced_line_of(self.alloc, self.clock, client, replaced)?;
-        // Terminals are served even if the log can't be written.
-        let _ = self.lines.write_all(line.as_bytes());
+        let mut line = self.timed_line()?;
+        write!(line, "{client} {replaced}\n")?;
+        self.put(line.as_str());
         Ok(())
     }
 

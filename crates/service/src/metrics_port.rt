@@ -6,7 +6,7 @@ use jobs::ServicePort;
 use mio::net::{TcpListener, TcpStream};
 use service_events::{Asked, HttpStatus, Metrics, is_late, response_of};
 use socket_links::{read_once, write_once};
-use std::alloc::Global;
+use std::alloc::{AllocError, Global};
 use std::net::{Ipv4Addr, Net, Shutdown, SocketAddr};
 
 /// The most clients at once. Others are dropped at once.
@@ -46,6 +46,16 @@ struct MetricsClient {
     response: Option<String>,
     /// How many bytes of the response were sent.
     sent: usize,
+}
+
+/// The response of a status, with the page of metrics if it has one.
+fn response_for(
+    alloc: Global,
+    status: HttpStatus,
+    metrics: &Metrics,
+) -> Result<String, AllocError> {
+    let page = format!(in alloc; "{metrics}")?;
+    response_of(alloc, status, page.as_str())
 }
 
 impl MetricsClient {
@@ -105,7 +115,7 @@ impl MetricsClient {
 
     /// Makes the response.
     fn respond(&mut self, alloc: Global, status: HttpStatus, metrics: &Metrics) -> Progress {
-        match response_of(alloc, status, metrics) {
+        match response_for(alloc, status, metrics) {
             Ok(response) => {
                 self.response = Some(response);
                 Progress::Moved

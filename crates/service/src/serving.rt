@@ -94,11 +94,6 @@ pub fn run_host<N: Net, I: Source, E: Sink>(
 struct Exposed(SocketAddr);
 
 impl fmt::Display for Exposed {
-    ghost use Rattle.std.specs.Prelude.{Some};
-    ghost use Rattle.service_events.specs.Notices.{exposed_text};
-
-    ghost output = { λ exposed. Some (exposed_text exposed.0) };
-
     fn fmt<W: fmt::Write>(&self, f: &mut fmt::Formatter<W>) -> fmt::Result {
         let address = self.0;
         write!(

@@ -1,7 +1,5 @@
--- What `serve` counts, and the page that says it in Prometheus' text format, version 0.0.4 (our profile).
-use Rattle.std.specs.Prelude.{ℕ, ◌+◌, ◌-◌, ◌^◌, ◌==◌, List, ◌++◌, codes, min, if◌then◌else◌}
-use Rattle.std.specs.Fmt.{decimal}
-use Rattle.tn3270e_msg.specs.Words.{cause_name}
+-- What `serve` counts (our profile).
+use Rattle.std.specs.Prelude.{ℕ, ◌+◌, ◌-◌, ◌^◌, ◌==◌, min, if◌then◌else◌}
 use Rattle.tn3270e_msg.specs.declared.cause.Cause.{Cause}
 use Rattle.tn3270e_msg.specs.declared.cause.Cause.TheVariants as cause
 use Rattle.tn3270e_msg.specs.declared.reply.Reason.{Reason}
@@ -15,12 +13,6 @@ use Rattle.service_events.specs.declared.notice.Ending.{Ending}
 use Rattle.service_events.specs.declared.notice.Ending.TheVariants as ending
 use Rattle.service_events.specs.declared.notice.Notice.{Notice}
 use Rattle.service_events.specs.declared.notice.Notice.TheVariants as notice
-use Rattle.service_events.specs.declared.metrics_page.Label.{Label}
-use Rattle.service_events.specs.declared.metrics_page.Label.TheVariants as label
-use Rattle.service_events.specs.declared.metrics_page.Metric.{Metric}
-use Rattle.service_events.specs.declared.metrics_page.Metric.TheVariants as metric
-
--- ---- counting
 
 abbrev pub none_closed : ClosedCounts
 none_closed = record { no_tn3270e = 0; no_responses = 0; bad_talk = 0; too_many = 0; wire = 0; bad_record = 0; bad_inbound = 0; bad_response = 0; negative = 0; rule_broken = 0 }
@@ -95,103 +87,3 @@ counted (notice.Bound client lu) counts = counts
 counted (notice.KeyDropped client dropped) counts = record counts { dropped_keys = raised counts.dropped_keys 1 }
 counted (notice.RuleBroken client broken) counts = record counts { rule_breaks = raised counts.rule_breaks 1 }
 counted (notice.Ended client how usage) counts = with_usage usage.turns usage.received usage.sent (with_end how counts)
-
--- ---- names
-
-abbrev pub metric_name : Metric → List ℕ
-metric_name metric.Sessions = codes "panel3270_sessions"
-metric_name metric.SessionsTotal = codes "panel3270_sessions_total"
-metric_name metric.SessionEnds = codes "panel3270_session_ends_total"
-metric_name metric.TurnedAway = codes "panel3270_turned_away_total"
-metric_name metric.Rejections = codes "panel3270_rejections_total"
-metric_name metric.DroppedKeys = codes "panel3270_dropped_keys_total"
-metric_name metric.RuleBreaks = codes "panel3270_rule_breaks_total"
-metric_name metric.Turns = codes "panel3270_turns_total"
-metric_name metric.Paints = codes "panel3270_paints_total"
-metric_name metric.ReceivedBytes = codes "panel3270_received_bytes_total"
-metric_name metric.SentBytes = codes "panel3270_sent_bytes_total"
-metric_name metric.WholeScreenBytes = codes "panel3270_whole_screen_bytes_total"
-
-abbrev pub metric_help : Metric → List ℕ
-metric_help metric.Sessions = codes "Connections of terminals that are open."
-metric_help metric.SessionsTotal = codes "Connections of terminals that began."
-metric_help metric.SessionEnds = codes "Connections of terminals that ended, by what ended them."
-metric_help metric.TurnedAway = codes "Connections closed at once because no number was free."
-metric_help metric.Rejections = codes "Rejected requests for an LU, by reason."
-metric_help metric.DroppedKeys = codes "Keys that were dropped because the last one wasn't answered yet."
-metric_help metric.RuleBreaks = codes "Terminals that broke a rule that the host verifies."
-metric_help metric.Turns = codes "Screens sent after the first one of a connection."
-metric_help metric.Paints = codes "Screens sent."
-metric_help metric.ReceivedBytes = codes "Bytes received from terminals."
-metric_help metric.SentBytes = codes "Bytes sent to terminals."
-metric_help metric.WholeScreenBytes = codes "Bytes of the records of all screens sent, had nothing been known of what the terminals showed."
-
--- a gauge may fall, a counter never does
-abbrev pub metric_type : Metric → List ℕ
-metric_type metric.Sessions = codes "gauge"
-metric_type _ = codes "counter"
-
--- ---- the page
-
--- the comment lines of a metric
-unfoldable pub head_lines : Metric → List ℕ
-head_lines what = codes "# HELP " ++ metric_name what ++ codes " " ++ metric_help what ++ codes "\n# TYPE " ++ metric_name what ++ codes " " ++ metric_type what ++ codes "\n"
-
--- a metric that is one number
-unfoldable pub number_lines : Metric → ℕ → List ℕ
-number_lines what count = head_lines what ++ metric_name what ++ codes " " ++ decimal count ++ codes "\n"
-
--- the labels of one of a metric's numbers
-abbrev pub label_text : Label → List ℕ
-label_text (label.Closed why) = codes "end=\"closed\",cause=\"" ++ cause_name why ++ codes "\""
-label_text label.Lost = codes "end=\"lost\""
-label_text label.Idle = codes "end=\"idle\""
-label_text label.NoAgreement = codes "end=\"no-agreement\""
-label_text label.DeviceInUse = codes "reason=\"DEVICE-IN-USE\""
-label_text label.InvName = codes "reason=\"INV-NAME\""
-label_text label.InvDeviceType = codes "reason=\"INV-DEVICE-TYPE\""
-label_text label.UnsupportedReq = codes "reason=\"UNSUPPORTED-REQ\""
-label_text label.OtherReason = codes "reason=\"other\""
-
--- the metric whose number it is
-abbrev pub metric_of : Label → Metric
-metric_of (label.Closed why) = metric.SessionEnds
-metric_of label.Lost = metric.SessionEnds
-metric_of label.Idle = metric.SessionEnds
-metric_of label.NoAgreement = metric.SessionEnds
-metric_of label.DeviceInUse = metric.Rejections
-metric_of label.InvName = metric.Rejections
-metric_of label.InvDeviceType = metric.Rejections
-metric_of label.UnsupportedReq = metric.Rejections
-metric_of label.OtherReason = metric.Rejections
-
-unfoldable pub labelled_line : Label → ℕ → List ℕ
-labelled_line labels count = metric_name (metric_of labels) ++ codes "{" ++ label_text labels ++ codes "} " ++ decimal count ++ codes "\n"
-
-unfoldable pub closed_lines : ClosedCounts → List ℕ
-closed_lines counts =
-    labelled_line (label.Closed cause.NoTn3270e) counts.no_tn3270e ++ labelled_line (label.Closed cause.NoResponses) counts.no_responses
-    ++ labelled_line (label.Closed cause.BadTalk) counts.bad_talk ++ labelled_line (label.Closed cause.TooMany) counts.too_many
-    ++ labelled_line (label.Closed cause.Wire) counts.wire ++ labelled_line (label.Closed cause.BadRecord) counts.bad_record
-    ++ labelled_line (label.Closed cause.BadInbound) counts.bad_inbound ++ labelled_line (label.Closed cause.BadResponse) counts.bad_response
-    ++ labelled_line (label.Closed cause.Negative) counts.negative ++ labelled_line (label.Closed cause.RuleBroken) counts.rule_broken
-
-unfoldable pub end_lines : EndCounts → List ℕ
-end_lines counts = head_lines metric.SessionEnds ++ closed_lines counts.closed
-    ++ labelled_line label.Lost counts.lost ++ labelled_line label.Idle counts.idle ++ labelled_line label.NoAgreement counts.no_agreement
-
-unfoldable pub rejected_lines : RejectedCounts → List ℕ
-rejected_lines counts = head_lines metric.Rejections
-    ++ labelled_line label.DeviceInUse counts.device_in_use ++ labelled_line label.InvName counts.inv_name
-    ++ labelled_line label.InvDeviceType counts.inv_device_type ++ labelled_line label.UnsupportedReq counts.unsupported_req
-    ++ labelled_line label.OtherReason counts.other
-
-unfoldable pub traffic_lines : TrafficCounts → List ℕ
-traffic_lines counts = number_lines metric.Turns counts.turns ++ number_lines metric.Paints counts.paints
-    ++ number_lines metric.ReceivedBytes counts.received ++ number_lines metric.SentBytes counts.sent
-    ++ number_lines metric.WholeScreenBytes counts.whole_screens
-
-abbrev pub metrics_page : Metrics → List ℕ
-metrics_page counts = number_lines metric.Sessions counts.current ++ number_lines metric.SessionsTotal counts.begun ++ end_lines counts.ends
-    ++ number_lines metric.TurnedAway counts.turned_away ++ rejected_lines counts.rejected ++ number_lines metric.DroppedKeys counts.dropped_keys
-    ++ number_lines metric.RuleBreaks counts.rule_breaks ++ traffic_lines counts.traffic

@@ -1,11 +1,11 @@
 //! The lines of a server's log: what became of its connections.
-ghost use Rattle.std.specs.Prelude.{◌≡◌, ◌++◌, OnOk, string_bytes};
-ghost use Rattle.service_events.specs.Notices.{bound_in_turn, cause_part, client_part, closed_part, ending_of, ending_part, has_time, lu_part, notice_line, notice_text, number_part, overdue_part, rule_word, time_part, usage_part};
+ghost use Rattle.std.specs.Prelude.{◌≡◌};
+ghost use Rattle.service_events.specs.Notices.{bound_in_turn, ending_of};
 
 use crate::limits::Overdue;
 use applications::{KeyName, SessionName};
 use host_core::{DroppedKey, Phase, Rejection, Rule, RuleBreak, Served};
-use std::alloc::AllocError;
+use std::fmt;
 use std::net::SocketAddr;
 use tn3270e_msg::{Cause, Lu};
 
@@ -67,210 +67,85 @@ pub enum Notice {
     Ended(Client, Ending, Usage),
 }
 
-/// Adds the number, the session and the peer of a connection.
-pub(crate) fn put_client(text: &mut String, client: &Client) -> Result<(), AllocError>
-    ensures { OnOk result (string_bytes text.new ≡ string_bytes text.old ++ client_part client.now) }
-{
-    let Client {
-        conn,
-        session,
-        peer,
-    } = *client;
-    write!(text, " conn={conn} session={session} peer={peer}")
-}
-
-/// Adds the LU that was requested, if one was.
-fn put_lu(text: &mut String, lu: &Option<Lu>) -> Result<(), AllocError>
-    ensures { OnOk result (string_bytes text.new ≡ string_bytes text.old ++ lu_part lu.now) }
-{
-    match lu {
-        Some(lu) => write!(text, " lu={lu}"),
-        None => Ok(()),
+/// Prints as the keys of a line of the log that begin it.
+impl fmt::Display for Client {
+    fn fmt<W: fmt::Write>(&self, f: &mut fmt::Formatter<W>) -> fmt::Result {
+        let Client {
+            conn,
+            session,
+            peer,
+        } = *self;
+        write!(f, "conn={conn} session={session} peer={peer}")
     }
 }
 
-/// Adds a rejection.
-fn put_rejection(
-    text: &mut String,
-    client: &Client,
-    rejection: &Rejection,
-) -> Result<(), AllocError>
-    ensures { OnOk result (string_bytes text.new ≡ string_bytes text.old ++ notice_text (Notice.Rejected client.now rejection.now)) }
-{
-    put_client(text, client)?;
-    text.push_str(" event=rejected")?;
-    put_lu(text, &rejection.lu)?;
-    let reason = rejection.reason;
-    write!(text, " reason={reason}")
-}
-
-/// Adds the limit for which a connection was dropped.
-fn put_overdue(text: &mut String, overdue: Overdue) -> Result<(), AllocError>
-    ensures { OnOk result (string_bytes text.new ≡ string_bytes text.old ++ overdue_part overdue) }
-{
-    match overdue {
-        Overdue::NoAgreement => text.push_str(" event=no-agreement"),
-        Overdue::Idle => text.push_str(" event=idle"),
+/// Prints as the event, and its cause if the host closed the connection.
+impl fmt::Display for Ending {
+    fn fmt<W: fmt::Write>(&self, f: &mut fmt::Formatter<W>) -> fmt::Result {
+        match self {
+            Ending::Closed(cause) => {
+                let number = cause.number();
+                write!(f, "closed cause={cause} number={number}")
+            }
+            Ending::Lost => f.write_str("lost"),
+            Ending::Dropped(Overdue::NoAgreement) => f.write_str("no-agreement"),
+            Ending::Dropped(Overdue::Idle) => f.write_str("idle"),
+        }
     }
 }
 
-/// Adds the number of a cause.
-fn put_number(text: &mut String, cause: Cause) -> Result<(), AllocError>
-    ensures { OnOk result (string_bytes text.new ≡ string_bytes text.old ++ number_part cause) }
-{
-    let number = cause.number();
-    write!(text, " number={number}")
-}
-
-/// Adds the name of a cause.
-fn put_cause(text: &mut String, cause: Cause) -> Result<(), AllocError>
-    ensures { OnOk result (string_bytes text.new ≡ string_bytes text.old ++ cause_part cause) }
-{
-    write!(text, " cause={cause}")
-}
-
-/// Adds that the host closed a connection.
-fn put_closed(text: &mut String, cause: Cause) -> Result<(), AllocError>
-    ensures { OnOk result (string_bytes text.new ≡ string_bytes text.old ++ closed_part cause) }
-{
-    text.push_str(" event=closed")?;
-    put_cause(text, cause)?;
-    put_number(text, cause)
-}
-
-/// Adds why a connection is over.
-fn put_ending(text: &mut String, ending: &Ending) -> Result<(), AllocError>
-    ensures { OnOk result (string_bytes text.new ≡ string_bytes text.old ++ ending_part ending.now) }
-{
-    match ending {
-        Ending::Closed(cause) => put_closed(text, *cause),
-        Ending::Lost => text.push_str(" event=lost"),
-        Ending::Dropped(overdue) => put_overdue(text, *overdue),
+/// Prints as nothing if the terminal wasn't bound, else after a blank.
+impl fmt::Display for Usage {
+    fn fmt<W: fmt::Write>(&self, f: &mut fmt::Formatter<W>) -> fmt::Result {
+        let Usage {
+            bound,
+            duration,
+            turns,
+            sent,
+            received,
+        } = *self;
+        if !bound {
+            return Ok(());
+        }
+        write!(
+            f,
+            " duration={duration} turns={turns} sent={sent} received={received}"
+        )
     }
 }
 
-/// Adds what a bound session took.
-fn put_usage(text: &mut String, usage: &Usage) -> Result<(), AllocError>
-    ensures { OnOk result (string_bytes text.new ≡ string_bytes text.old ++ usage_part usage.now) }
-{
-    if !usage.bound {
-        return Ok(());
+/// Prints where the server listens, or else an event in logfmt, without the time.
+impl fmt::Display for Notice {
+    fn fmt<W: fmt::Write>(&self, f: &mut fmt::Formatter<W>) -> fmt::Result {
+        match self {
+            Notice::Listening(address) => write!(f, "listening on {address}"),
+            Notice::TurnedAway(peer) => write!(f, "peer={peer} event=turned-away"),
+            Notice::Connected(client) => write!(f, "{client} event=connected"),
+            Notice::Rejected(client, Rejection { lu, reason }) => match lu {
+                Some(lu) => write!(f, "{client} event=rejected lu={lu} reason={reason}"),
+                None => write!(f, "{client} event=rejected reason={reason}"),
+            },
+            Notice::Bound(client, lu) => write!(f, "{client} event=bound lu={lu}"),
+            Notice::KeyDropped(client, dropped) => {
+                let key = KeyName(dropped.aid);
+                write!(f, "{client} event=key-dropped key={key}")
+            }
+            Notice::RuleBroken(client, RuleBreak { rule, cell }) => {
+                let rule = rule_word(*rule);
+                write!(f, "{client} event=rule-broken rule={rule} cell={cell}")
+            }
+            Notice::Ended(client, ending, usage) => write!(f, "{client} event={ending}{usage}"),
+        }
     }
-    let Usage {
-        duration,
-        turns,
-        sent,
-        received,
-        ..
-    } = *usage;
-    write!(text, " duration={duration} turns={turns}")?;
-    write!(text, " sent={sent} received={received}")
-}
-
-/// Adds the end of a connection.
-fn put_end(
-    text: &mut String,
-    client: &Client,
-    ending: &Ending,
-    usage: &Usage,
-) -> Result<(), AllocError>
-    ensures { OnOk result (string_bytes text.new ≡ string_bytes text.old ++ notice_text (Notice.Ended client.now ending.now usage.now)) }
-{
-    put_client(text, client)?;
-    put_ending(text, ending)?;
-    put_usage(text, usage)
-}
-
-/// Adds that a client connected.
-fn put_connected(text: &mut String, client: &Client) -> Result<(), AllocError>
-    ensures { OnOk result (string_bytes text.new ≡ string_bytes text.old ++ notice_text (Notice.Connected client.now)) }
-{
-    put_client(text, client)?;
-    text.push_str(" event=connected")
-}
-
-/// Adds that a terminal was bound to an LU.
-fn put_bound(text: &mut String, client: &Client, lu: &Lu) -> Result<(), AllocError>
-    ensures { OnOk result (string_bytes text.new ≡ string_bytes text.old ++ notice_text (Notice.Bound client.now lu.now)) }
-{
-    put_client(text, client)?;
-    write!(text, " event=bound lu={lu}")
-}
-
-/// Adds that a key was dropped.
-fn put_dropped_key(
-    text: &mut String,
-    client: &Client,
-    dropped: DroppedKey,
-) -> Result<(), AllocError>
-    ensures { OnOk result (string_bytes text.new ≡ string_bytes text.old ++ notice_text (Notice.KeyDropped client.now dropped)) }
-{
-    put_client(text, client)?;
-    let key = KeyName(dropped.aid);
-    write!(text, " event=key-dropped key={key}")
 }
 
 /// The word of a rule in the log.
-fn rule_word(rule: Rule) -> &'static str
-    ensures { result.now ≡ rule_word rule }
-{
+fn rule_word(rule: Rule) -> &'static str {
     match rule {
         Rule::Applies => "applies",
         Rule::Edits => "edits",
         Rule::Sends => "sends",
     }
-}
-
-/// Adds that a terminal broke a rule.
-fn put_rule_break(text: &mut String, client: &Client, broken: RuleBreak) -> Result<(), AllocError>
-    ensures { OnOk result (string_bytes text.new ≡ string_bytes text.old ++ notice_text (Notice.RuleBroken client.now broken)) }
-{
-    put_client(text, client)?;
-    let rule = rule_word(broken.rule);
-    let cell = broken.cell;
-    write!(text, " event=rule-broken rule={rule} cell={cell}")
-}
-
-/// Adds what happened.
-fn put_text(text: &mut String, notice: &Notice) -> Result<(), AllocError>
-    ensures { OnOk result (string_bytes text.new ≡ string_bytes text.old ++ notice_text notice.now) }
-{
-    match notice {
-        Notice::Listening(address) => write!(text, "listening on {address}"),
-        Notice::TurnedAway(peer) => write!(text, " peer={peer} event=turned-away"),
-        Notice::Connected(client) => put_connected(text, client),
-        Notice::Rejected(client, rejection) => put_rejection(text, client, rejection),
-        Notice::Bound(client, lu) => put_bound(text, client, lu),
-        Notice::KeyDropped(client, dropped) => put_dropped_key(text, client, *dropped),
-        Notice::RuleBroken(client, broken) => put_rule_break(text, client, *broken),
-        Notice::Ended(client, ending, usage) => put_end(text, client, ending, usage),
-    }
-}
-
-/// Whether a notice is an event, whose line has its time.
-fn has_time(notice: &Notice) -> bool
-    ensures { result ≡ has_time notice.now }
-{
-    !matches!(notice, Notice::Listening(_))
-}
-
-/// Adds the time of an event.
-fn put_time(text: &mut String, time: &str, notice: &Notice) -> Result<(), AllocError>
-    ensures { OnOk result (string_bytes text.new ≡ string_bytes text.old ++ time_part time.now notice.now) }
-{
-    if !has_time(notice) {
-        return Ok(());
-    }
-    write!(text, "time={time}")
-}
-
-/// Adds the line of a notice: where the server listens, or else an event in logfmt, with the time first.
-pub fn put_notice(text: &mut String, time: &str, notice: &Notice) -> Result<(), AllocError>
-    ensures { OnOk result (string_bytes text.new ≡ string_bytes text.old ++ notice_line time.now notice.now) }
-{
-    put_time(text, time, notice)?;
-    put_text(text, notice)?;
-    text.push('\n')
 }
 
 /// Why a connection is over after a turn of serving, by the phase after the turn; None if it goes on.

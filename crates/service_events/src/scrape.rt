@@ -2,9 +2,7 @@
 ghost use Rattle.std.specs.Prelude.{◌≡◌, ◌≤◌, ◌++◌, [], ℕ, List, Some, IfOk, OnErr, OnOk, length, string_bytes, take};
 ghost use Rattle.httparse.specs.Grammar.{RequestHead, ReadsRequest};
 ghost use Rattle.service_events.specs.Scrapes.{IsAnswerTo, allow_field, body_for, connection_field, content_type, most_fields, is_late, names_metrics, response, status_lines, status_of, status_of_parts, status_text, with_more};
-ghost use Rattle.service_events.specs.Metrics.{metrics_page};
 
-use crate::metrics::Metrics;
 use httparse::spans::{EMPTY_HEADER_SPAN, parse_request};
 use httparse::{Error, Status};
 use std::alloc::{AllocError, Global};
@@ -153,28 +151,22 @@ fn put_response(text: &mut String, status: HttpStatus, body: &str) -> Result<(),
     write!(text, "{fields}{body}")
 }
 
-/// Adds the body of a response: the page of metrics, or nothing.
-fn put_body(text: &mut String, status: HttpStatus, metrics: &Metrics) -> Result<(), AllocError>
-    ensures { OnOk result (string_bytes text.new ≡ string_bytes text.old ++ body_for status (metrics_page metrics.now)) }
+/// The body of a response: the page of metrics, or nothing.
+fn body_for(status: HttpStatus, page: &str) -> &str
+    ensures { result.now ≡ body_for status page.now }
 {
     match status {
-        HttpStatus::Found => write!(text, "{metrics}"),
-        _ => Ok(()),
+        HttpStatus::Found => page,
+        _ => "",
     }
 }
 
 /// The response of a status: that of 200 has the page of metrics, others have no body.
-pub fn response_of(
-    alloc: Global,
-    status: HttpStatus,
-    metrics: &Metrics,
-) -> Result<String, AllocError>
-    ensures { IfOk result (λ text. string_bytes text ≡ response status (body_for status (metrics_page metrics.now))) }
+pub fn response_of(alloc: Global, status: HttpStatus, page: &str) -> Result<String, AllocError>
+    ensures { IfOk result (λ text. string_bytes text ≡ response status (body_for status page.now)) }
 {
-    let mut body = String::new(alloc);
-    put_body(&mut body, status, metrics)?;
     let mut text = String::new(alloc);
-    put_response(&mut text, status, body.as_str())?;
+    put_response(&mut text, status, body_for(status, page))?;
     Ok(text)
 }
 
