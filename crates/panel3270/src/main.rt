@@ -1,5 +1,5 @@
-//! The program panel3270: TN3270E hosts, terminals and 3270 screens on the command line. jobs3270 has its jobs, and the texts of its
-//! help; this crate passes the arguments, the standard streams and files.
+//! The program panel3270: TN3270E hosts, terminals and 3270 screens on the command line. The crate cli reads its words and
+//! has its help, other crates do the jobs; this crate passes the arguments, the standard streams and files.
 #![tactic(auto)]
 
 ghost use Rattle.std.specs.Iterator.{IsFinite};
@@ -11,12 +11,12 @@ use operate::run_operate;
 use scripts::{run_check, run_script, run_show};
 use selfrun::run_selfrun;
 use service::{run_host, run_serve};
-use terminal_lines::run_term;
 use std::env;
 use std::fs::File;
 use std::io::{self, ErrorKind, IsTerminal, Stdout};
 use std::process::ExitCode;
 use std::sync::Wait;
+use terminal_lines::run_term;
 
 /// What reports call the standard input.
 const STANDARD_INPUT: &str = "standard input";

@@ -10,8 +10,8 @@ use crate::subjects::Subject;
 use crate::talk::{Fault, Talk, text_of};
 use cli::words;
 use scripts::{ScriptCommand, typed_text};
-use terminal_lines::TerminalCommand;
 use std::alloc::AllocError;
+use terminal_lines::TerminalCommand;
 use world3270::Event;
 
 #[derive(Drop)]

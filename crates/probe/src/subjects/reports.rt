@@ -5,8 +5,8 @@
 //! ```
 use crate::subjects::Subject;
 use crate::talk::{Fault, Talk, text_of};
-use host_core::Terminals;
 use applications::host_of;
+use host_core::Terminals;
 use panel_check::check;
 use std::alloc::AllocError;
 

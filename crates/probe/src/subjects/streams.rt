@@ -14,9 +14,9 @@ use host_core::Terminals;
 use job_streams::{CountedReader, CountedWriter};
 use operate::OperatorSession;
 use scripts::{run_script, run_show};
-use terminal_lines::{Wire, operate};
 use std::alloc::{AllocError, Global};
 use std::io::{self, ErrorKind, Read, Write};
+use terminal_lines::{Wire, operate};
 use tn3270e_msg::Lu;
 
 #[derive(Drop)]

@@ -21,8 +21,8 @@ use crate::subjects::terminal::{self, put_page};
 use crate::talk::{Fault, Talk};
 use codes3270::Model;
 use host_core::{MOST_CONNECTIONS, Phase};
-use scripts::{ScriptCommand, typed_text};
 use keyboard::Key;
+use scripts::{ScriptCommand, typed_text};
 use std::alloc::AllocError;
 use world3270::{Event, World};
 
