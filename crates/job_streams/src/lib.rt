@@ -15,7 +15,7 @@
 //! ```
 //!
 //! `specs/Counting` says what a stream counts, `RawCalls` what the answers of readers and writers mean, `Runs` what an
-//! input is and how a fault is told, and `Faults`, `LiveFaults` and `FileFaults` each fault's line and status.
+//! input is and when a fault is printed, and `Faults`, `LiveFaults` and `FileFaults` each fault's line and status.
 #![tactic(auto)]
 
 mod ending;

@@ -1,5 +1,5 @@
-//! What happens at a server, and what is told of it: notices, lines of the log, counts and their page; and what the
-//! time limits of a connection ask for.
+//! What happens at a server: notices, their lines in the log, and counts with their page; and what the time limits of a
+//! connection ask for.
 //!
 //! It has no server and no socket. A [`Notice`] becomes a line ([`put_notice`]), and is counted ([`Metrics`]);
 //! [`Asked`] takes the bytes of a client that asks for the counts, and [`response_of`] is the response. [`Activity`]
