@@ -1,4 +1,4 @@
--- How a run ends: what it read, what it printed, and the fault that it reports (our profile).
+-- How a run ends: what it read, what it printed, and its fault and exit status (our profile).
 use Rattle.std.specs.Prelude.{◌≡◌, ◌<◌, ◌≤◌, ◌++◌, ◌∷◌, ◌⊎◌, [], ⊤, ℕ, List, length, Option, Some, None, Result, Ok, Err, IsUtf8}
 use Rattle.std.specs.Io.KnownBytes.{Consumes, IsAtEnd}
 use Rattle.job_streams.specs.Faults.{status_of}

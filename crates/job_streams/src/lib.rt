@@ -15,7 +15,8 @@
 //! ```
 //!
 //! `specs/Counting` says what a stream counts, `RawCalls` what the answers of readers and writers mean, `Runs` what an
-//! input is and how a fault is told, and `Faults`, `LiveFaults` and `FileFaults` each fault's line and status.
+//! input is and how a run ends, and `Faults`, `LiveFaults` and `FileFaults` the exit status of each fault. The lines of
+//! faults have no definitions: cases compare them.
 #![tactic(auto)]
 
 mod ending;

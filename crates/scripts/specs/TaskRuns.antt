@@ -1,4 +1,4 @@
--- How a run of `script` or `show` ends: the page that it prints, and the fault that it reports (our profile).
+-- How a run of `script` or `show` ends: the page that it prints, its fault and its exit status (our profile).
 use Rattle.std.specs.Prelude.{◌≡◌, ℕ, List, Option, Some, None}
 use Rattle.scripts.specs.Pages.{IsPage}
 use Rattle.job_streams.specs.Counting.{Input, Output, Untouched, Written, CutShort}

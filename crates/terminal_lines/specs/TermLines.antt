@@ -1,4 +1,4 @@
--- The commands of a terminal's script as text (our profile): those of a script (specs/ScriptLines) without the number, since there
+-- The commands of a terminal's script as text (our profile): those of a script (ScriptLines) without the number, since there
 -- is one terminal; and one to wait for the host.
 use Rattle.std.specs.Prelude.{ℕ, List, [], ◌∷◌, Option, Some, None, if◌then◌else◌, bytes_eq, codes}
 use Rattle.std.specs.Option.{option_map}
