@@ -14,12 +14,14 @@ ignored:
 """
 import dataclasses
 import functools
+import re
 from collections.abc import Callable, Iterator
 
 from harness.case import CASES, BadCase, Case, Difference, same
 from harness.data import Line, lines_of, panel_text
 from harness.probe import Probe
 from harness.sights import cells_of, parts_of, plain, spelt
+from harness.tables import named
 
 PARTS = 3
 HEADINGS = {
@@ -293,7 +295,11 @@ class Host(Subject):
 
     def do_broken(self, words: str) -> None:
         conn, wanted = self.split(words)
-        self.expect([wanted], self.ask(f"broken {conn}"))
+        broken = re.match(
+            r"Some\(RuleBreak { rule: (\w+), cell: (\d+) }\)",
+            self.ask(f"broken {conn}")[0],
+        )
+        self.expect(wanted, " ".join(broken.groups()) if broken else "none")
 
     def do_deaf(self, words: str) -> None:
         conn, why = self.split(words)
@@ -333,11 +339,12 @@ class Host(Subject):
 
     def do_rejected(self, words: str) -> None:
         conn, wanted = self.split(words)
-        self.expect([wanted], self.ask(f"rejected {conn}"))
+        rejected = named("".join(self.ask(f"rejected {conn}"))) or "none"
+        self.expect(wanted, re.sub(r"^None |Some\((.*)\)", r"\1", rejected))
 
     def do_dropped(self, words: str) -> None:
         conn, wanted = self.split(words)
-        self.expect([wanted], self.ask(f"dropped {conn}"))
+        self.expect([wanted], self.ask(f"dropped {conn}") or ["none"])
 
     def do_phase(self, words: str) -> None:
         self.expect_state("phase", words)

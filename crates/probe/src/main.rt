@@ -12,11 +12,9 @@ use std::env;
 use subjects::run;
 
 fn main(rt: HostRuntime) -> Result<()> {
-    let Some(name) = env::args(&rt)?.nth(1) else {
-        bail!("the word is a subject");
-    };
-    if !run(&rt, name.as_str())? {
-        bail!("no subject {name}");
+    match env::args(&rt)?.nth(1) {
+        Some(name) if run(&rt, name.as_str())? => Ok(()),
+        Some(name) => bail!("no subject {name}"),
+        None => bail!("the word is a subject"),
     }
-    Ok(())
 }

@@ -6,11 +6,11 @@ mod commands;
 mod host;
 mod lines;
 mod links;
+mod lists;
 mod made;
 mod messages;
 mod panel;
 mod pool;
-mod reports;
 mod screen;
 mod streams;
 mod terminal;
@@ -19,10 +19,9 @@ mod wire;
 mod world;
 
 use crate::talk::{Fault, Talk};
-use belief::{Belief, Present};
 use codes3270::Model;
 use host_core::Host;
-use reference::{AnyScreen, ReferenceBelief, ReferenceScreen};
+use reference::ReferenceScreen;
 use std::alloc::AllocError;
 use std::io::{self, BufRead, BufReader, Write};
 use term_core::Terminal;
@@ -38,7 +37,10 @@ fn take_all<S: Subject>(subject: &mut S, talk: &mut Talk<'_>) -> Result<(), Faul
     if !talk.take_vector()? {
         subject.take(talk)?;
     }
-    talk.end()
+    if talk.rest.is_empty() {
+        return Ok(());
+    }
+    Err(Fault::Needs("no more words"))
 }
 
 /// Does the command of a line, and puts the whole answer.
@@ -92,7 +94,7 @@ fn serve<S: Subject + Drop>(rt: &HostRuntime, mut subject: S) -> io::Result<bool
 pub(crate) fn run(rt: &HostRuntime, name: &str) -> io::Result<bool> {
     let alloc = rt.alloc();
     match name {
-        "belief" => serve(rt, Belief::<Present>::new()),
+        "belief" => serve(rt, belief::Belief::new()),
         "codes" => serve(rt, codes::Codes),
         "commands" => serve(rt, commands::Commands),
         "host" => serve(rt, None::<Host>),
@@ -100,9 +102,8 @@ pub(crate) fn run(rt: &HostRuntime, name: &str) -> io::Result<bool> {
         "messages" => serve(rt, messages::Messages::new()),
         "panel" => serve(rt, panel::Panels::new(alloc)),
         "pool" => serve(rt, pool::Pools { pool: None }),
-        "reference-belief" => serve(rt, Belief::<ReferenceBelief>::new()),
-        "reference-screen" => serve(rt, ReferenceScreen::blank(Model::M2)),
-        "reports" => serve(rt, reports::Reports),
+        "reference-belief" => serve(rt, lists::Lists::new()),
+        "reference-screen" => serve(rt, ReferenceScreen::blank()),
         "screen" => serve(rt, screen::Display::blank(Model::M2)),
         "streams" => serve(rt, streams::Streams),
         "terminal" => serve(rt, None::<Terminal>),

@@ -10,7 +10,7 @@
 //! see                all of this, the output, and the cells
 //! text; lines        the screen as text, with and without the line below it
 //! ```
-use crate::subjects::cells::{put_cells, put_screen};
+use crate::subjects::cells::{key, put_cells};
 use crate::subjects::made::Made;
 use crate::talk::{Fault, Talk};
 use codes3270::aid_byte;
@@ -27,36 +27,34 @@ fn connect(terminal: &mut Terminal, name: &str) -> Result<(), Fault> {
     }
 }
 
-fn press(talk: &mut Talk<'_>, terminal: &mut Terminal, key: Key) -> Result<(), AllocError> {
+fn press(talk: &mut Talk<'_>, terminal: &mut Terminal, key: Key) -> Result<(), Fault> {
     match terminal.press(key) {
-        Ok(Pressed::Done) => talk.done(Ok(())),
-        Ok(Pressed::Refused(refusal)) => writeln!(talk.answer, "refused {refusal}"),
-        Ok(Pressed::Send(aid)) => writeln!(talk.answer, "sends {:02X}", aid_byte(aid)),
-        Err(fault) => talk.done(Err(fault)),
+        Ok(Pressed::Refused(refusal)) => Ok(writeln!(talk.answer, "refused {refusal}")?),
+        Ok(Pressed::Send(aid)) => Ok(writeln!(talk.answer, "sends {:02X}", aid_byte(aid))?),
+        called => talk.done(called.map(|_| ())),
     }
 }
 
 /// Puts how far a terminal is with its host, and its screen without the cells.
-fn put_state(talk: &mut Talk<'_>, terminal: &Terminal) -> Result<(), AllocError> {
-    let (phase, lock) = (terminal.phase(), terminal.lock());
+fn put_state(talk: &mut Talk<'_>, terminal: &Terminal) -> Result<(), Fault> {
+    let (phase, lock, screen) = (terminal.phase(), terminal.lock(), terminal.screen());
     writeln!(talk.answer, "phase {phase}\nlock {lock}")?;
-    put_screen(talk.answer, terminal.screen())?;
+    writeln!(talk.answer, "size {:?}", screen.size())?;
+    writeln!(talk.answer, "cursor {}", screen.cursor().get())?;
+    writeln!(talk.answer, "aid {:02X}", aid_byte(screen.aid()))?;
     writeln!(talk.answer, "inserting {}", terminal.keyboard().inserting())?;
-    writeln!(talk.answer, "took-write {}", terminal.took_write())
+    Ok(writeln!(talk.answer, "took-write {}", terminal.took_write())?)
 }
 
 /// Puts all that is to be seen of a terminal.
-pub(crate) fn put_all(talk: &mut Talk<'_>, terminal: &Terminal) -> Result<(), AllocError> {
+pub(crate) fn put_all(talk: &mut Talk<'_>, terminal: &Terminal) -> Result<(), Fault> {
     put_state(talk, terminal)?;
     talk.name("out", terminal.out())?;
     put_cells(talk.answer, terminal.screen())
 }
 
 /// Puts a text, if there was memory for it.
-pub(crate) fn put_page(
-    talk: &mut Talk<'_>,
-    page: Result<String, AllocError>,
-) -> Result<(), AllocError> {
+pub(crate) fn put_page(talk: &mut Talk<'_>, page: Result<String, AllocError>) -> Result<(), Fault> {
     match page {
         Ok(text) => talk.text(text.as_str()),
         Err(fault) => talk.done(Err(fault)),
@@ -70,30 +68,30 @@ impl Made for Terminal {
 
     fn take(&mut self, word: &str, talk: &mut Talk<'_>) -> Result<(), Fault> {
         match word {
-            "connected" => connect(self, talk.rest())?,
+            "connected" => connect(self, talk.rest()),
             "feed" => {
-                let bytes = talk.all_bytes()?;
-                talk.line(&self.feed(bytes.as_slice()))?;
+                let bytes = talk.bytes()?;
+                talk.line(&self.feed(bytes.as_slice()))
             }
-            "key" => match Key::named(talk.word()?) {
-                Some(key) => press(talk, self, key)?,
-                None => return Err(Fault::Needs("a key")),
-            },
+            "key" => {
+                let key = key(talk)?;
+                press(talk, self, key)
+            }
             "type" => {
                 for letter in talk.rest().chars() {
                     press(talk, self, Key::Char(letter))?;
                 }
+                Ok(())
             }
-            "sent" => self.sent(talk.number::<usize>()?.min(self.out().len())),
-            "lost" => talk.name("unsent", self.lost().as_slice())?,
-            "restart" => self.restart(),
-            "out" => talk.name("out", self.out())?,
-            "state" => put_state(talk, self)?,
-            "see" => put_all(talk, self)?,
-            "text" => put_page(talk, self.screen_text(talk.alloc))?,
-            "lines" => put_page(talk, screen_lines(talk.alloc, self.screen()))?,
-            _ => return Err(Fault::Needs("a command for a terminal")),
+            "sent" => Ok(self.sent(talk.number::<usize>()?.min(self.out().len()))),
+            "lost" => talk.name("unsent", self.lost().as_slice()),
+            "restart" => Ok(self.restart()),
+            "out" => talk.name("out", self.out()),
+            "state" => put_state(talk, self),
+            "see" => put_all(talk, self),
+            "text" => put_page(talk, self.screen_text(talk.alloc)),
+            "lines" => put_page(talk, screen_lines(talk.alloc, self.screen())),
+            _ => Err(Fault::Needs("a command for a terminal")),
         }
-        Ok(())
     }
 }
