@@ -9,10 +9,11 @@ Reset, at a random time of the host's turn, and keys go on at once. Clear is rar
 host closes the connection then. When the host closes, s3270 connects again.
 
 A line for each example and model has the keys pressed, the turns and Read Buffers of the host, the
-Resets in the wait, the keys that the host dropped, and the closes by cause. For each
-close but by Clear the rule that was broken, the last keys, and the last two records of s3270 are
-XX With --light-pen, CursorSelect is one of the keys. Runs again only with the same keys:
-what falls into a wait depends on the machine.
+Resets in the wait, the keys that the host dropped, the rules that were broken, and how the
+connections ended. Of each close but by Clear in the wait it prints the rule or the cause, the last
+keys, and the last records up to what the host had received when it closed. With --light-pen,
+CursorSelect is one of the keys. The seed makes the keys; what falls into a wait depends on the
+machine.
 """
 import argparse
 import collections
@@ -33,11 +34,14 @@ sys.dont_write_bytecode = True
 sys.path.append(str(TOP / "tests"))
 
 from harness import bank, hosts  # noqa: E402
+from harness.case import Difference  # noqa: E402
 from suites.s3270_waits import SIZES, Operator, Proxy  # noqa: E402
 
 DELAY = 0.008  # seconds from an end to the other
 TURN = 5 * DELAY  # a key's record, Read Buffer, its answer, a write; and a bit more
 CLEAR, READ, EOR, SE = b"\x6d", b"\xf2", b"\xff\xef", b"\xff\xf0"
+ERASES = (b"\xf5", b"\x7e")  # Erase/Write, and Erase/Write Alternate
+LAST = 16  # how many records are printed
 SENDS = ["Enter"] * 8 + [f"PF({it})" for it in range(1, 25)] + [f"PA({it})" for it in (1, 2, 3)] * 2
 MOVES = ["Tab", "BackTab", "Home", "Up", "Down", "Left", "Right", "Newline", "Left2", "Right2"]
 EDITS = ["EraseEOF", "EraseInput", "Delete", "Insert", "BackSpace", "Erase", "Dup", "FieldMark"]
@@ -71,15 +75,19 @@ class Play:
 
 
 class Tap:
-    """Keeps the records that pass to `put`, which takes a piece with its time, or to `sendall`."""
+    """Keeps the records that pass to `put`, which takes a piece with its time, or to `sendall`,
+    each with the number of bytes that had passed by its end."""
 
     def __init__(self, to, way, records):
-        self.to, self.way, self.records, self.rest = to, way, records, b""
+        self.to, self.way, self.records, self.rest, self.count = to, way, records, b"", 0
 
     def passes(self, piece):
-        *whole, self.rest = (self.rest + piece).replace(hosts.NOP, b"").split(EOR)
-        # What is behind the negotiation.
-        self.records += [(self.way, it.rpartition(SE)[2]) for it in whole]
+        *whole, self.rest = (self.rest + piece).split(EOR)
+        for it in whole:
+            self.count += len(it + EOR)
+            # What is behind the negotiation.
+            record = it.rpartition(SE)[2].replace(hosts.NOP, b"")
+            self.records.append((self.way, self.count, record))
 
     def put(self, piece):
         self.passes(piece[1])
@@ -95,18 +103,36 @@ class Tap:
 
 class Recorder(Proxy):
     """A proxy that keeps the records that passed, with their headers, in the order in which the
-    host took and sent them."""
+    host was sent them and sent them."""
 
     def __init__(self, port):
         self.records = []
         super().__init__(port)
         self.delay = DELAY
 
+    def heard(self, received):
+        """The way and the bytes of the last records, those up to so many bytes that the host
+        received."""
+        return [
+            (way, it) for way, count, it in self.records if way == "down" or count <= received
+        ][-LAST:]
+
     def takes(self, way, one, pieces):
         super().takes(way, one, Tap(pieces, way, self.records) if way == "down" else pieces)
 
     def hands_on(self, way, other, pieces):
         super().hands_on(way, Tap(other, way, self.records) if way == "up" else other, pieces)
+
+
+def is_clear_in_the_wait(heard):
+    """Whether Clear is one of the last records that a host heard, or it had sent a command before
+    it heard Clear: else its next command erases."""
+    clears = [way == "up" and it[5:] == CLEAR for way, it in heard]
+    if not any(clears):
+        return False
+    later = heard[len(clears) - clears[::-1].index(True) :]
+    commands = [it[5:6] for way, it in later if way == "down"]
+    return len(later) < 3 or bool(commands) and commands[0] not in ERASES
 
 
 class Player(Operator):
@@ -127,7 +153,7 @@ class Player(Operator):
         while lines[-1] not in ("ok\n", "error\n", ""):
             lines.append(self.process.stdout.readline())
         if not lines[-1]:
-            sys.exit("s3270 ended")
+            raise Difference("s3270 goes on", f"it ended after {self.pressed[-10:]}")
         words = lines[-2].split()
         return words[0], words[3] != "N"
 
@@ -142,7 +168,7 @@ class Player(Operator):
 
     def was_closed(self):
         """Counts why, and connects again."""
-        self.play.reads += sum(it[5:] == READ for _, it in self.proxy.records)
+        self.play.reads += sum(it[5:] == READ for _, _, it in self.proxy.records)
         hosts.until("the log has the end", self.reads_the_log)
         self.proxy, self.pressed = Recorder(self.host.port), []
         self.does(f"Connect(127.0.0.1:{self.proxy.port})", "Wait(10,InputField)")
@@ -151,19 +177,20 @@ class Player(Operator):
         """Whether there is a new line of a connection's end."""
         log = os.pread(self.host.log.fileno(), 1 << 24, self.play.seen)
         new = log[: log.rfind(b"\n") + 1].decode()
-        found = re.findall(r"event=(closed cause=\w+|lost)", new)
-        if found:
+        end = re.search(r"event=(closed cause=(\w+)|lost).*received=(\d+)", new)
+        if end:
             self.play.seen += len(new)
-            last = self.proxy.records[-10:]
-            broken = re.findall(r"event=rule-broken (rule=\w+ cell=\d+)", new)
-            ends = [it.removeprefix("closed cause=") for it in found]
-            # The host closes if Clear is pressed in the wait.
-            if ends == ["BadInbound"] and any(it[5:] == CLEAR for _, it in last[-4:]):
-                ends = ["Clear"]
-            self.play.ends.update(ends)
-            if ends != ["Clear"] and ends != ["lost"]:
-                self.play.breaks.append((*broken, *ends, self.pressed[-40:], last))
-        return bool(found)
+            broken = re.search(r"event=rule-broken (rule=\w+ cell=\d+)", new)
+            self.ended(end[2] or "lost", broken and broken[1], self.proxy.heard(int(end[3])))
+        return bool(end)
+
+    def ended(self, cause, broken, heard):
+        """Counts an end, and keeps what led to it unless that is Clear in the wait."""
+        if cause == "BadInbound" and is_clear_in_the_wait(heard):
+            cause = "Clear"
+        self.play.ends[cause] += 1
+        if cause not in ("Clear", "lost"):
+            self.play.breaks.append((broken or cause, self.pressed[-40:], heard))
 
     def waits(self):
         """Ends the wait after a key that sends: by Reset, or as the host does."""
@@ -201,7 +228,7 @@ class Player(Operator):
         self.was_closed_last()
 
     def was_closed_last(self):
-        self.play.reads += sum(it[5:] == READ for _, it in self.proxy.records)
+        self.play.reads += sum(it[5:] == READ for _, _, it in self.proxy.records)
         hosts.until("the log has the end", self.reads_the_log)
 
 
@@ -249,16 +276,16 @@ def shown(name, model, play):
         f"{counts[1]:>6} {counts[2]:>6}  {ends}",
         flush=True,
     )
-    for *why, pressed, records in play.breaks:
-        print(f"  {' '.join(why)}\n    keys: {' '.join(pressed)}")
+    for why, pressed, records in play.breaks:
+        print(f"  {why}\n    keys: {' '.join(pressed)}")
         for way, it in records:
             print(f"    {way:4} {spelt(it)}", flush=True)
 
 
 def arguments():
-    words = argparse.ArgumentParser(description="Plays random keys on s3270 against serve --verify.")
+    words = argparse.ArgumentParser(description="Plays random keys at serve --verify on s3270.")
     words.add_argument("program", help="the path of panel3270")
-    words.add_argument("examples", nargs="*", help="names of panel texts in examples/ [default: all]")
+    words.add_argument("examples", nargs="*", help="panel texts of examples/ [default: all]")
     words.add_argument("--keys", type=int, default=10000, help="for each model [default: 10000]")
     words.add_argument("--seed", type=int, default=1, help="of the random keys [default: 1]")
     words.add_argument("--jobs", type=int, default=4, help="how many run at once [default: 4]")
@@ -271,7 +298,8 @@ def main():
     os.environ["PANEL3270"] = given.program
     names = given.examples or sorted(it.stem for it in (TOP / "examples").glob("*.toml"))
     plays = [(name, model) for name in names for model in SIZES]
-    print(f"seed {given.seed}\nexample    M   keys  turns  reads resets dropped breaks  ends", flush=True)
+    print(f"seed {given.seed}")
+    print("example    M   keys  turns  reads resets dropped breaks  ends", flush=True)
     with concurrent.futures.ThreadPoolExecutor(given.jobs) as pool:
         running = [pool.submit(played, given, *it) for it in plays]
         for it, (name, model) in zip(running, plays):
