@@ -40,12 +40,16 @@ def if_any(text: str, value: str | None) -> str:
     return "" if value is None else text.format(value)
 
 
+# Which terminals connect, by the variant of `Terminals`.
+TERMINALS = {"Any": "", "Waiting": ", own terminals", "Verified": ", verified terminals"}
+
+
 def serve(job: dict) -> str:
     service, application, limits = job["service"], job["application"], job["service"]["limits"]
     seconds = f"{limits['negotiate']} {limits['keepalive']} {limits['idle']} seconds"
     text = f"serve at {service['listen']} {service['port']}, {seconds}"
     text += if_any(", metrics at {}", service["metrics"])
-    text += ", own terminals" if service["terminals"] == "Waiting" else ""
+    text += TERMINALS[service["terminals"]]
     text += ", quiet" if service["quiet"] == "true" else ""
     limit = f", application [{{}}] in {application['reply_time']} seconds"
     text += if_any(limit, application["url"])

@@ -8,12 +8,15 @@ from harness.case import Checks, Difference, expect
 from harness.hosts import (
     DEVICE_IN_USE,
     DO,
+    ENTER,
     FIRST_WRITE,
     GET,
     LOCALHOST,
     MOST_CONNECTIONS,
+    NEXT_WRITE,
     NOP,
     PATIENCE,
+    event,
     free_port,
     metered,
     panels,
@@ -183,6 +186,56 @@ def metrics_count_who_is_dropped():
         host.client().hears_the_end()
         sent = sum(it.received for it in many)
         has_counted(host, now=MOST_CONNECTIONS, total=MOST_CONNECTIONS, turned_away=1, sent=sent)
+
+
+# What answers Read Buffer behind Enter with an A in the field, behind its number: the AID, the
+# cursor, and each cell. The field's attribute is at 166, the others are at 175 and 1840.
+SCREEN = "7D C2 E8" + "00" * 166 + "1D C1 C1" + "00" * 7 + "1D F0" + "00" * 1664
+SCREEN = bytes.fromhex(SCREEN + "1D F8" + "00" * 79 + "FF EF")
+# By the rule that it shows to be broken, and the cell: what is changed there. The field has MDT
+# off; the attribute behind it has MDT on; a character is where nothing was written.
+BROKEN = {
+    "sends cell=166": (b"\x1d\xc1", b"\x1d\x40"),
+    "edits cell=175": (b"\x1d\xf0", b"\x1d\xf1"),
+    "applies cell=1840": (b"\x1d\xf8\x00", b"\x1d\xf8\xe7"),
+}
+
+
+@check
+def broken_rules_are_logged_and_counted():
+    """With --verify the host reads the screen after Enter. A terminal that broke no rule is shown
+    the panel; one that broke a rule is closed, and the log names the rule and the cell."""
+    with metered("--verify") as host:
+        clients, events = [], []
+        for broken, (one, other) in {"": (b"", b""), **BROKEN}.items():
+            client = host.client().signs_on("PNL01")
+            client.says(bytes(5), ENTER)
+            client.hears(bytes.fromhex("00 00 01 00 01 F2 FF EF"))
+            client.says(bytes.fromhex("00 00 00 00 01"), SCREEN.replace(one, other))
+            logged = ["connected", "bound lu=PNL01"]
+            if broken:
+                client.hears_the_end()
+                logged += [
+                    f"rule-broken rule={broken}", "closed cause=RuleBroken number=10 turns=0"
+                ]
+            else:
+                client.hears(b"\x00\x00\x02\x00\x02", NEXT_WRITE)
+                client.ends()
+                logged.append("lost turns=1")
+            clients.append(client)
+            events += [event(0, client, it) for it in logged]
+            host.has_logged(*events)
+        has_counted(
+            host,
+            total=4,
+            lost=1,
+            closed=("RuleBroken",) * 3,
+            broken=3,
+            turns=1,
+            paints=5,
+            whole=5 * len(FIRST_WRITE),
+            **all_read(*clients),
+        )
 
 
 @check

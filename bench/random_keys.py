@@ -1,0 +1,310 @@
+#!/usr/bin/env python3
+"""Plays random keys on s3270 against `serve --verify`, and prints the rules that s3270 broke.
+
+    bench/random_keys.py [--keys N] [--seed S] [--jobs N] [--light-pen] PROGRAM [EXAMPLE ..]
+
+Serves each panel text of examples/, with its application if it has one, to s3270 of each model,
+through a proxy that delays what passes. Half of the waits after a key that sends are ended by
+Reset, at a random time of the host's turn, and keys go on at once. Clear is rare there, since the
+host closes the connection then. When the host closes, s3270 connects again.
+
+A line for each example and model has the keys pressed, the turns and Read Buffers of the host, the
+Resets in the wait, the keys that the host dropped, the rules that were broken, and how the
+connections ended. Of each close but by Clear in the wait it prints the rule or the cause, the last
+keys, and the last records up to what the host had received when it closed. With --light-pen,
+CursorSelect is one of the keys. The seed makes the keys; what falls into a wait depends on the
+machine.
+"""
+import argparse
+import collections
+import concurrent.futures
+import contextlib
+import dataclasses
+import os
+import pathlib
+import random
+import re
+import subprocess
+import sys
+import tempfile
+import time
+
+TOP = pathlib.Path(__file__).resolve().parent.parent
+sys.dont_write_bytecode = True
+sys.path.append(str(TOP / "tests"))
+
+from harness import bank, hosts  # noqa: E402
+from harness.case import Difference  # noqa: E402
+from suites.s3270_waits import SIZES, Operator, Proxy  # noqa: E402
+
+DELAY = 0.008  # seconds from an end to the other
+TURN = 5 * DELAY  # a key's record, Read Buffer, its answer, a write; and a bit more
+CLEAR, READ, EOR, SE = b"\x6d", b"\xf2", b"\xff\xef", b"\xff\xf0"
+ERASES = (b"\xf5", b"\x7e")  # Erase/Write, and Erase/Write Alternate
+LAST = 16  # how many records are printed
+SENDS = ["Enter"] * 8 + [f"PF({it})" for it in range(1, 25)] + [f"PA({it})" for it in (1, 2, 3)] * 2
+MOVES = ["Tab", "BackTab", "Home", "Up", "Down", "Left", "Right", "Newline", "Left2", "Right2"]
+EDITS = ["EraseEOF", "EraseInput", "Delete", "Insert", "BackSpace", "Erase", "Dup", "FieldMark"]
+LETTERS = [f"Key({it})" for it in "ABCXYZabcxyz0123456789"] + ["Key(period)"]
+# What brings an operator to the panels behind the first.
+WORDS = {
+    "bank-asks": [
+        ["Home", "EraseInput", 'String("4711")', "Tab", 'String("SECRET")', "Enter"],
+        *(["Home", f"Key({it})", "Enter"] for it in (1, 2, 3)),
+        ["Home", 'String("1000200030")', 'String("1000200044")', 'String("1.50")', "Enter"],
+    ],
+    "bank": [
+        ["Home", 'String("123456")', 'String("SECRET")', "Tab", "Enter"],
+        ["Home", 'String("1000200030")', 'String("1000200044")', 'String("1.50")', "Enter"],
+    ],
+    "airline": [["Home", 'String("7700ZRHLIS051226")', "Enter"], ["Home", "Key(X)", "Enter"]],
+}
+
+
+@dataclasses.dataclass
+class Play:
+    """What happened on an example at a model."""
+
+    keys: int = 0
+    reads: int = 0
+    resets: int = 0
+    seen: int = 0
+    counted: dict = dataclasses.field(default_factory=dict)
+    ends: collections.Counter = dataclasses.field(default_factory=collections.Counter)
+    breaks: list = dataclasses.field(default_factory=list)
+
+
+class Tap:
+    """Keeps the records that pass to `put`, which takes a piece with its time, or to `sendall`,
+    each with the number of bytes that had passed by its end."""
+
+    def __init__(self, to, way, records):
+        self.to, self.way, self.records, self.rest, self.count = to, way, records, b"", 0
+
+    def passes(self, piece):
+        *whole, self.rest = (self.rest + piece).split(EOR)
+        for it in whole:
+            self.count += len(it + EOR)
+            # What is behind the negotiation.
+            record = it.rpartition(SE)[2].replace(hosts.NOP, b"")
+            self.records.append((self.way, self.count, record))
+
+    def put(self, piece):
+        self.passes(piece[1])
+        self.to.put(piece)
+
+    def sendall(self, piece):
+        self.passes(piece)
+        self.to.sendall(piece)
+
+    def shutdown(self, how):
+        self.to.shutdown(how)
+
+
+class Recorder(Proxy):
+    """A proxy that keeps the records that passed, with their headers, in the order in which the
+    host was sent them and sent them."""
+
+    def __init__(self, port):
+        self.records = []
+        super().__init__(port)
+        self.delay = DELAY
+
+    def heard(self, received):
+        """The way and the bytes of the last records, those up to so many bytes that the host
+        received."""
+        return [
+            (way, it) for way, count, it in self.records if way == "down" or count <= received
+        ][-LAST:]
+
+    def takes(self, way, one, pieces):
+        super().takes(way, one, Tap(pieces, way, self.records) if way == "down" else pieces)
+
+    def hands_on(self, way, other, pieces):
+        super().hands_on(way, Tap(other, way, self.records) if way == "up" else other, pieces)
+
+
+def is_clear_in_the_wait(heard):
+    """Whether Clear is one of the last records that a host heard, or it had sent a command before
+    it heard Clear: else its next command erases."""
+    clears = [way == "up" and it[5:] == CLEAR for way, it in heard]
+    if not any(clears):
+        return False
+    later = heard[len(clears) - clears[::-1].index(True) :]
+    commands = [it[5:6] for way, it in later if way == "down"]
+    return len(later) < 3 or bool(commands) and commands[0] not in ERASES
+
+
+class Player(Operator):
+    """An s3270 that plays random keys."""
+
+    def __init__(self, model, host, play, chance, name, light_pen):
+        self.host, self.play, self.chance, self.pressed = host, play, chance, []
+        self.words = WORDS.get(name, [])
+        self.edits = [*EDITS, *(["CursorSelect"] * 2 if light_pen else [])]
+        super().__init__(model, Recorder(host.port))
+
+    def tries(self, action):
+        """The state of the keyboard: U, L while the host is awaited, or E; and whether s3270 is
+        connected."""
+        self.process.stdin.write(action + "\n")
+        self.process.stdin.flush()
+        lines = [self.process.stdout.readline()]
+        while lines[-1] not in ("ok\n", "error\n", ""):
+            lines.append(self.process.stdout.readline())
+        if not lines[-1]:
+            raise Difference("s3270 goes on", f"it ended after {self.pressed[-10:]}")
+        words = lines[-2].split()
+        return words[0], words[3] != "N"
+
+    def presses(self, key):
+        """Presses a key; if the connection is over, connects again."""
+        self.pressed.append(key)
+        self.play.keys += 1
+        state, is_connected = self.tries(key)
+        if not is_connected:
+            self.was_closed()
+        return state
+
+    def was_closed(self):
+        """Counts why, and connects again."""
+        self.play.reads += sum(it[5:] == READ for _, _, it in self.proxy.records)
+        hosts.until("the log has the end", self.reads_the_log)
+        self.proxy, self.pressed = Recorder(self.host.port), []
+        self.does(f"Connect(127.0.0.1:{self.proxy.port})", "Wait(10,InputField)")
+
+    def reads_the_log(self):
+        """Whether there is a new line of a connection's end."""
+        log = os.pread(self.host.log.fileno(), 1 << 24, self.play.seen)
+        new = log[: log.rfind(b"\n") + 1].decode()
+        end = re.search(r"event=(closed cause=(\w+)|lost).*received=(\d+)", new)
+        if end:
+            self.play.seen += len(new)
+            broken = re.search(r"event=rule-broken (rule=\w+ cell=\d+)", new)
+            self.ended(end[2] or "lost", broken and broken[1], self.proxy.heard(int(end[3])))
+        return bool(end)
+
+    def ended(self, cause, broken, heard):
+        """Counts an end, and keeps what led to it unless that is Clear in the wait."""
+        if cause == "BadInbound" and is_clear_in_the_wait(heard):
+            cause = "Clear"
+        self.play.ends[cause] += 1
+        if cause not in ("Clear", "lost"):
+            self.play.breaks.append((broken or cause, self.pressed[-40:], heard))
+
+    def waits(self):
+        """Ends the wait after a key that sends: by Reset, or as the host does."""
+        if self.chance.random() < 0.5:
+            time.sleep(self.chance.random() * TURN)
+            state, _ = self.tries("Query(LuName)")
+            self.play.resets += state == "L"
+            self.presses("Reset")
+        elif not self.tries("Wait(5,Unlock)")[1]:
+            self.was_closed()
+
+    def next_keys(self):
+        number = self.chance.random()
+        if number < 0.15:
+            return [self.chance.choice(SENDS)]
+        if number < 0.18 and self.words:
+            return self.chance.choice(self.words)
+        if number < 0.185:
+            return ["Clear"]
+        kind = LETTERS if number < 0.55 else MOVES if number < 0.8 else self.edits
+        return [self.chance.choice(kind)]
+
+    def plays(self, keys):
+        while self.play.keys < keys:
+            for key in self.next_keys():
+                state = self.presses(key)
+                if key in SENDS or key == "Clear":
+                    self.waits()
+                elif state == "E":
+                    self.presses("Reset")
+            if self.chance.random() < 0.1:
+                time.sleep(self.chance.random() * DELAY)
+        self.proxy.settles()
+        self.tries("Disconnect")
+        self.was_closed_last()
+
+    def was_closed_last(self):
+        self.play.reads += sum(it[5:] == READ for _, _, it in self.proxy.records)
+        hosts.until("the log has the end", self.reads_the_log)
+
+
+@contextlib.contextmanager
+def application_of(name):
+    """The words of `serve` for an example's application."""
+    if name == "bank-asks":
+        with tempfile.TemporaryDirectory() as folder, bank.Application(f"{folder}/db") as it:
+            yield ["--application", it.url]
+    elif name == "greeting":
+        port = hosts.free_port()
+        text = (TOP / "examples/greeting.py").read_text().replace("8080", str(port))
+        with subprocess.Popen([sys.executable, "-c", text], stderr=subprocess.DEVNULL) as it:
+            hosts.until("the application listens", lambda: bank.is_listening(port))
+            yield ["--application", f"http://127.0.0.1:{port}/"]
+            it.kill()
+    else:
+        yield []
+
+
+def played(given, name, model):
+    """What happens on an example at a model."""
+    play, chance = Play(), random.Random(f"{given.seed} {name} {model}")
+    text = (TOP / f"examples/{name}.toml").read_bytes()
+    with application_of(name) as words, hosts.metered("--verify", *words, text=text) as host:
+        with Player(model, host, play, chance, name, given.light_pen) as player:
+            player.plays(given.keys)
+        page = hosts.scraped(host.metrics, hosts.GET).decode()
+        play.counted = dict(re.findall(r"(?m)^panel3270_(\w+) (\d+)$", page))
+    return play
+
+
+def spelt(record):
+    """A record in hexadecimal; 00*5 are five nulls."""
+    text = record.hex(" ").upper()
+    return re.sub(r"00(?: 00){3,}", lambda it: f"00*{len(it[0]) // 3 + 1}", text)
+
+
+def shown(name, model, play):
+    """The line of a play, and a paragraph for each rule that was broken."""
+    ends = " ".join(f"{it}:{count}" for it, count in sorted(play.ends.items()))
+    counts = [play.counted[f"{it}_total"] for it in ("turns", "dropped_keys", "rule_breaks")]
+    print(
+        f"{name:10} {model} {play.keys:6} {counts[0]:>6} {play.reads:6} {play.resets:6} "
+        f"{counts[1]:>6} {counts[2]:>6}  {ends}",
+        flush=True,
+    )
+    for why, pressed, records in play.breaks:
+        print(f"  {why}\n    keys: {' '.join(pressed)}")
+        for way, it in records:
+            print(f"    {way:4} {spelt(it)}", flush=True)
+
+
+def arguments():
+    words = argparse.ArgumentParser(description="Plays random keys at serve --verify on s3270.")
+    words.add_argument("program", help="the path of panel3270")
+    words.add_argument("examples", nargs="*", help="panel texts of examples/ [default: all]")
+    words.add_argument("--keys", type=int, default=10000, help="for each model [default: 10000]")
+    words.add_argument("--seed", type=int, default=1, help="of the random keys [default: 1]")
+    words.add_argument("--jobs", type=int, default=4, help="how many run at once [default: 4]")
+    words.add_argument("--light-pen", action="store_true", help="CursorSelect is one of the keys")
+    return words.parse_args()
+
+
+def main():
+    given = arguments()
+    os.environ["PANEL3270"] = given.program
+    names = given.examples or sorted(it.stem for it in (TOP / "examples").glob("*.toml"))
+    plays = [(name, model) for name in names for model in SIZES]
+    print(f"seed {given.seed}")
+    print("example    M   keys  turns  reads resets dropped breaks  ends", flush=True)
+    with concurrent.futures.ThreadPoolExecutor(given.jobs) as pool:
+        running = [pool.submit(played, given, *it) for it in plays]
+        for it, (name, model) in zip(running, plays):
+            shown(name, model, it.result())
+
+
+if __name__ == "__main__":
+    main()
