@@ -2,7 +2,8 @@
 //!
 //! It does no job. [`words`] makes a [`Job`](jobs::Job) of the arguments, by clap. [`refusal_of`] says what is wrong
 //! with words that give none, and [`run_help`] prints the help of a topic. `specs/Topics` has each job's options,
-//! `Words` which arguments give which job, `Refusals` what is printed for others, and `Helps` the help.
+//! `Words` which arguments give which job, `Refusals` and `Helps` how the others and a run of help end. Texts have no
+//! definitions: cases compare them.
 #![tactic(auto)]
 
 mod command_line;
