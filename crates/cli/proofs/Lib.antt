@@ -1,2 +1,1 @@
-pub mod WordWalk
 pub mod ClapJobs
