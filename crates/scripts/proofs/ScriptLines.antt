@@ -1,5 +1,5 @@
 -- Lines of scripts: the numbers that a parse gives, codes one character more at a time, and words.
-use Rattle.std.proofs.Common.{◌≡◌, refl, sym, ap, ◌∙◌, arith, ℕ, ◌+◌, ◌<◌, ◌&&◌, ◌++◌, Bool, not, if◌then◌else◌, List, [], ◌∷◌, length, append_assoc, append-nil, length-append, Option, None, Some, option_and_then, lt-ltb, chars}
+use Rattle.std.proofs.Common.{◌≡◌, refl, sym, ap, ◌∙◌, arith, ℕ, ◌<◌, ◌&&◌, ◌++◌, Bool, not, if◌then◌else◌, List, [], ◌∷◌, length, append_assoc, append-nil, length-append, Option, None, Some, option_and_then, lt-ltb, chars}
 use Rattle.std.specs.List.{list_all}
 use Rattle.codes3270.specs.CodePage.{code_of}
 use Rattle.host_core.specs.Notes.{longest_note, is_graphic}

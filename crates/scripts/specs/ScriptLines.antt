@@ -1,10 +1,9 @@
 -- The commands of a script as text (our profile). A line is words with one blank between each two: a verb, then the number of a
 -- terminal or a connection, then the verb's operand.
-use Rattle.std.specs.Prelude.{ℕ, ◌-◌, List, [], ◌∷◌, Option, Some, None, if◌then◌else◌, bytes_eq, codes, chars}
+use Rattle.std.specs.Prelude.{ℕ, List, [], ◌∷◌, Option, Some, None, if◌then◌else◌, bytes_eq, codes, chars}
 use Rattle.std.specs.Option.{option_and_then, option_map}
 use Rattle.codes3270.specs.CodePage.{code_of}
 use Rattle.keyboard.specs.KeyNames.{key_named}
-use Rattle.presentation.specs.Glyph.{blank}
 use Rattle.tn3270e_msg.specs.Lu.{lu_of}
 use Rattle.world3270.specs.NoteTexts.{note_text}
 use Rattle.world3270.specs.declared.event.Event.TheVariants.{Key, Up, Down, Act, Note, Lose, HostSees, TermSees, Connect, RestartTerm, RestartHost}
