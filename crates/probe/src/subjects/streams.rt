@@ -52,7 +52,7 @@ impl Write for Stream<'_> {
     }
 }
 
-fn stream(alloc: Global, words: &str, waits: bool) -> Stream<'_> {
+fn stream_of(alloc: Global, words: &str, waits: bool) -> Stream<'_> {
     Stream {
         alloc,
         words,
@@ -87,12 +87,12 @@ impl Subject for Streams {
         };
         let (alloc, turns) = (talk.alloc, talk.number()?);
         let (came, typed) = talk.rest().split_once(" / ").unwrap_or(("", ""));
-        let keys = CountedReader::new(stream(alloc, typed, false));
-        let tty = CountedWriter::new(stream(alloc, "", false));
+        let keys = CountedReader::new(stream_of(alloc, typed, false));
+        let tty = CountedWriter::new(stream_of(alloc, "", false));
         let Ok(mut session) = Session::new(alloc, Model::M2, keys, tty) else {
             return Err(Fault::NoMemory(AllocError));
         };
-        match take_turns(alloc, &mut session, stream(alloc, came, true), turns) {
+        match take_turns(alloc, &mut session, stream_of(alloc, came, true), turns) {
             Ok(()) => writeln!(talk.answer, "asked {}", session.take_asked() as u8)?,
             Err(fault) => writeln!(talk.answer, "{fault}")?,
         }
