@@ -1,5 +1,5 @@
 -- What a session makes of a read of its connection.
-use Rattle.std.proofs.Common.{◌≡◌, refl, subst, sym, ℕ, List, take, Result}
+use Rattle.std.proofs.Common.{◌≡◌, refl, subst, ℕ, List, take, Result}
 use Rattle.std.specs.declared.io.Error.{Error}
 use Rattle.host_core.specs.Serves.{bytes_got}
 use Rattle.host_core.specs.declared.links.LinkRead.{LinkRead}

@@ -8,7 +8,7 @@ use Rattle.keyboard.specs.declared.key.Pressed.TheVariants as pressed
 use Rattle.keyboard.specs.declared.key.Refusal.{Refusal}
 use Rattle.keyboard.specs.declared.key.Refusal.TheVariants as refusal
 use Rattle.term_core.specs.Presses.{after_key, answer_to_key}
-use Rattle.term_core.specs.State.{Terminal, connected, lost, model_of, new_terminal, phase_of}
+use Rattle.term_core.specs.State.{Terminal, new_terminal, phase_of}
 use Rattle.term_core.specs.declared.phase.TermPhase.{TermPhase}
 use Rattle.term_core.specs.declared.phase.TermPhase.TheVariants as phase
 use Rattle.codes3270.specs.declared.size.Model.{Model}
