@@ -65,7 +65,7 @@ def plainly(answer: list[str]) -> list[str]:
     text = "\n".join(answer)
     for pattern, said in SPELLINGS:
         text = pattern.sub(said, text)
-    return text.split("\n")
+    return text.split("\n") if answer else []
 
 
 # A step of a case: does what a line says with what the case speaks of.
