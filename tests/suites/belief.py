@@ -55,10 +55,7 @@ class Belief:
     def silent(self, line: Line, words: list[str]) -> None:
         same("", self.ask(line.text, line), line.at)
 
-    do_new = do_want = do_aim = silent
-
-    def do_put(self, line: Line, words: list[str]) -> None:
-        same("", self.ask(f"put {' '.join(tokens(' '.join(words)))}", line), line.at)
+    do_new = do_want = do_put = do_aim = silent
 
     def do_take(self, line: Line, words: list[str]) -> None:
         same("Ok(true)", self.ask(line.text, line), line.at)
@@ -73,8 +70,7 @@ class Belief:
         same(f"Err({words[0]})", self.ask(f"hear {' '.join(words[1:])}", line), line.at)
 
     def do_size(self, line: Line, words: list[str]) -> None:
-        (size,) = plainly([self.ask("size", line)])
-        same(line.text, f"size {size}", line.at)
+        same(line.text, f"size {self.ask('size', line)}", line.at)
 
     def place(self, line: Line, words: list[str]) -> list[str]:
         """What is believed at an address: a fact, the cell, and the text, in one walk and by its

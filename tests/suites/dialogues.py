@@ -14,14 +14,12 @@ ignored:
 """
 import dataclasses
 import functools
-import re
 from collections.abc import Callable, Iterator
 
 from harness.case import CASES, BadCase, Case, Difference, same
 from harness.data import Line, lines_of, panel_text
 from harness.probe import Probe
 from harness.sights import cells_of, parts_of, plain, spelt
-from harness.tables import named
 
 PARTS = 3
 HEADINGS = {
@@ -295,11 +293,7 @@ class Host(Subject):
 
     def do_broken(self, words: str) -> None:
         conn, wanted = self.split(words)
-        broken = re.match(
-            r"Some\(RuleBreak { rule: (\w+), cell: (\d+) }\)",
-            self.ask(f"broken {conn}")[0],
-        )
-        self.expect(wanted, " ".join(broken.groups()) if broken else "none")
+        self.expect([wanted], self.ask(f"broken {conn}"))
 
     def do_deaf(self, words: str) -> None:
         conn, why = self.split(words)
@@ -339,12 +333,11 @@ class Host(Subject):
 
     def do_rejected(self, words: str) -> None:
         conn, wanted = self.split(words)
-        rejected = named("".join(self.ask(f"rejected {conn}"))) or "none"
-        self.expect(wanted, re.sub(r"^None |Some\((.*)\)", r"\1", rejected))
+        self.expect([wanted], self.ask(f"rejected {conn}"))
 
     def do_dropped(self, words: str) -> None:
         conn, wanted = self.split(words)
-        self.expect([wanted], self.ask(f"dropped {conn}") or ["none"])
+        self.expect([wanted], self.ask(f"dropped {conn}"))
 
     def do_phase(self, words: str) -> None:
         self.expect_state("phase", words)

@@ -14,7 +14,6 @@ import re
 from collections.abc import Callable, Iterator
 
 from harness.case import CASES, Case, of_function, same
-from harness.cells import text_of
 from harness.data import Line, lines_of
 from harness.debug import variant
 from harness.probe import Probe
@@ -81,7 +80,7 @@ JOBS: dict[str, Callable[[dict], str]] = {
 
 def job(answer: list[str]) -> str:
     """A job in the words of a case."""
-    name, parts = variant(re.fullmatch(r"(?:Ok|Err)\((.*)\)", answer[0])[1])
+    name, parts = variant(answer[0])
     return JOBS[name](parts) if name in JOBS else name.lower()
 
 
@@ -91,9 +90,9 @@ def script(answer: list[str], text: str) -> str:
     if first.startswith(("type ", "answer ")):
         typed = probe().ask(f"typed {hexadecimal(text)}")
         return f"{first} [{typed[0]}]"
-    if note := re.fullmatch(r"note (\d+) \[(.*)\]", first):
-        return f"note {note[1]} [{text_of(note[2]).replace('-', '')}]"
-    return " ".join([first, *more])
+    if note := re.fullmatch(r"note (\d+) text (\S+)", first):
+        return f"note {note[1]} [{note[2].replace('-', '')}]"
+    return " ".join([first, *(it.removeprefix("lu ") for it in more)])
 
 
 def check_line(line: Line) -> None:

@@ -24,7 +24,6 @@ The steps of a case:
 """
 import dataclasses
 import functools
-import re
 from collections.abc import Iterator
 
 from harness.case import CASES, TOP, Case, of_function, same
@@ -63,7 +62,7 @@ class Panels:
         self.probe, self.texts, self.panel, self.screen = Probe("panel"), texts, "0", None
 
     def ask(self, command: str, line: Line) -> list[str]:
-        return plainly(self.probe.ask(command, line.at))
+        return self.probe.ask(command, line.at)
 
     def done(self) -> None:
         """Compares the screen whose items were read."""
@@ -95,19 +94,19 @@ class Panels:
         return (self.texts.get(name) or file.read_text()).encode().hex()
 
     def do_read(self, line: Line, words: list[str]) -> None:
-        self.read = said(self.probe.ask(f"read {self.text(words[0], line)}", line.at))
+        self.read = self.ask(f"read {self.text(words[0], line)}", line)
         same("start", self.read[0].split()[0], line.at)
 
     def do_fault(self, line: Line, words: list[str]) -> None:
         same(
             [f"fault {' '.join(words[1:])}"],
-            self.probe.ask(f"read {self.text(words[0], line)}", line.at),
+            self.ask(f"read {self.text(words[0], line)}", line),
             line.at,
         )
 
     def do_has(self, line: Line, words: list[str]) -> None:
         same([" ".join(words)], self.read, line.at)
-        same([], self.ask(f"panel {words[3]}", line), line.at)
+        same(["none"], self.ask(f"panel {words[3]}", line), line.at)
 
     def do_lus(self, line: Line, words: list[str]) -> None:
         same(int(words[0]), len(self.read[0].partition(" lus ")[2].split()), line.at)
@@ -140,20 +139,21 @@ class Panels:
     def do_leads(self, line: Line, words: list[str]) -> None:
         place, _, keys = " ".join(words).partition(" by ")
         for key in keys.split():
-            came = plain(self.probe.ask(f"next {key}", line.at)[0])
+            came = plain(self.ask(f"next {key}", line)[0])
             same(f"{key}: {place}", f"{key}: {came}", line.at)
 
     def do_fields(self, line: Line, words: list[str]) -> None:
         found = []
         for word in words:
             number, extent, required = word.split(":")
-            place = extent.replace("+", ", ")
-            found.append(f"({number}, ({place}), {str(required == 'required').lower()})")
+            found.append(
+                f"field {number} at {extent} required {str(required == 'required').lower()}"
+            )
         same(found, self.about[1:], line.at)
 
     def do_size(self, line: Line, words: list[str]) -> None:
         size = " ".join(words)
-        same(size, self.about[0].rstrip(")").rpartition(", ")[2], line.at)
+        same(size, self.about[0].partition(" size ")[2], line.at)
         same(f"size {size}", self.ask("wanted true plain", line)[0], line.at)
 
     def do_shown(self, line: Line, words: list[str]) -> None:
@@ -165,19 +165,13 @@ class Panels:
     do_copy = do_set
 
     def do_value(self, line: Line, words: list[str]) -> None:
-        wanted = None if words[1] == "none" else [*line.data(words[1])]
-        same(["None" if wanted is None else f"Some({wanted})"], self.probe.ask(f"value {words[0]}"))
+        wanted = "none" if words[1] == "none" else f"value {words[1]}"
+        same([wanted], self.ask(f"value {words[0]}", line), line.at)
 
     def silent(self, line: Line, words: list[str]) -> None:
         same([], self.ask(line.text, line), line.at)
 
     do_swap = silent
-
-
-def said(answer: list[str]) -> list[str]:
-    """What the probe says of a text, in the words of a case."""
-    start, panels, *lus = re.findall(r"\w+", answer[0])
-    return [" ".join(["start", start, "panels", panels, "lus", *lus])]
 
 
 def held(texts: Texts, lines: list[Line], head: Line) -> None:
@@ -222,8 +216,8 @@ def a_large_text_is_read() -> None:
     text = large_text()
     same(True, len(text) > 1_048_576)
     with Probe("panel") as probe:
-        same(["start 0 panels 64 lus"], said(probe.ask(f"read {text.encode().hex()}")))
-        numbers = [int(it[1:].split(",")[0]) for it in probe.ask("panel 63")[1:]]
+        same(["start 0 panels 64 lus"], probe.ask(f"read {text.encode().hex()}"))
+        numbers = [int(it.split()[1]) for it in probe.ask("panel 63")[1:]]
         same(list(range(63 * 128, 64 * 128)), numbers)
 
 

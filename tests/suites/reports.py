@@ -48,13 +48,13 @@ VALUES = (
 
 @functools.cache
 def probe() -> Probe:
-    return Probe("lines")
+    return Probe("reports")
 
 
 def check_text(text: str, at: Place) -> None:
     """Raises a Difference if the report on a text and the readers differ."""
     first, *page, readers = probe().ask(f"check {text.encode().hex() or '-'}", at)
-    faults, agrees = first.strip("()").split(", ")
+    _, faults, _, agrees = first.split(" ")
     refused = readers.partition("readers refuse ")[2]
     if (int(faults) > 0) != bool(refused) or agrees != "true":
         wanted = (

@@ -37,8 +37,11 @@ from harness.probe import Probe
 
 FILL = "apply 7EC33C40405C"
 DUP, FIELD_MARK = 0x1C, 0x1E
-SHOWN = re.compile(r"\((?P<size>\d+ \d+), (?P<cursor>\d+), (?P<home>\d+), .*\)")
-LOOK = re.compile(r"\((\w+), (\S+), (\w+), (\d+)\)")
+SIZES = {"M2": "24 80", "M3": "32 80", "M4": "43 80", "M5": "27 132"}
+SHOWN = re.compile(
+    r"Shown { size: Size { model: (?P<size>M.) }, cursor: (?P<cursor>\d+), home: (?P<home>\d+), .*}"
+)
+LOOK = re.compile(r"Look { cell: (\w+), field: (\S+), over: (\w+), glyph: (\d+) }")
 
 
 @dataclasses.dataclass(frozen=True)
@@ -68,7 +71,7 @@ class Display:
     def show(self, line: Line) -> dict[str, str]:
         shown = SHOWN.fullmatch(self.ask("show", line)).groupdict()
         fields = self.ask("fields", line).removeprefix("fields").strip()
-        return {**shown, "fields": fields}
+        return {**shown, "size": SIZES[shown["size"]], "fields": fields}
 
     def look(self, line: Line) -> list[Cell]:
         rows = [LOOK.fullmatch(it).groups() for it in self.ask("look", line).split("\n")]

@@ -12,9 +12,11 @@ use std::env;
 use subjects::run;
 
 fn main(rt: HostRuntime) -> Result<()> {
-    match env::args(&rt)?.nth(1) {
-        Some(name) if run(&rt, name.as_str())? => Ok(()),
-        Some(name) => bail!("no subject {name}"),
-        None => bail!("the word is a subject"),
+    let Some(name) = env::args(&rt)?.nth(1) else {
+        bail!("the word is a subject");
+    };
+    if !run(&rt, name.as_str())? {
+        bail!("no subject {name}");
     }
+    Ok(())
 }

@@ -6,11 +6,11 @@ mod commands;
 mod host;
 mod lines;
 mod links;
-mod lists;
 mod made;
 mod messages;
 mod panel;
 mod pool;
+mod reports;
 mod screen;
 mod streams;
 mod terminal;
@@ -19,9 +19,10 @@ mod wire;
 mod world;
 
 use crate::talk::{Fault, Talk};
+use belief::{Belief, Present};
 use codes3270::Model;
 use host_core::Host;
-use reference::ReferenceScreen;
+use reference::{AnyScreen, ReferenceBelief, ReferenceScreen};
 use std::alloc::AllocError;
 use std::io::{self, BufRead, BufReader, Write};
 use term_core::Terminal;
@@ -37,10 +38,7 @@ fn take_all<S: Subject>(subject: &mut S, talk: &mut Talk<'_>) -> Result<(), Faul
     if !talk.take_vector()? {
         subject.take(talk)?;
     }
-    if talk.rest.is_empty() {
-        return Ok(());
-    }
-    Err(Fault::Needs("no more words"))
+    talk.end()
 }
 
 /// Does the command of a line, and puts the whole answer.
@@ -94,7 +92,7 @@ fn serve<S: Subject + Drop>(rt: &HostRuntime, mut subject: S) -> io::Result<bool
 pub(crate) fn run(rt: &HostRuntime, name: &str) -> io::Result<bool> {
     let alloc = rt.alloc();
     match name {
-        "belief" => serve(rt, belief::Belief::new()),
+        "belief" => serve(rt, Belief::<Present>::new()),
         "codes" => serve(rt, codes::Codes),
         "commands" => serve(rt, commands::Commands),
         "host" => serve(rt, None::<Host>),
@@ -102,8 +100,9 @@ pub(crate) fn run(rt: &HostRuntime, name: &str) -> io::Result<bool> {
         "messages" => serve(rt, messages::Messages::new()),
         "panel" => serve(rt, panel::Panels::new(alloc)),
         "pool" => serve(rt, pool::Pools { pool: None }),
-        "reference-belief" => serve(rt, lists::Lists::new()),
-        "reference-screen" => serve(rt, ReferenceScreen::blank()),
+        "reference-belief" => serve(rt, Belief::<ReferenceBelief>::new()),
+        "reference-screen" => serve(rt, ReferenceScreen::blank(Model::M2)),
+        "reports" => serve(rt, reports::Reports),
         "screen" => serve(rt, screen::Display::blank(Model::M2)),
         "streams" => serve(rt, streams::Streams),
         "terminal" => serve(rt, None::<Terminal>),

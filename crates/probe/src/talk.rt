@@ -4,7 +4,7 @@ ghost use Rattle.std.specs.Iterator.{IsFinite};
 use codes3270::Model;
 use hex::FromHexError;
 use std::alloc::{AllocError, Global};
-use std::fmt::{Debug, Display};
+use std::fmt::Debug;
 use std::str::{self, FromStr};
 use thiserror::Error;
 
@@ -19,12 +19,7 @@ pub(crate) enum Fault {
     NoMemory(#[from(alloc)] AllocError),
 }
 
-static MODELS: [(&str, Model); 4] = [
-    ("2", Model::M2),
-    ("3", Model::M3),
-    ("4", Model::M4),
-    ("5", Model::M5),
-];
+const BYTES: &str = "bytes: pairs of hexadecimal digits, PAIRS*N, \"TEXT\", or - for none";
 
 /// The words of a line that weren't taken yet, its answer so far, and the vector that calls append to.
 #[derive(Drop)]
@@ -43,10 +38,10 @@ impl<'a> Talk<'a> {
         match self.word()? {
             "vector" => {
                 *self.out = Vec::with_capacity(self.alloc, self.number()?)?;
-                let bytes = self.bytes()?;
+                let bytes = self.all_bytes()?;
                 self.out.extend_from_slice(bytes.as_slice())?;
             }
-            "appended" => put_bytes(self.answer, "appended", self.out.as_slice())?,
+            "appended" => put_named(self.answer, "appended", self.out.as_slice())?,
             "capacity" => writeln!(self.answer, "{}", self.out.capacity())?,
             _ => {
                 self.rest = line;
@@ -73,9 +68,17 @@ impl<'a> Talk<'a> {
         rest
     }
 
-    /// What the next word names in a table.
-    pub(crate) fn named<T: Copy>(&mut self, table: &[(&'static str, T)]) -> Result<T, Fault> {
-        find(table, self.word()?)
+    /// Whether no word is left.
+    pub(crate) fn is_empty(&self) -> bool {
+        self.rest.is_empty()
+    }
+
+    /// Expects that no word is left.
+    pub(crate) fn end(&self) -> Result<(), Fault> {
+        if self.is_empty() {
+            return Ok(());
+        }
+        Err(Fault::Needs("no more words"))
     }
 
     /// The next word as a number in decimal, in the type's range.
@@ -95,11 +98,22 @@ impl<'a> Talk<'a> {
 
     /// The next word as the number of a model.
     pub(crate) fn model(&mut self) -> Result<Model, Fault> {
-        self.named(&MODELS)
+        match self.word()? {
+            "2" => Ok(Model::M2),
+            "3" => Ok(Model::M3),
+            "4" => Ok(Model::M4),
+            "5" => Ok(Model::M5),
+            _ => Err(Fault::Needs("a model, 2 to 5")),
+        }
+    }
+
+    /// The bytes of the next word.
+    pub(crate) fn bytes(&mut self) -> Result<Vec<u8>, Fault> {
+        bytes_of(self.alloc, self.word()?)
     }
 
     /// The bytes of all words that are left, one after the other.
-    pub(crate) fn bytes(&mut self) -> Result<Vec<u8>, Fault> {
+    pub(crate) fn all_bytes(&mut self) -> Result<Vec<u8>, Fault> {
         let mut bytes = Vec::new(self.alloc);
         for word in self.rest().split_whitespace() {
             bytes.extend_from_slice(bytes_of(self.alloc, word)?.as_slice())?;
@@ -108,24 +122,13 @@ impl<'a> Talk<'a> {
     }
 
     /// Puts a line: a name, and bytes in hexadecimal, `-` for none.
-    pub(crate) fn name(&mut self, name: &str, bytes: &[u8]) -> Result<(), Fault> {
-        Ok(put_bytes(self.answer, name, bytes)?)
+    pub(crate) fn name(&mut self, name: &str, bytes: &[u8]) -> Result<(), AllocError> {
+        put_named(self.answer, name, bytes)
     }
 
     /// Puts a line: a value by `{:?}`.
-    pub(crate) fn line<T: Debug>(&mut self, value: &T) -> Result<(), Fault> {
-        Ok(writeln!(self.answer, "{value:?}")?)
-    }
-
-    /// Puts a line: what a call answers by `{:?}`, or its fault as it is printed.
-    pub(crate) fn called<T: Debug, F: Display>(
-        &mut self,
-        called: &Result<T, F>,
-    ) -> Result<(), Fault> {
-        match called {
-            Ok(value) => self.line(value),
-            Err(fault) => Ok(writeln!(self.answer, "{fault}")?),
-        }
+    pub(crate) fn line<T: Debug>(&mut self, value: &T) -> Result<(), AllocError> {
+        writeln!(self.answer, "{value:?}")
     }
 
     /// Puts a line: a name, and each item by `{:?}`.
@@ -133,7 +136,7 @@ impl<'a> Talk<'a> {
         &mut self,
         name: &str,
         items: I,
-    ) -> Result<(), Fault>
+    ) -> Result<(), AllocError>
         requires can { I.can_next items }
         requires ends { IsFinite (I.remaining items) }
     {
@@ -141,17 +144,22 @@ impl<'a> Talk<'a> {
         for item in items {
             write!(self.answer, " {item:?}")?;
         }
-        Ok(self.answer.push('\n')?)
+        self.answer.push('\n')
     }
 
     /// Puts whether a call had the memory that it wanted.
-    pub(crate) fn done(&mut self, called: Result<(), AllocError>) -> Result<(), Fault> {
-        let done = if called.is_ok() { "done\n" } else { "memory\n" };
-        Ok(self.answer.push_str(done)?)
+    pub(crate) fn done(&mut self, called: Result<(), AllocError>) -> Result<(), AllocError> {
+        self.answer
+            .push_str(if called.is_ok() { "done\n" } else { "memory\n" })
+    }
+
+    /// Puts that there is nothing to show.
+    pub(crate) fn none(&mut self) -> Result<(), AllocError> {
+        self.answer.push_str("none\n")
     }
 
     /// Puts the lines of a text, each behind `|`.
-    pub(crate) fn text(&mut self, text: &str) -> Result<(), Fault> {
+    pub(crate) fn text(&mut self, text: &str) -> Result<(), AllocError> {
         for line in text.lines() {
             writeln!(self.answer, "|{line}")?;
         }
@@ -161,7 +169,9 @@ impl<'a> Talk<'a> {
 
 /// Puts bytes in hexadecimal, `-` for none.
 pub(crate) fn put_hex(answer: &mut String, bytes: &[u8]) -> Result<(), AllocError> {
-    answer.push_str(if bytes.is_empty() { "-" } else { "" })?;
+    if bytes.is_empty() {
+        return answer.push('-');
+    }
     for byte in bytes {
         write!(answer, "{byte:02X}")?;
     }
@@ -169,18 +179,10 @@ pub(crate) fn put_hex(answer: &mut String, bytes: &[u8]) -> Result<(), AllocErro
 }
 
 /// Puts a line: a name and bytes.
-pub(crate) fn put_bytes(answer: &mut String, name: &str, bytes: &[u8]) -> Result<(), AllocError> {
+pub(crate) fn put_named(answer: &mut String, name: &str, bytes: &[u8]) -> Result<(), AllocError> {
     write!(answer, "{name} ")?;
     put_hex(answer, bytes)?;
     answer.push('\n')
-}
-
-/// What a word names in a table.
-pub(crate) fn find<T: Copy>(table: &[(&'static str, T)], word: &str) -> Result<T, Fault> {
-    match table.iter().find(|entry| entry.0 == word) {
-        Some(entry) => Ok(entry.1),
-        None => Err(Fault::Needs("a word that is known here")),
-    }
 }
 
 /// A byte of two hexadecimal digits.
@@ -193,11 +195,30 @@ pub(crate) fn text_of(bytes: &[u8]) -> Result<&str, Fault> {
     str::from_utf8(bytes).map_err(|_| Fault::Needs("bytes of UTF-8"))
 }
 
-/// The bytes that a word says: pairs of hexadecimal digits, or `-` for none.
+/// The bytes that a word says.
 pub(crate) fn bytes_of(alloc: Global, word: &str) -> Result<Vec<u8>, Fault> {
-    match hex::decode(alloc, if word == "-" { "" } else { word }) {
-        Ok(bytes) => Ok(bytes),
-        Err(FromHexError::OutOfMemory) => Err(Fault::NoMemory(AllocError)),
-        Err(_) => Err(Fault::Needs("bytes: pairs of hexadecimal digits, or -")),
+    let mut bytes = Vec::new(alloc);
+    if word == "-" {
+        return Ok(bytes);
     }
+    if let Some(text) = word
+        .strip_prefix('"')
+        .and_then(|text| text.strip_suffix('"'))
+    {
+        bytes.extend_from_slice(text.as_bytes())?;
+        return Ok(bytes);
+    }
+    let (pairs, times) = word.split_once('*').unwrap_or((word, "1"));
+    let Ok(times) = times.parse::<u32>() else {
+        return Err(Fault::Needs(BYTES));
+    };
+    let some = match hex::decode(alloc, pairs) {
+        Ok(some) => some,
+        Err(FromHexError::OutOfMemory) => return Err(Fault::NoMemory(AllocError)),
+        Err(_) => return Err(Fault::Needs(BYTES)),
+    };
+    for _ in 0..times {
+        bytes.extend_from_slice(some.as_slice())?;
+    }
+    Ok(bytes)
 }

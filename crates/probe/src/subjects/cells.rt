@@ -4,37 +4,30 @@
 //!
 //! ```text
 //! want MODEL WANT            a screen of a model's alternate size full of one thing: keep, C1 or 1D60
-//! put ADDR WANT ..           wants from an address on
+//! put ADDR WANT ..           wants from an address on; WANT*N is N of them
 //! aim ADDR BOOL              its cursor, and whether it resets MDT
 //! ```
-ghost use Rattle.std.specs.Prelude.{◌<◌, ◌≡◌, true, All, IfOk};
+ghost use Rattle.std.specs.Prelude.{◌<◌, ◌≡◌, true, All, IfOk, IfSome};
 ghost use Rattle.codes3270.specs.Size.{cells_in};
 ghost use Rattle.codes3270.specs.Storable.{is_storable};
 ghost use Rattle.datastream.specs.Wanted.{IsProper};
-ghost use Rattle.shadow.specs.Belief.{HasCell, IsOfSize};
+ghost use Rattle.shadow.specs.Belief.{HasCell};
 
 use crate::talk::{Fault, Talk, byte_of};
-use codes3270::{Addr, Aid, Attr, Size, aid_from_byte, storable};
+use codes3270::{Addr, Attr, Cell, Size, aid_byte, attr_code, storable};
 use datastream::{Form, Want, Wanted};
-use keyboard::Key;
 use presentation::Screen;
-use reference::put_cell;
 use shadow::Shadow;
+use std::alloc::AllocError;
 
-pub(crate) static FORMS: [(&str, Form); 3] = [
-    ("modified", Form::Modified),
-    ("all", Form::All),
-    ("buffer", Form::Buffer),
-];
-
-/// The AID of the next word, two hexadecimal digits.
-pub(crate) fn aid(talk: &mut Talk<'_>) -> Result<Aid, Fault> {
-    aid_from_byte(talk.byte()?).ok_or(Fault::Needs("the byte of an AID"))
-}
-
-/// The key that the next word names.
-pub(crate) fn key(talk: &mut Talk<'_>) -> Result<Key, Fault> {
-    Key::named(talk.word()?).ok_or(Fault::Needs("a key"))
+/// The form of inbound data.
+pub(crate) fn form(talk: &mut Talk<'_>) -> Result<Form, Fault> {
+    match talk.word()? {
+        "modified" => Ok(Form::Modified),
+        "all" => Ok(Form::All),
+        "buffer" => Ok(Form::Buffer),
+        _ => Err(Fault::Needs("modified, all or buffer")),
+    }
 }
 
 /// The address of a cell; the first one's beyond a screen of this size.
@@ -76,50 +69,63 @@ pub(crate) fn are_storable(bytes: &[u8]) -> bool
     bytes.iter().all(|byte| storable(*byte))
 }
 
+fn put_cell(answer: &mut String, cell: Option<Cell>) -> Result<(), AllocError> {
+    match cell {
+        Some(Cell::Char(code)) => write!(answer, "{code:02X}"),
+        Some(Cell::Attr(attr)) => write!(answer, "1D{:02X}", attr_code(attr)),
+        None => answer.push_str("??"),
+    }
+}
+
+/// Puts size, cursor and AID of a screen.
+pub(crate) fn put_screen(answer: &mut String, screen: &Screen) -> Result<(), AllocError> {
+    let (size, aid) = (screen.size(), aid_byte(screen.aid()));
+    writeln!(answer, "size {} {}", size.rows(), size.cols())?;
+    writeln!(answer, "cursor {}\naid {aid:02X}", screen.cursor().get())
+}
+
 /// Puts the cells of a screen.
-pub(crate) fn put_cells(answer: &mut String, screen: &Screen) -> Result<(), Fault> {
+pub(crate) fn put_cells(answer: &mut String, screen: &Screen) -> Result<(), AllocError> {
     answer.push_str("cells ")?;
     for place in 0..screen.size().cells() {
         put_cell(answer, Some(screen.cell(at(place, screen.size()))))?;
     }
-    Ok(answer.push('\n')?)
+    answer.push('\n')
 }
 
-/// The size of the screen of which something is known; 24 by 80 if nothing is.
-pub(crate) fn size_of(shadow: &Shadow) -> Size
-    ensures { IsOfSize (cells_in result) shadow.now }
+/// The address of a cell of a screen of which something is known.
+fn address_on(shadow: &Shadow, place: u16) -> Option<Addr>
+    ensures { IfSome result (λ addr. HasCell addr shadow.now) }
 {
     match shadow.size() {
-        Some(size) => size,
-        None => Size::base(),
+        Some(size) => Addr::new(place, size),
+        None => None,
     }
-}
-
-/// The address of a cell of the screen of which something is known; the first one's, if it has no such cell.
-pub(crate) fn cell_at(shadow: &Shadow, place: u16) -> Addr
-    ensures { HasCell result shadow.now }
-{
-    at(place, size_of(shadow))
 }
 
 /// Puts the fact of the field whose attribute is at a place, if one is believed to be there, and its text.
-fn put_field(answer: &mut String, shadow: &Shadow, place: u16) -> Result<(), Fault> {
-    if let Some(fact) = shadow.fact(cell_at(shadow, place)) {
-        write!(answer, "field {place} {fact:?} ")?;
-        for code in shadow.text(cell_at(shadow, place)) {
-            write!(answer, "{code:02X}")?;
-        }
-        answer.push('\n')?;
+fn put_field(answer: &mut String, shadow: &Shadow, place: u16) -> Result<(), AllocError> {
+    let Some(at) = address_on(shadow, place) else {
+        return Ok(());
+    };
+    let Some(fact) = shadow.fact(at) else {
+        return Ok(());
+    };
+    write!(answer, "field {place} {fact:?} ")?;
+    for code in shadow.text(at) {
+        write!(answer, "{code:02X}")?;
     }
-    Ok(())
+    answer.push('\n')
 }
 
 /// Puts a belief: the cells as far as they are known, and a line for each field.
-pub(crate) fn put_belief(answer: &mut String, shadow: &Shadow) -> Result<(), Fault> {
+pub(crate) fn put_belief(answer: &mut String, shadow: &Shadow) -> Result<(), AllocError> {
     let count = shadow.size().map_or(0, |size| size.cells());
     answer.push_str("belief ")?;
     for place in 0..count {
-        put_cell(answer, shadow.known(cell_at(shadow, place)))?;
+        if let Some(at) = address_on(shadow, place) {
+            put_cell(answer, shadow.known(at))?;
+        }
     }
     answer.push('\n')?;
     for place in 0..count {
@@ -141,6 +147,18 @@ fn want_of(word: &str) -> Result<Want, Fault>
     }
 }
 
+/// Wants the same of `times` cells from a place on.
+fn put_times(wanted: &mut Wanted, place: usize, want: Want, times: u16)
+    requires { IsProper want }
+{
+    for step in 0..usize::from(times) {
+        let cell = place.saturating_add(step);
+        if cell < usize::from(wanted.size().cells()) {
+            wanted.put(cell, want);
+        }
+    }
+}
+
 /// Changes a wanted screen as a line says.
 pub(crate) fn change(talk: &mut Talk<'_>, wanted: &mut Wanted, word: &str) -> Result<(), Fault> {
     match word {
@@ -151,11 +169,12 @@ pub(crate) fn change(talk: &mut Talk<'_>, wanted: &mut Wanted, word: &str) -> Re
         "put" => {
             let mut place = talk.number::<usize>()?;
             for word in talk.rest().split_whitespace() {
-                let want = want_of(word)?;
-                if place < usize::from(wanted.size().cells()) {
-                    wanted.put(place, want);
-                }
-                place = place.saturating_add(1);
+                let (want, times) = word.split_once('*').unwrap_or((word, "1"));
+                let Ok(times) = times.parse::<u16>() else {
+                    return Err(Fault::Needs("a number"));
+                };
+                put_times(wanted, place, want_of(want)?, times);
+                place = place.saturating_add(times.into());
             }
         }
         "aim" => {
@@ -168,7 +187,14 @@ pub(crate) fn change(talk: &mut Talk<'_>, wanted: &mut Wanted, word: &str) -> Re
 }
 
 /// Puts size, cursor, reset, and what each cell is wanted to have.
-pub(crate) fn put_wanted(talk: &mut Talk<'_>, wanted: &Wanted) -> Result<(), Fault> {
-    talk.line(&(wanted.size(), wanted.cursor(), wanted.reset()))?;
+pub(crate) fn put_wanted(talk: &mut Talk<'_>, wanted: &Wanted) -> Result<(), AllocError> {
+    let (size, cursor) = (wanted.size(), wanted.cursor().get());
+    writeln!(
+        talk.answer,
+        "size {} {}\ncursor {cursor}",
+        size.rows(),
+        size.cols()
+    )?;
+    writeln!(talk.answer, "reset {}", wanted.reset())?;
     talk.each("cells", wanted.cells())
 }

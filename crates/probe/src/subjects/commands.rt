@@ -2,15 +2,14 @@
 //!
 //! ```text
 //! read NOW ALTERNATE BYTES    a command for a screen of model NOW's alternate size, whose own model is ALTERNATE: its
-//!                             code, whether this has orders, size, write control character and orders, one by one and with runs
-//!                             of characters
+//!                             code, size, write control character and orders, one by one and with runs of characters
 //! inbound FORM MODEL BYTES    data of a form (modified, all, buffer) from a screen of a model's alternate size: form, size,
 //!                             AID, cursor, the text before any field, fields, parts, and each part as a cell; of a
 //!                             buffer the cells, one by one and with runs of characters
 //! begin CODE WCC; sba ADDR; sf BYTE; chars BYTES; ra ADDR BYTE; ic    a writer appends it
 //! ```
 use crate::subjects::Subject;
-use crate::subjects::cells::{FORMS, are_storable, at, character};
+use crate::subjects::cells::{are_storable, at, character, form};
 use crate::talk::{Fault, Talk, put_hex};
 use codes3270::{Attr, Size, Wcc, aid_byte};
 use datastream::{
@@ -32,6 +31,17 @@ static CODES: [(&str, CommandCode); 7] = [
     ("EraseAllUnprotected", CommandCode::EraseAllUnprotected),
 ];
 
+fn code_named(name: &str) -> Result<CommandCode, Fault> {
+    match CODES.iter().find(|code| code.0 == name) {
+        Some(code) => Ok(code.1),
+        None => Err(Fault::Needs("a command's name")),
+    }
+}
+
+fn put_size(talk: &mut Talk<'_>, size: Size) -> Result<(), AllocError> {
+    writeln!(talk.answer, "size {} {}", size.rows(), size.cols())
+}
+
 /// Puts a run of characters, and the item after it. Whether there is one.
 fn put_run<T: Debug + Drop>(
     talk: &mut Talk<'_>,
@@ -39,16 +49,21 @@ fn put_run<T: Debug + Drop>(
     item: Option<T>,
 ) -> Result<bool, AllocError> {
     put_hex(talk.answer, run)?;
-    match &item {
+    match item {
         Some(item) => write!(talk.answer, " {item:?} ")?,
-        None => talk.answer.push('\n')?,
+        None => {
+            talk.answer.push('\n')?;
+            return Ok(false);
+        }
     }
-    Ok(item.is_some())
+    Ok(true)
 }
 
-fn put_command(talk: &mut Talk<'_>, command: &Command<'_>) -> Result<(), Fault> {
+fn put_command(talk: &mut Talk<'_>, command: &Command<'_>) -> Result<(), AllocError> {
     let code = command.code();
-    talk.line(&(code, code.has_orders(), command.size(), command.wcc()))?;
+    writeln!(talk.answer, "{code:?} has-orders {}", code.has_orders())?;
+    put_size(talk, command.size())?;
+    writeln!(talk.answer, "wcc {:?}", command.wcc())?;
     talk.each("orders", command.orders())?;
     talk.answer.push_str("runs ")?;
     let mut orders = command.orders();
@@ -60,7 +75,7 @@ fn put_command(talk: &mut Talk<'_>, command: &Command<'_>) -> Result<(), Fault> 
     Ok(())
 }
 
-fn put_cells(talk: &mut Talk<'_>, cells: Cells<'_>) -> Result<(), Fault> {
+fn put_cells(talk: &mut Talk<'_>, cells: Cells<'_>) -> Result<(), AllocError> {
     let mut others = cells.copy();
     talk.each("cells", cells)?;
     talk.answer.push_str("runs ")?;
@@ -72,13 +87,19 @@ fn put_cells(talk: &mut Talk<'_>, cells: Cells<'_>) -> Result<(), Fault> {
     Ok(())
 }
 
-fn put_inbound(talk: &mut Talk<'_>, inbound: &Inbound<'_>) -> Result<(), Fault> {
-    let (form, aid) = (inbound.form(), [aid_byte(inbound.aid())]);
-    let text = inbound.leading_text();
-    talk.line(&(form, inbound.size(), aid, inbound.cursor(), text))?;
+fn put_parts(talk: &mut Talk<'_>, inbound: &Inbound<'_>) -> Result<(), AllocError> {
+    talk.line(&inbound.form())?;
+    put_size(talk, inbound.size())?;
+    writeln!(talk.answer, "aid {:02X}", aid_byte(inbound.aid()))?;
+    writeln!(talk.answer, "cursor {:?}", inbound.cursor())?;
+    talk.name("leading", inbound.leading_text())?;
     talk.each("fields", inbound.returned())?;
     talk.each("parts", inbound.parts())?;
-    talk.each("as-cells", inbound.parts().map(|part| part.cell()))?;
+    talk.each("as-cells", inbound.parts().map(|part| part.cell()))
+}
+
+fn put_inbound(talk: &mut Talk<'_>, inbound: &Inbound<'_>) -> Result<(), AllocError> {
+    put_parts(talk, inbound)?;
     if inbound.form() == Form::Buffer {
         put_cells(talk, inbound.cells())?;
     }
@@ -89,7 +110,8 @@ fn put_inbound(talk: &mut Talk<'_>, inbound: &Inbound<'_>) -> Result<(), Fault> 
 fn write(talk: &mut Talk<'_>, word: &str) -> Result<(), Fault> {
     let called = match word {
         "begin" => {
-            let (code, wcc) = (talk.named(&CODES)?, Wcc::from_byte(talk.byte()?));
+            let code = code_named(talk.word()?)?;
+            let wcc = Wcc::from_byte(talk.byte()?);
             CommandWriter::new(talk.out).begin(code, wcc)
         }
         "sba" => {
@@ -101,7 +123,8 @@ fn write(talk: &mut Talk<'_>, word: &str) -> Result<(), Fault> {
             CommandWriter::new(talk.out).sf(attr)
         }
         "ra" => {
-            let (stop, code) = (at(talk.number()?, Size::base()), character(talk.word()?)?);
+            let stop = at(talk.number()?, Size::base());
+            let code = character(talk.word()?)?;
             CommandWriter::new(talk.out).ra(stop, code)
         }
         "ic" => CommandWriter::new(talk.out).ic(),
@@ -114,7 +137,7 @@ fn write(talk: &mut Talk<'_>, word: &str) -> Result<(), Fault> {
         }
         _ => return Err(Fault::Needs("a command of this subject")),
     };
-    talk.done(called)
+    Ok(talk.done(called)?)
 }
 
 impl Subject for Commands {
@@ -122,21 +145,22 @@ impl Subject for Commands {
         match talk.word()? {
             "read" => {
                 let (now, alternate) = (talk.model()?.alternate(), talk.model()?.alternate());
-                let bytes = talk.bytes()?;
+                let bytes = talk.all_bytes()?;
                 match read_command(bytes.as_slice(), now, alternate) {
-                    Ok(command) => put_command(talk, &command),
-                    Err(fault) => Ok(writeln!(talk.answer, "fault {fault:?}: {fault}")?),
+                    Ok(command) => put_command(talk, &command)?,
+                    Err(fault) => writeln!(talk.answer, "fault {fault:?}: {fault}")?,
                 }
             }
             "inbound" => {
-                let (form, size) = (talk.named(&FORMS)?, talk.model()?.alternate());
-                let bytes = talk.bytes()?;
+                let (form, size) = (form(talk)?, talk.model()?.alternate());
+                let bytes = talk.all_bytes()?;
                 match read_inbound(bytes.as_slice(), form, size) {
-                    Ok(inbound) => put_inbound(talk, &inbound),
-                    Err(fault) => Ok(writeln!(talk.answer, "fault {fault:?}: {fault}")?),
+                    Ok(inbound) => put_inbound(talk, &inbound)?,
+                    Err(fault) => writeln!(talk.answer, "fault {fault:?}: {fault}")?,
                 }
             }
-            word => write(talk, word),
+            word => write(talk, word)?,
         }
+        Ok(())
     }
 }

@@ -22,10 +22,11 @@ use crate::subjects::cells::put_belief;
 use crate::subjects::links::Link;
 use crate::subjects::made::{Made, read_service};
 use crate::subjects::panel::set_value;
-use crate::talk::{Fault, Talk, bytes_of};
+use crate::talk::{Fault, Talk};
 use codes3270::aid_byte;
 use host_core::{
-    Answer, Host, MOST_CONNECTIONS, MessageText, Phase, Question, Ticket, Values, serve_turn,
+    Answer, Host, MOST_CONNECTIONS, MessageText, Phase, Question, Rejection, Ticket, Values,
+    serve_turn,
 };
 use std::alloc::AllocError;
 use world3270::NoteText;
@@ -34,24 +35,29 @@ use world3270::NoteText;
 pub(crate) fn read_conn(talk: &mut Talk<'_>) -> Result<usize, Fault>
     ensures { IfOk result (λ conn. conn < most_connections) }
 {
-    match talk.number::<usize>()? {
-        conn if conn < MOST_CONNECTIONS => Ok(conn),
-        _ => Err(Fault::Needs("a connection's number")),
+    let conn = talk.number::<usize>()?;
+    if conn < MOST_CONNECTIONS {
+        Ok(conn)
+    } else {
+        Err(Fault::Needs("a connection's number"))
     }
 }
 
 /// Puts how far a host is with the client of a connection.
-pub(crate) fn put_state(talk: &mut Talk<'_>, host: &Host, conn: usize) -> Result<(), Fault>
+pub(crate) fn put_state(talk: &mut Talk<'_>, host: &Host, conn: usize) -> Result<(), AllocError>
     requires { conn < most_connections }
 {
-    writeln!(talk.answer, "phase {:?}", host.phase(conn))?;
+    match host.phase(conn) {
+        Phase::Bound(lu) => writeln!(talk.answer, "phase Bound {lu}")?,
+        phase => writeln!(talk.answer, "phase {phase:?}")?,
+    }
     let (model, turn) = (host.model(conn), host.turn(conn));
     writeln!(talk.answer, "model {model:?}\nturn {turn:?}")?;
-    Ok(writeln!(talk.answer, "pending {:?}", host.pending(conn))?)
+    writeln!(talk.answer, "pending {:?}", host.pending(conn))
 }
 
 /// Puts all that is to be seen of a connection.
-pub(crate) fn put_all(talk: &mut Talk<'_>, host: &Host, conn: usize) -> Result<(), Fault>
+pub(crate) fn put_all(talk: &mut Talk<'_>, host: &Host, conn: usize) -> Result<(), AllocError>
     requires { conn < most_connections }
 {
     put_state(talk, host, conn)?;
@@ -59,12 +65,23 @@ pub(crate) fn put_all(talk: &mut Talk<'_>, host: &Host, conn: usize) -> Result<(
     put_belief(talk.answer, host.shadow(conn))
 }
 
+fn put_rejection(talk: &mut Talk<'_>, rejection: Option<Rejection>) -> Result<(), AllocError> {
+    match rejection {
+        None => talk.none(),
+        Some(it) => match it.lu {
+            Some(lu) => writeln!(talk.answer, "{lu} {}", it.reason),
+            None => writeln!(talk.answer, "{}", it.reason),
+        },
+    }
+}
+
 /// Puts a question's parts, and the text of each field of its panel.
-fn put_question(talk: &mut Talk<'_>, host: &Host, question: &Question) -> Result<(), Fault> {
+fn put_question(talk: &mut Talk<'_>, host: &Host, question: &Question) -> Result<(), AllocError> {
     let Ticket { session, turn } = question.ticket;
+    let (cursor, aid) = (question.cursor.get(), aid_byte(question.aid));
     writeln!(talk.answer, "ticket {session} {turn}\nlu {}", question.lu)?;
-    let (panel, cursor, aid) = (question.panel, question.cursor, [aid_byte(question.aid)]);
-    talk.line(&(panel, cursor, aid))?;
+    writeln!(talk.answer, "panel {}\ncursor {cursor}", question.panel)?;
+    writeln!(talk.answer, "aid {aid:02X}")?;
     if let Some(panel) = host.panels().panel(question.panel) {
         for field in panel.fields() {
             if let Some(value) = question.values.get(field.number) {
@@ -77,9 +94,9 @@ fn put_question(talk: &mut Talk<'_>, host: &Host, question: &Question) -> Result
 
 /// What an application answers: a message, and a value for a field, if one.
 fn read_answer(talk: &mut Talk<'_>) -> Result<Answer, Fault> {
-    let message = MessageText::new(bytes_of(talk.alloc, talk.word()?)?.as_slice());
+    let message = MessageText::new(talk.bytes()?.as_slice());
     let mut values = Values::new(talk.alloc);
-    if !talk.rest.is_empty() {
+    if !talk.is_empty() {
         set_value(talk, &mut values)??;
     }
     Ok(Answer {
@@ -95,32 +112,33 @@ fn take_on(host: &mut Host, conn: usize, word: &str, talk: &mut Talk<'_>) -> Res
     requires { conn < most_connections }
 {
     match word {
-        "open" if host.phase(conn) == Phase::Free => talk.done(host.open(conn)),
+        "open" if host.phase(conn) == Phase::Free => talk.done(host.open(conn))?,
         "feed" => {
-            let bytes = talk.bytes()?;
-            talk.line(&host.feed(conn, bytes.as_slice()))
+            let bytes = talk.all_bytes()?;
+            talk.line(&host.feed(conn, bytes.as_slice()))?;
         }
-        "act" => talk.line(&host.act(conn)),
+        "act" => talk.line(&host.act(conn))?,
         "note" => match NoteText::new(talk.bytes()?.as_slice()) {
-            Some(note) => talk.line(&host.note(conn, note.text())),
-            None => Err(Fault::Needs("a text for a note")),
+            Some(note) => talk.line(&host.note(conn, note.text()))?,
+            None => return Err(Fault::Needs("a text for a note")),
         },
         "answer" => {
             let (session, turn) = (talk.number()?, talk.number()?);
             let answer = read_answer(talk)?;
-            talk.line(&host.answer(conn, Ticket { session, turn }, &answer))
+            talk.line(&host.answer(conn, Ticket { session, turn }, &answer))?;
         }
         "turn" => {
             let mut link = Link::read_from(talk)?;
             talk.line(&serve_turn(host, &mut link, conn))?;
             writeln!(talk.answer, "{} {}", link.reads, link.writes)?;
-            talk.name("heard", link.heard.as_slice())
+            talk.name("heard", link.heard.as_slice())?;
         }
-        "out" => talk.name("out", host.out(conn)),
-        "sent" => Ok(host.sent(conn, talk.number::<usize>()?.min(host.out(conn).len()))),
-        "closed" => talk.name("unsent", host.closed(conn).as_slice()),
-        _ => look(host, conn, word, talk),
+        "out" => talk.name("out", host.out(conn))?,
+        "sent" => host.sent(conn, talk.number::<usize>()?.min(host.out(conn).len())),
+        "closed" => talk.name("unsent", host.closed(conn).as_slice())?,
+        _ => return look(host, conn, word, talk),
     }
+    Ok(())
 }
 
 /// Puts what a line asks for of a connection.
@@ -128,24 +146,25 @@ fn look(host: &mut Host, conn: usize, word: &str, talk: &mut Talk<'_>) -> Result
     requires { conn < most_connections }
 {
     match word {
-        "rejected" => match host.next_rejection(conn) {
-            Some(it) => Ok(writeln!(talk.answer, "{:?} {}", it.lu, it.reason)?),
-            None => Ok(()),
-        },
+        "rejected" => put_rejection(talk, host.next_rejection(conn))?,
         "dropped" => match host.next_dropped_key(conn) {
-            Some(key) => Ok(writeln!(talk.answer, "{:02X}", aid_byte(key.aid))?),
-            None => Ok(()),
+            Some(key) => writeln!(talk.answer, "{:02X}", aid_byte(key.aid))?,
+            None => talk.none()?,
         },
-        "broken" => talk.line(&host.rule_break(conn)),
+        "broken" => match host.rule_break(conn) {
+            Some(broken) => writeln!(talk.answer, "{:?} {}", broken.rule, broken.cell)?,
+            None => talk.none()?,
+        },
         "question" => match host.question(conn) {
-            Ok(Some(question)) => put_question(talk, host, &question),
-            Ok(None) => Ok(()),
-            Err(fault) => talk.done(Err(fault)),
+            Ok(Some(question)) => put_question(talk, host, &question)?,
+            Ok(None) => talk.none()?,
+            Err(fault) => talk.done(Err(fault))?,
         },
-        "state" => put_state(talk, host, conn),
-        "see" => put_all(talk, host, conn),
-        _ => Err(Fault::Needs("a command for a host")),
+        "state" => put_state(talk, host, conn)?,
+        "see" => put_all(talk, host, conn)?,
+        _ => return Err(Fault::Needs("a command for a host")),
     }
+    Ok(())
 }
 
 impl Made for Host {

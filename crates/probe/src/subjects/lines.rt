@@ -1,18 +1,14 @@
-//! What lines ask for, and what is wrong with panel texts. Each text is one word of bytes, in UTF-8.
+//! What lines ask for. Each text is one word of bytes, in UTF-8.
 //!
 //! ```text
 //! words TEXT       the job of a command line, whose words are between blanks, by Debug
 //! script TEXT      the command of a line of a script
 //! terminal TEXT    the command of a line of a terminal's script
 //! typed TEXT       the text that a line types
-//! check TEXT       the report of panel_check on a panel text, and what the readers answer
 //! ```
 use crate::subjects::Subject;
 use crate::talk::{Fault, Talk, text_of};
-use applications::host_of;
 use cli::words;
-use host_core::Terminals;
-use panel_check::check;
 use scripts::{ScriptCommand, typed_text};
 use std::alloc::AllocError;
 use terminal_lines::TerminalCommand;
@@ -21,31 +17,28 @@ use world3270::Event;
 #[derive(Drop)]
 pub(crate) struct Lines;
 
-fn put_words(talk: &mut Talk<'_>, text: &str) -> Result<(), Fault> {
+fn put_words(talk: &mut Talk<'_>, text: &str) -> Result<(), AllocError> {
     let mut given = Vec::new(talk.alloc);
     for word in text.split_whitespace() {
         given.push(String::from_str(talk.alloc, word)?)?;
     }
-    talk.line(&words(talk.alloc, given.as_slice()))
-}
-
-fn put_report(talk: &mut Talk<'_>, text: &str) -> Result<(), Fault> {
-    let report = check(talk.alloc, text)?;
-    talk.line(&(report.faults(), report.agrees))?;
-    talk.text(report.page(talk.alloc, "text")?.as_str())?;
-    match host_of(talk.alloc, Terminals::Any, text) {
-        Ok(_) => Ok(writeln!(talk.answer, "readers accept")?),
-        Err(fault) => Ok(writeln!(talk.answer, "readers refuse {fault}")?),
+    match words(talk.alloc, given.as_slice()) {
+        Ok(job) => talk.line(&job),
+        Err(fault) => talk.line(&fault),
     }
 }
 
-fn put_event(answer: &mut String, event: &Event) -> Result<(), AllocError> {
+fn put_event(talk: &mut Talk<'_>, event: &Event) -> Result<(), AllocError> {
+    let answer = &mut *talk.answer;
     match event {
         Event::Key(terminal, key) => writeln!(answer, "key {terminal} {key}"),
         Event::Up(conn, count) => writeln!(answer, "up {conn} {count}"),
         Event::Down(conn, count) => writeln!(answer, "down {conn} {count}"),
         Event::Act(conn) => writeln!(answer, "act {conn}"),
-        Event::Note(conn, note) => writeln!(answer, "note {conn} {:?}", note.text()),
+        Event::Note(conn, note) => {
+            write!(answer, "note {conn} ")?;
+            talk.name("text", note.text())
+        }
         Event::Lose(conn) => writeln!(answer, "lose {conn}"),
         Event::HostSees(conn) => writeln!(answer, "hostsees {conn}"),
         Event::TermSees(terminal) => writeln!(answer, "termsees {terminal}"),
@@ -57,30 +50,31 @@ fn put_event(answer: &mut String, event: &Event) -> Result<(), AllocError> {
     }
 }
 
-fn put_script(answer: &mut String, line: &str) -> Result<(), AllocError> {
+fn put_script(talk: &mut Talk<'_>, line: &str) -> Result<(), AllocError> {
     match ScriptCommand::read(line) {
-        None => writeln!(answer, "not understood"),
-        Some(ScriptCommand::Nothing) => writeln!(answer, "nothing"),
-        Some(ScriptCommand::Happen(event)) => put_event(answer, &event),
-        Some(ScriptCommand::TypeText(terminal)) => writeln!(answer, "type {terminal}"),
-        Some(ScriptCommand::Answer(conn)) => writeln!(answer, "answer {conn}"),
-        Some(ScriptCommand::Settle) => writeln!(answer, "settle"),
-        Some(ScriptCommand::Show(terminal)) => writeln!(answer, "show {terminal}"),
-        Some(ScriptCommand::Status(terminal)) => writeln!(answer, "status {terminal}"),
-        Some(ScriptCommand::Question(conn)) => writeln!(answer, "question {conn}"),
+        None => writeln!(talk.answer, "not understood"),
+        Some(ScriptCommand::Nothing) => writeln!(talk.answer, "nothing"),
+        Some(ScriptCommand::Happen(event)) => put_event(talk, &event),
+        Some(ScriptCommand::TypeText(terminal)) => writeln!(talk.answer, "type {terminal}"),
+        Some(ScriptCommand::Answer(conn)) => writeln!(talk.answer, "answer {conn}"),
+        Some(ScriptCommand::Settle) => writeln!(talk.answer, "settle"),
+        Some(ScriptCommand::Show(terminal)) => writeln!(talk.answer, "show {terminal}"),
+        Some(ScriptCommand::Status(terminal)) => writeln!(talk.answer, "status {terminal}"),
+        Some(ScriptCommand::Question(conn)) => writeln!(talk.answer, "question {conn}"),
     }
 }
 
-fn put_terminal(answer: &mut String, line: &str) -> Result<(), AllocError> {
-    match TerminalCommand::read(line) {
-        None => writeln!(answer, "not understood"),
-        Some(TerminalCommand::Nothing) => writeln!(answer, "nothing"),
-        Some(TerminalCommand::TypeText) => writeln!(answer, "type"),
-        Some(TerminalCommand::Press(key)) => writeln!(answer, "key {key}"),
-        Some(TerminalCommand::Wait) => writeln!(answer, "wait"),
-        Some(TerminalCommand::Show) => writeln!(answer, "show"),
-        Some(TerminalCommand::Status) => writeln!(answer, "status"),
-    }
+fn put_terminal(talk: &mut Talk<'_>, line: &str) -> Result<(), AllocError> {
+    let word = match TerminalCommand::read(line) {
+        None => "not understood",
+        Some(TerminalCommand::Nothing) => "nothing",
+        Some(TerminalCommand::TypeText) => "type",
+        Some(TerminalCommand::Press(key)) => return writeln!(talk.answer, "key {key}"),
+        Some(TerminalCommand::Wait) => "wait",
+        Some(TerminalCommand::Show) => "show",
+        Some(TerminalCommand::Status) => "status",
+    };
+    writeln!(talk.answer, "{word}")
 }
 
 impl Subject for Lines {
@@ -89,12 +83,12 @@ impl Subject for Lines {
         let bytes = talk.bytes()?;
         let text = text_of(bytes.as_slice())?;
         match kind {
-            "words" => put_words(talk, text),
-            "script" => Ok(put_script(talk.answer, text)?),
-            "terminal" => Ok(put_terminal(talk.answer, text)?),
-            "typed" => Ok(writeln!(talk.answer, "{}", typed_text(text))?),
-            "check" => put_report(talk, text),
-            _ => Err(Fault::Needs("words, script, terminal, typed or check")),
+            "words" => put_words(talk, text)?,
+            "script" => put_script(talk, text)?,
+            "terminal" => put_terminal(talk, text)?,
+            "typed" => writeln!(talk.answer, "{}", typed_text(text))?,
+            _ => return Err(Fault::Needs("words, script, terminal or typed")),
         }
+        Ok(())
     }
 }

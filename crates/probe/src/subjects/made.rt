@@ -18,9 +18,9 @@ fn make<M: Made + Drop>(made: &mut Option<M>, talk: &mut Talk<'_>) -> Result<(),
     match M::new(talk) {
         Ok(new) => {
             *made = Some(new);
-            talk.done(Ok(()))
+            Ok(talk.done(Ok(()))?)
         }
-        Err(Fault::NoMemory(fault)) => talk.done(Err(fault)),
+        Err(Fault::NoMemory(fault)) => Ok(talk.done(Err(fault))?),
         Err(fault) => Err(fault),
     }
 }
@@ -38,15 +38,14 @@ impl<M: Made + Drop> Subject for Option<M> {
     }
 }
 
-static TERMINALS: [(&str, Terminals); 3] = [
-    ("waiting", Terminals::Waiting),
-    ("any", Terminals::Any),
-    ("verified", Terminals::Verified),
-];
-
 /// What a host serves: terminals that wait (`waiting`), `any`, or any that it verifies (`verified`), and the panels of a text, one word of bytes.
 pub(crate) fn read_service(talk: &mut Talk<'_>) -> Result<(Terminals, PanelSet, Pool), Fault> {
-    let terminals = talk.named(&TERMINALS)?;
+    let terminals = match talk.word()? {
+        "waiting" => Terminals::Waiting,
+        "any" => Terminals::Any,
+        "verified" => Terminals::Verified,
+        _ => return Err(Fault::Needs("waiting, any or verified")),
+    };
     let text = talk.bytes()?;
     let panels = match PanelSet::read(talk.alloc, text_of(text.as_slice())?) {
         Ok(panels) => panels,

@@ -1,30 +1,41 @@
-//! Calls of tn3270e_msg: those without state, and the talks of a host and a terminal. What they answer is printed by Debug, and faults,
-//! reasons and causes as they are printed.
+//! Calls of tn3270e_msg: those without state, and the talks of a host and a terminal.
 //!
 //! ```text
-//! header BYTES; sub BYTES       `read_header`, `read_sub`, and the bytes of what they read
-//! put BYTES                     it appends a message to the vector
-//! lu BYTES; device BYTES        `Lu::read`; `Device::read`, its text and model, and whether BYTES are its text
-//! next NUMBER; device-of MODEL  `next_seq`; the device of a model
-//! reason BYTE; causes           its name, and how it is printed; each cause by its number and name, and how it is printed
+//! header BYTES            `read_header`, with the bytes that `header_bytes` answers for it
+//! sub BYTES               `read_sub`, with what `put_sub_message` puts into the cleared vector for it
+//! put BYTES               it appends to the vector
+//! next NUMBER             `next_seq`
+//! lu BYTES                `Lu::read`
+//! device BYTES            `Device::read`, its text and model, and whether BYTES are its text
+//! device-of MODEL         the text of the device of a model
+//! reason BYTE             its name, and how it is printed
+//! causes                  each cause by its number and name, and how it is printed
 //! constants
-//! host; told                    a new host's talk: its offer; what its getters answer
-//! terminal MODEL BYTES; is      a new terminal's talk, which wants this LU, or any if there are no bytes; what its getters answer
-//! hears ITEM; takes ITEM        the host, or the terminal, takes an item: what is sent, the reply, the cause if it closes, and the state
-//! granted BYTES; refused BYTE   the host's pool grants this LU, or none, for this reason
+//! host                    a new host's talk, and its offer
+//! hears ITEM              it takes an item: what it sends, its reply, and its state
+//! granted BYTES           its pool grants this LU, likewise
+//! refused BYTE            its pool grants none, for this reason
+//! told                    what the talk's getters answer
+//! terminal MODEL BYTES    a new terminal's talk, which wants this LU, or any if there are no bytes
+//! takes ITEM              it takes an item, as above
+//! is                      what its getters answer
 //! ```
 //!
 //! An ITEM is `record BYTES`, `sub BYTES`, `other BYTE`, or `VERB BYTE`.
+ghost use Rattle.tn3270e_msg.specs.Header.{IsHeader};
+ghost use Rattle.tn3270e_msg.specs.Lent.{message_of};
+ghost use Rattle.tn3270e_msg.specs.Message.{IsMessage};
+
 use crate::subjects::Subject;
-use crate::subjects::wire::VERBS;
-use crate::talk::{Fault, Talk, find};
+use crate::subjects::wire::verb_named;
+use crate::talk::{Fault, Talk, put_hex, put_named};
 use codes3270::Model;
-use std::fmt::Debug;
+use std::alloc::AllocError;
 use telnet_wire::Item;
 use tn3270e_msg::{
-    ALWAYS_RESPONSE, Cause, Device, ERROR_RESPONSE, HEADER_LENGTH, HostTalk, Lu, NEGATIVE,
-    NO_RESPONSE, POSITIVE, RECORD_LIMIT, REPLY_ROOM, Reason, Reply, TermTalk, header_bytes,
-    next_seq, put_reply, put_sub_message, read_header, read_sub,
+    ALWAYS_RESPONSE, Cause, Device, ERROR_RESPONSE, HEADER_LENGTH, Header, HostTalk, Lu, NEGATIVE,
+    NO_RESPONSE, POSITIVE, RECORD_LIMIT, REPLY_ROOM, Reason, Reply, SubMessage, TermTalk,
+    header_bytes, next_seq, put_reply, put_sub_message, read_header, read_sub,
 };
 
 /// A talk of each end.
@@ -47,8 +58,37 @@ static CAUSES: [Cause; 10] = [
     Cause::RuleBroken,
 ];
 
-fn put_device(talk: &mut Talk<'_>, device: Device, text: &[u8]) -> Result<(), Fault> {
-    talk.line(&(device.text(), device.model(), device.has_text(text)))
+fn put_constants(answer: &mut String) -> Result<(), AllocError> {
+    writeln!(answer, "{NO_RESPONSE} {ERROR_RESPONSE} {ALWAYS_RESPONSE}")?;
+    writeln!(answer, "{POSITIVE} {NEGATIVE}")?;
+    writeln!(answer, "{HEADER_LENGTH} {RECORD_LIMIT} {REPLY_ROOM}")
+}
+
+fn put_header(talk: &mut Talk<'_>, header: &Header, body: &[u8]) -> Result<(), AllocError>
+    requires { IsHeader header.now }
+{
+    talk.line(header)?;
+    talk.name("bytes", &header_bytes(header))?;
+    talk.name("body", body)
+}
+
+fn put_sub(talk: &mut Talk<'_>, message: &SubMessage<'_>) -> Result<(), AllocError>
+    requires { IsMessage (message_of message.now) }
+{
+    talk.line(message)?;
+    talk.out.clear();
+    put_sub_message(talk.out, message)?;
+    put_named(talk.answer, "bytes", talk.out.as_slice())
+}
+
+fn put_device(talk: &mut Talk<'_>, device: Device, text: &[u8]) -> Result<(), AllocError> {
+    put_hex(talk.answer, device.text())?;
+    writeln!(
+        talk.answer,
+        " {:?} {}",
+        device.model(),
+        device.has_text(text)
+    )
 }
 
 fn item_of<'a>(word: &str, bytes: &'a [u8]) -> Result<Item<'a>, Fault> {
@@ -57,72 +97,58 @@ fn item_of<'a>(word: &str, bytes: &'a [u8]) -> Result<Item<'a>, Fault> {
         ("sub", _) => Ok(Item::Sub(bytes)),
         ("other", [code]) => Ok(Item::Other(*code)),
         (_, [code]) => {
-            let verb = find(&VERBS, word)?;
+            let verb = verb_named(word)?;
             Ok(Item::Opt { verb, code: *code })
         }
         _ => Err(Fault::Needs("one byte")),
     }
 }
 
-/// Puts what a reply sends, the reply, the cause if it closes the connection, and the state after it.
-fn put_after<S: Debug>(talk: &mut Talk<'_>, reply: &Reply, state: &S) -> Result<(), Fault> {
+/// Puts what a reply sends, the reply, and the cause if it closes the connection.
+fn put_whole_reply(talk: &mut Talk<'_>, reply: &Reply) -> Result<(), AllocError> {
     let mut out = Vec::with_capacity(talk.alloc, REPLY_ROOM)?;
     let cause = put_reply(&mut out, reply);
-    talk.line(&(out.as_slice(), reply, cause, state))
-}
-
-/// The LU of a name, if there is one.
-fn read_lu(talk: &mut Talk<'_>) -> Result<Option<Lu>, Fault> {
-    let name = talk.bytes()?;
-    let lu = Lu::read(name.as_slice());
-    if lu.is_none() && !name.is_empty() {
-        return Err(Fault::Needs("the name of an LU"));
+    put_hex(talk.answer, out.as_slice())?;
+    writeln!(talk.answer, "\n{reply:?}")?;
+    match cause {
+        Some(cause) => writeln!(talk.answer, "closes {cause}"),
+        None => Ok(()),
     }
-    Ok(lu)
-}
-
-/// Puts a message, and its bytes.
-fn put_sub(talk: &mut Talk<'_>, bytes: &[u8]) -> Result<(), Fault> {
-    let read = read_sub(bytes);
-    talk.called(&read)?;
-    if let Ok(message) = &read {
-        talk.out.clear();
-        put_sub_message(talk.out, message)?;
-        writeln!(talk.answer, "{:?}", talk.out.as_slice())?;
-    }
-    Ok(())
 }
 
 /// Does a command on bytes.
 fn take_bytes(talk: &mut Talk<'_>, word: &str) -> Result<(), Fault> {
-    let bytes = talk.bytes()?;
+    let bytes = talk.all_bytes()?;
     match word {
-        "header" => {
-            let read = read_header(bytes.as_slice());
-            talk.called(&read)?;
-            match &read {
-                Ok((header, _)) => talk.line(&header_bytes(header)),
-                Err(_) => Ok(()),
-            }
-        }
-        "sub" => put_sub(talk, bytes.as_slice()),
+        "header" => match read_header(bytes.as_slice()) {
+            Ok((header, body)) => put_header(talk, &header, body)?,
+            Err(fault) => writeln!(talk.answer, "{fault}")?,
+        },
+        "sub" => match read_sub(bytes.as_slice()) {
+            Ok(message) => put_sub(talk, &message)?,
+            Err(fault) => writeln!(talk.answer, "{fault}")?,
+        },
         "put" => match read_sub(bytes.as_slice()) {
             Ok(message) => {
                 let called = put_sub_message(talk.out, &message);
-                talk.done(called)
+                talk.done(called)?;
             }
-            Err(_) => Err(Fault::Needs("a message")),
+            Err(_) => return Err(Fault::Needs("a message")),
         },
         "lu" => match Lu::read(bytes.as_slice()) {
-            Some(lu) => Ok(writeln!(talk.answer, "{lu} {:?}", lu.as_bytes())?),
-            None => Ok(()),
+            Some(lu) => {
+                talk.name("bytes", lu.as_bytes())?;
+                writeln!(talk.answer, "{lu}")?;
+            }
+            None => talk.none()?,
         },
         "device" => match Device::read(bytes.as_slice()) {
-            Some(device) => put_device(talk, device, bytes.as_slice()),
-            None => Ok(()),
+            Some(device) => put_device(talk, device, bytes.as_slice())?,
+            None => talk.none()?,
         },
-        _ => Err(Fault::Needs("a command of messages")),
+        _ => return Err(Fault::Needs("a command of messages")),
     }
+    Ok(())
 }
 
 impl Messages {
@@ -133,73 +159,84 @@ impl Messages {
         }
     }
 
+    fn put_host_reply(&self, talk: &mut Talk<'_>, reply: &Reply) -> Result<(), AllocError> {
+        put_whole_reply(talk, reply)?;
+        writeln!(talk.answer, "{:?}", self.host.state())
+    }
+
     fn answer_host(&mut self, talk: &mut Talk<'_>, lu: Result<Lu, Reason>) -> Result<(), Fault> {
         if !self.host.asking() {
             return Err(Fault::Needs("a host that asks its pool"));
         }
         let reply = self.host.answered(lu);
-        put_after(talk, &reply, &self.host.state())
+        Ok(self.put_host_reply(talk, &reply)?)
     }
 
-    /// Puts what the getters of the host's talk answer.
-    fn put_host(&self, talk: &mut Talk<'_>) -> Result<(), Fault> {
+    fn put_host(&self, talk: &mut Talk<'_>) -> Result<(), AllocError> {
         let host = &self.host;
-        let agreed = (host.is_agreed(), host.agreed_lu());
-        talk.line(&(
-            host.asking(),
-            host.lu(),
-            agreed,
+        writeln!(talk.answer, "asking {}\nlu {:?}", host.asking(), host.lu())?;
+        writeln!(
+            talk.answer,
+            "agreed {} {:?}",
+            host.is_agreed(),
+            host.agreed_lu()
+        )?;
+        writeln!(
+            talk.answer,
+            "device {:?}\nmodel {:?}",
             host.device(),
-            host.model(),
-        ))
+            host.model()
+        )
     }
 
-    /// Puts what the getters of the terminal's talk answer.
-    fn put_terminal(&self, talk: &mut Talk<'_>) -> Result<(), Fault> {
+    fn put_terminal(&self, talk: &mut Talk<'_>) -> Result<(), AllocError> {
         let terminal = &self.terminal;
-        let agreed = (terminal.is_agreed(), terminal.agreed_lu());
-        talk.line(&(terminal.lu(), agreed, terminal.reason_refused()))
-    }
-
-    /// An end takes an item.
-    fn take_item(&mut self, talk: &mut Talk<'_>, is_host: bool) -> Result<(), Fault> {
-        let word = talk.word()?;
-        let bytes = talk.bytes()?;
-        let item = item_of(word, bytes.as_slice())?;
-        if is_host {
-            let reply = self.host.take(&item);
-            return put_after(talk, &reply, &self.host.state());
-        }
-        let reply = self.terminal.take(&item);
-        put_after(talk, &reply, &self.terminal.state())
+        writeln!(talk.answer, "lu {:?}", terminal.lu())?;
+        writeln!(
+            talk.answer,
+            "agreed {} {:?}",
+            terminal.is_agreed(),
+            terminal.agreed_lu()
+        )?;
+        writeln!(talk.answer, "refused {:?}", terminal.reason_refused())
     }
 
     /// Does a command on the talks.
     fn take_talk(&mut self, talk: &mut Talk<'_>, word: &str) -> Result<(), Fault> {
         match word {
-            "host" => {
-                self.host = HostTalk::new();
-                let mut out = Vec::new(talk.alloc);
-                HostTalk::put_offer(&mut out)?;
-                talk.line(&out.as_slice())
+            "hears" => {
+                let word = talk.word()?;
+                let bytes = talk.all_bytes()?;
+                let reply = self.host.take(&item_of(word, bytes.as_slice())?);
+                self.put_host_reply(talk, &reply)?;
             }
-            "granted" => match read_lu(talk)? {
-                Some(lu) => self.answer_host(talk, Ok(lu)),
-                None => Err(Fault::Needs("the name of an LU")),
+            "granted" => match Lu::read(talk.bytes()?.as_slice()) {
+                Some(lu) => self.answer_host(talk, Ok(lu))?,
+                None => return Err(Fault::Needs("the name of an LU")),
             },
             "refused" => {
                 let reason = Reason(talk.byte()?);
-                self.answer_host(talk, Err(reason))
+                self.answer_host(talk, Err(reason))?;
             }
-            "told" => self.put_host(talk),
             "terminal" => {
                 let model = talk.model()?;
-                self.terminal = TermTalk::new(model, read_lu(talk)?);
-                Ok(())
+                let name = talk.all_bytes()?;
+                let wanted = Lu::read(name.as_slice());
+                if wanted.is_none() && !name.is_empty() {
+                    return Err(Fault::Needs("the name of an LU"));
+                }
+                self.terminal = TermTalk::new(model, wanted);
             }
-            "is" => self.put_terminal(talk),
-            _ => take_bytes(talk, word),
+            "takes" => {
+                let word = talk.word()?;
+                let bytes = talk.all_bytes()?;
+                let reply = self.terminal.take(&item_of(word, bytes.as_slice())?);
+                put_whole_reply(talk, &reply)?;
+                writeln!(talk.answer, "{:?}", self.terminal.state())?;
+            }
+            _ => return take_bytes(talk, word),
         }
+        Ok(())
     }
 }
 
@@ -208,29 +245,32 @@ impl Subject for Messages {
         match talk.word()? {
             "next" => {
                 let next = next_seq(talk.number()?);
-                talk.line(&next)
+                talk.line(&next)?;
             }
             "device-of" => {
                 let device = Device::of(talk.model()?);
-                put_device(talk, device, device.text())
+                put_device(talk, device, device.text())?;
             }
             "reason" => {
                 let reason = Reason(talk.byte()?);
-                Ok(writeln!(talk.answer, "{} {reason}", reason.name().unwrap_or("-"))?)
+                writeln!(talk.answer, "{} {reason}", reason.name().unwrap_or("-"))?;
             }
             "causes" => {
                 for cause in &CAUSES {
                     writeln!(talk.answer, "{} {} {cause}", cause.number(), cause.name())?;
                 }
-                Ok(())
             }
-            "constants" => {
-                talk.line(&(NO_RESPONSE, ERROR_RESPONSE, ALWAYS_RESPONSE))?;
-                talk.line(&(POSITIVE, NEGATIVE, HEADER_LENGTH, RECORD_LIMIT, REPLY_ROOM))
+            "constants" => put_constants(talk.answer)?,
+            "host" => {
+                self.host = HostTalk::new();
+                let mut out = Vec::new(talk.alloc);
+                HostTalk::put_offer(&mut out)?;
+                talk.name("offer", out.as_slice())?;
             }
-            "hears" => self.take_item(talk, true),
-            "takes" => self.take_item(talk, false),
-            word => self.take_talk(talk, word),
+            "told" => self.put_host(talk)?,
+            "is" => self.put_terminal(talk)?,
+            word => self.take_talk(talk, word)?,
         }
+        Ok(())
     }
 }

@@ -1,4 +1,4 @@
-//! A text of panels, and the screens that its panels ask for. What calls answer is printed by Debug.
+//! A text of panels, and the screens that its panels ask for.
 //!
 //! ```text
 //! read BYTES           a text: its first panel, its number of panels, its LUs; or the fault
@@ -16,9 +16,9 @@ ghost use Rattle.panels.specs.Characters.{AreCharacters};
 ghost use Rattle.panels.specs.declared.message.Message.TheVariants.{Fresh};
 
 use crate::subjects::Subject;
-use crate::subjects::cells::{aid, put_wanted};
+use crate::subjects::cells::put_wanted;
 use crate::talk::{Fault, Talk, text_of};
-use codes3270::storable;
+use codes3270::{aid_from_byte, storable};
 use panels::{Message, Panel, PanelFault, PanelSet, Values};
 use std::alloc::{AllocError, Global};
 use std::mem;
@@ -60,18 +60,30 @@ pub(crate) fn set_value(
     talk: &mut Talk<'_>,
     values: &mut Values,
 ) -> Result<Result<(), AllocError>, Fault> {
-    let (field, bytes) = (talk.number()?, talk.bytes()?);
+    let (field, bytes) = (talk.number()?, talk.all_bytes()?);
     if !are_characters(bytes.as_slice()) {
         return Err(Fault::Needs("characters"));
     }
     Ok(values.set(field, bytes.as_slice()))
 }
 
-fn put_panel(talk: &mut Talk<'_>, panel: &Panel) -> Result<(), Fault> {
-    talk.line(&(panel.name().as_str(), panel.model(), panel.size()))?;
+fn put_set(talk: &mut Talk<'_>, set: &PanelSet) -> Result<(), AllocError> {
+    let (start, count) = (set.start(), set.len());
+    write!(talk.answer, "start {start} panels {count} lus")?;
+    for lu in set.lus() {
+        write!(talk.answer, " {}", lu.as_str())?;
+    }
+    talk.answer.push('\n')
+}
+
+fn put_panel(talk: &mut Talk<'_>, panel: &Panel) -> Result<(), AllocError> {
+    let (size, model) = (panel.size(), panel.model());
+    write!(talk.answer, "{} {model:?}", panel.name().as_str())?;
+    writeln!(talk.answer, " size {} {}", size.rows(), size.cols())?;
     for field in panel.fields() {
-        let extent = (field.extent.attr(), field.extent.length);
-        talk.line(&(field.number, extent, field.required))?;
+        let (attr, length) = (field.extent.attr().get(), field.extent.length);
+        write!(talk.answer, "field {} at {attr}+{length}", field.number)?;
+        writeln!(talk.answer, " required {}", field.required)?;
     }
     Ok(())
 }
@@ -87,25 +99,28 @@ impl Panels {
     }
 
     fn read(&mut self, talk: &mut Talk<'_>) -> Result<(), Fault> {
-        let bytes = talk.bytes()?;
+        let bytes = talk.all_bytes()?;
         match PanelSet::read(talk.alloc, text_of(bytes.as_slice())?) {
             Ok(set) => {
-                talk.line(&(set.start(), set.len(), set.lus()))?;
+                put_set(talk, &set)?;
                 self.set = Some(set);
-                Ok(())
             }
-            Err(PanelFault::Memory) => talk.done(Err(AllocError)),
-            Err(fault) => Ok(writeln!(talk.answer, "fault {fault}")?),
+            Err(PanelFault::Memory) => talk.done(Err(AllocError))?,
+            Err(fault) => writeln!(talk.answer, "fault {fault}")?,
         }
+        Ok(())
     }
 
     fn set(&self) -> Result<&PanelSet, Fault> {
-        self.set.as_ref().ok_or(Fault::Needs("a text"))
+        self.set
+            .as_ref()
+            .ok_or(Fault::Needs("a text that was read"))
     }
 
     fn panel(&self) -> Result<&Panel, Fault> {
-        let panel = self.set()?.panel(self.index);
-        panel.ok_or(Fault::Needs("a panel's index"))
+        self.set()?
+            .panel(self.index)
+            .ok_or(Fault::Needs("a panel's index"))
     }
 
     fn put_wanted(&self, talk: &mut Talk<'_>) -> Result<(), Fault> {
@@ -129,7 +144,7 @@ impl Panels {
         if index >= set.len() {
             return Err(Fault::Needs("a panel's index"));
         }
-        talk.line(&set.shown(index, session))
+        Ok(writeln!(talk.answer, "{}", set.shown(index, session))?)
     }
 
     fn copy(&mut self) -> Result<(), AllocError> {
@@ -141,31 +156,32 @@ impl Panels {
 impl Subject for Panels {
     fn take(&mut self, talk: &mut Talk<'_>) -> Result<(), Fault> {
         match talk.word()? {
-            "read" => self.read(talk),
+            "read" => self.read(talk)?,
             "panel" => {
                 self.index = talk.number()?;
                 match self.set()?.panel(self.index) {
-                    Some(panel) => put_panel(talk, panel),
-                    None => Ok(()),
+                    Some(panel) => put_panel(talk, panel)?,
+                    None => talk.none()?,
                 }
             }
-            "wanted" => self.put_wanted(talk),
-            "next" => {
-                let aid = aid(talk)?;
-                talk.line(&self.panel()?.next(aid))
-            }
-            "shown" => self.put_shown(talk),
+            "wanted" => self.put_wanted(talk)?,
+            "next" => match aid_from_byte(talk.byte()?) {
+                Some(aid) => talk.line(&self.panel()?.next(aid))?,
+                None => return Err(Fault::Needs("the byte of an AID")),
+            },
+            "shown" => self.put_shown(talk)?,
             "set" => {
                 let called = set_value(talk, &mut self.values)?;
-                talk.done(called)
+                talk.done(called)?;
             }
-            "copy" => talk.done(self.copy()),
-            "swap" => Ok(mem::swap(&mut self.values, &mut self.copy)),
-            "value" => {
-                let field = talk.number()?;
-                talk.line(&self.values.get(field))
-            }
-            _ => Err(Fault::Needs("a command for panels")),
+            "copy" => talk.done(self.copy())?,
+            "swap" => mem::swap(&mut self.values, &mut self.copy),
+            "value" => match self.values.get(talk.number()?) {
+                Some(value) => talk.name("value", value)?,
+                None => talk.none()?,
+            },
+            _ => return Err(Fault::Needs("a command for panels")),
         }
+        Ok(())
     }
 }

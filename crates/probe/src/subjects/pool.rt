@@ -1,4 +1,4 @@
-//! Calls of lu_pool. An LU is printed by Debug.
+//! Calls of lu_pool.
 //!
 //! ```text
 //! read BYTES BYTES ..     a pool of the LUs with these names, or why there is none
@@ -17,15 +17,35 @@ pub(crate) struct Pools {
 
 /// Asks for a connection that holds none.
 fn ask(talk: &mut Talk<'_>, pool: &mut Pool, conn: usize) -> Result<(), Fault> {
-    let name = talk.bytes()?;
+    let name = talk.all_bytes()?;
     let name = match name.is_empty() {
         true => None,
         false => Some(name.as_slice()),
     };
     match pool.lu_held_by(conn) {
         Some(_) => Err(Fault::Needs("a connection that holds no LU")),
-        None => talk.called(&pool.ask(conn, name)),
+        None => match pool.ask(conn, name) {
+            Ok(lu) => Ok(writeln!(talk.answer, "{lu}")?),
+            Err(reason) => Ok(writeln!(talk.answer, "{reason}")?),
+        },
     }
+}
+
+fn take_on(talk: &mut Talk<'_>, pool: &mut Pool, word: &str) -> Result<(), Fault> {
+    match word {
+        "ask" => {
+            let conn = talk.number()?;
+            ask(talk, pool, conn)?;
+        }
+        "held" => match pool.lu_held_by(talk.number()?) {
+            Some(lu) => writeln!(talk.answer, "{lu}")?,
+            None => talk.none()?,
+        },
+        "give-back" => pool.give_back(talk.number()?),
+        "free-all" => pool.free_all(),
+        _ => return Err(Fault::Needs("a command of pool")),
+    }
+    Ok(())
 }
 
 impl Pools {
@@ -40,7 +60,7 @@ impl Pools {
         match Pool::read(talk.alloc, names.as_slice()) {
             Ok(pool) => {
                 self.pool = Some(pool);
-                talk.done(Ok(()))
+                Ok(talk.done(Ok(()))?)
             }
             Err(fault) => Ok(writeln!(talk.answer, "{fault}")?),
         }
@@ -51,17 +71,8 @@ impl Subject for Pools {
     fn take(&mut self, talk: &mut Talk<'_>) -> Result<(), Fault> {
         match (talk.word()?, &mut self.pool) {
             ("read", _) => self.read(talk),
-            ("ask", Some(pool)) => {
-                let conn = talk.number()?;
-                ask(talk, pool, conn)
-            }
-            ("held", Some(pool)) => {
-                let lu = pool.lu_held_by(talk.number()?);
-                talk.line(&lu)
-            }
-            ("give-back", Some(pool)) => Ok(pool.give_back(talk.number()?)),
-            ("free-all", Some(pool)) => Ok(pool.free_all()),
-            _ => Err(Fault::Needs("a pool, and a command of it")),
+            (word, Some(pool)) => take_on(talk, pool, word),
+            _ => Err(Fault::Needs("a pool")),
         }
     }
 }

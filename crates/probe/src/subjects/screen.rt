@@ -1,4 +1,4 @@
-//! A screen of presentation with a keyboard at it. What calls answer is printed by Debug.
+//! A screen of presentation with a keyboard at it, and the screen of reference, on 24 by 80.
 //!
 //! ```text
 //! new MODEL                   a blank screen of a model, and a keyboard that waits
@@ -14,13 +14,16 @@
 //! copy                        the screen's copy takes its place
 //! refusals                    the number of each refusal
 //! ```
+//!
+//! That of reference has the commands down to `read`.
 use crate::subjects::Subject;
-use crate::subjects::cells::{FORMS, aid, at, key, place_on};
+use crate::subjects::cells::{at, form, place_on};
 use crate::talk::{Fault, Talk};
-use codes3270::{Model, storable};
+use codes3270::{Aid, Model, aid_from_byte, storable};
 use datastream::{CommandFault, Form, Memory, read_command};
 use keyboard::{Key, Keyboard, Refusal};
 use presentation::{Applied, Screen};
+use reference::{AnyScreen, Look, ReferenceScreen, Shown};
 
 /// A screen and its keyboard.
 #[derive(Drop)]
@@ -55,30 +58,8 @@ fn mark(screen: &mut Screen, place: u16) {
     }
 }
 
-fn put_read(screen: &Screen, out: &mut Vec<u8>, form: Form) -> Result<(), Memory> {
-    match form {
-        Form::Buffer => screen.put_read_buffer(out),
-        _ => screen.put_read_modified(out, form == Form::All),
-    }
-}
-
-fn put_show(talk: &mut Talk<'_>, screen: &Screen) -> Result<(), Fault> {
-    talk.line(&(screen.size(), screen.cursor(), screen.home(), screen.aid()))
-}
-
-/// Puts what is to be seen of a cell.
-fn put_look(talk: &mut Talk<'_>, screen: &Screen, place: u16) -> Result<(), Fault> {
-    let size = screen.size();
-    talk.line(&(
-        screen.cell(at(place, size)),
-        screen.field_at(at(place, size)),
-        screen.attribute_over(at(place, size)),
-        u32::from(screen.glyph_at(at(place, size))),
-    ))
-}
-
-impl Display {
-    pub(crate) fn blank(model: Model) -> Display {
+impl AnyScreen for Display {
+    fn blank(model: Model) -> Display {
         Display {
             screen: Screen::blank(model),
             keyboard: Keyboard::new(),
@@ -96,73 +77,138 @@ impl Display {
         Ok(applied)
     }
 
-    fn press(&mut self, talk: &mut Talk<'_>, key: Key) -> Result<(), Fault> {
-        talk.line(&self.keyboard.press(&mut self.screen, key))
+    fn store(&mut self, first: u16, chars: &[u8]) {
+        let mut place = first;
+        for code in chars {
+            store(&mut self.screen, place, *code);
+            place = place.saturating_add(1) % self.screen.size().cells();
+        }
+        mark(&mut self.screen, first);
     }
 
-    /// Does a command that changes the screen.
-    fn change(&mut self, talk: &mut Talk<'_>, word: &str) -> Result<(), Fault> {
-        match word {
-            "new" => *self = Display::blank(talk.model()?),
-            "store" => {
-                let first = place_on(talk, self.screen.size())?;
-                let mut place = first;
-                for code in talk.bytes()?.as_slice() {
-                    store(&mut self.screen, place, *code);
-                    place = place.saturating_add(1) % self.screen.size().cells();
-                }
-                mark(&mut self.screen, first);
-            }
-            "cursor" => {
-                let place = place_on(talk, self.screen.size())?;
-                self.screen.set_cursor(at(place, self.screen.size()));
-            }
-            "aid" => self.screen.set_aid(aid(talk)?),
-            "clear" => self.screen.clear(),
-            "erase-input" => self.screen.erase_unprotected(),
-            "copy" => self.screen = self.screen.clone()?,
-            _ => return Err(Fault::Needs("a command of screen")),
+    fn set_cursor(&mut self, place: u16) {
+        self.screen.set_cursor(at(place, self.screen.size()));
+    }
+
+    fn set_aid(&mut self, aid: Aid) {
+        self.screen.set_aid(aid);
+    }
+
+    fn clear(&mut self) {
+        self.screen.clear();
+    }
+
+    fn erase_unprotected(&mut self) {
+        self.screen.erase_unprotected();
+    }
+
+    fn shown(&self) -> Shown {
+        Shown {
+            size: self.screen.size(),
+            cursor: self.screen.cursor(),
+            home: self.screen.home(),
+            aid: self.screen.aid(),
         }
-        Ok(())
+    }
+
+    fn look(&self, place: u16) -> Look {
+        let size = self.screen.size();
+        Look {
+            cell: self.screen.cell(at(place, size)),
+            field: self.screen.field_at(at(place, size)),
+            over: self.screen.attribute_over(at(place, size)),
+            glyph: self.screen.glyph_at(at(place, size)).into(),
+        }
+    }
+
+    fn put_read(&self, out: &mut Vec<u8>, form: Form) -> Result<(), Memory> {
+        match form {
+            Form::Modified => self.screen.put_read_modified(out, false),
+            Form::All => self.screen.put_read_modified(out, true),
+            Form::Buffer => self.screen.put_read_buffer(out),
+        }
+    }
+}
+
+/// Does a command on either screen.
+fn take_any<S: AnyScreen + Drop>(
+    screen: &mut S,
+    talk: &mut Talk<'_>,
+    word: &str,
+) -> Result<(), Fault> {
+    match word {
+        "new" => *screen = S::blank(talk.model()?),
+        "apply" => {
+            let bytes = talk.all_bytes()?;
+            talk.line(&screen.apply(bytes.as_slice()))?;
+        }
+        "store" => {
+            let first = place_on(talk, screen.shown().size)?;
+            screen.store(first, talk.bytes()?.as_slice());
+        }
+        "cursor" => {
+            let place = place_on(talk, screen.shown().size)?;
+            screen.set_cursor(place);
+        }
+        "aid" => match aid_from_byte(talk.byte()?) {
+            Some(aid) => screen.set_aid(aid),
+            None => return Err(Fault::Needs("the byte of an AID")),
+        },
+        "clear" => screen.clear(),
+        "erase-input" => screen.erase_unprotected(),
+        "show" => talk.line(&screen.shown())?,
+        "look" => {
+            for place in 0..screen.shown().size.cells() {
+                talk.line(&screen.look(place))?;
+            }
+        }
+        "read" => {
+            let form = form(talk)?;
+            let called = screen.put_read(talk.out, form);
+            talk.done(called)?;
+        }
+        _ => return Err(Fault::Needs("a command of screen")),
+    }
+    Ok(())
+}
+
+impl Display {
+    fn press(&mut self, talk: &mut Talk<'_>, key: Option<Key>) -> Result<(), Fault> {
+        match key {
+            Some(key) => Ok(talk.line(&self.keyboard.press(&mut self.screen, key))?),
+            None => Err(Fault::Needs("a key")),
+        }
     }
 }
 
 impl Subject for Display {
     fn take(&mut self, talk: &mut Talk<'_>) -> Result<(), Fault> {
         match talk.word()? {
-            "apply" => {
-                let bytes = talk.bytes()?;
-                talk.line(&self.apply(bytes.as_slice()))
-            }
-            "show" => put_show(talk, &self.screen),
-            "look" => {
-                for place in 0..self.screen.size().cells() {
-                    put_look(talk, &self.screen, place)?;
-                }
-                Ok(())
-            }
-            "read" => {
-                let form = talk.named(&FORMS)?;
-                let called = put_read(&self.screen, talk.out, form);
-                talk.done(called)
-            }
             "press" => {
-                let key = key(talk)?;
-                self.press(talk, key)
+                let key = Key::named(talk.word()?);
+                self.press(talk, key)?;
             }
-            "char" => match char::from_u32(talk.number()?) {
-                Some(letter) => self.press(talk, Key::Char(letter)),
-                None => Err(Fault::Needs("the number of a character")),
-            },
-            "fields" => talk.each("fields", self.screen.fields()),
-            "glyphs" => talk.each("glyphs", self.screen.glyphs().map(u32::from)),
+            "char" => {
+                let key = char::from_u32(talk.number()?).map(Key::Char);
+                self.press(talk, key)?;
+            }
+            "fields" => talk.each("fields", self.screen.fields())?,
+            "glyphs" => talk.each("glyphs", self.screen.glyphs().map(u32::from))?,
+            "copy" => self.screen = self.screen.clone()?,
             "refusals" => {
                 for refusal in &REFUSALS {
                     writeln!(talk.answer, "{} {refusal}", refusal.number())?;
                 }
-                Ok(())
             }
-            word => self.change(talk, word),
+            word => take_any(self, talk, word)?,
         }
+        Ok(())
+    }
+}
+
+impl Subject for ReferenceScreen {
+    fn take(&mut self, talk: &mut Talk<'_>) -> Result<(), Fault> {
+        let word = talk.word()?;
+        take_any(self, talk, word)
     }
 }

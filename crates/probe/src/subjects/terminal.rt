@@ -10,7 +10,7 @@
 //! see                all of this, the output, and the cells
 //! text; lines        the screen as text, with and without the line below it
 //! ```
-use crate::subjects::cells::{key, put_cells};
+use crate::subjects::cells::{put_cells, put_screen};
 use crate::subjects::made::Made;
 use crate::talk::{Fault, Talk};
 use codes3270::aid_byte;
@@ -27,34 +27,36 @@ fn connect(terminal: &mut Terminal, name: &str) -> Result<(), Fault> {
     }
 }
 
-fn press(talk: &mut Talk<'_>, terminal: &mut Terminal, key: Key) -> Result<(), Fault> {
+fn press(talk: &mut Talk<'_>, terminal: &mut Terminal, key: Key) -> Result<(), AllocError> {
     match terminal.press(key) {
-        Ok(Pressed::Refused(refusal)) => Ok(writeln!(talk.answer, "refused {refusal}")?),
-        Ok(Pressed::Send(aid)) => Ok(writeln!(talk.answer, "sends {:02X}", aid_byte(aid))?),
-        called => talk.done(called.map(|_| ())),
+        Ok(Pressed::Done) => talk.done(Ok(())),
+        Ok(Pressed::Refused(refusal)) => writeln!(talk.answer, "refused {refusal}"),
+        Ok(Pressed::Send(aid)) => writeln!(talk.answer, "sends {:02X}", aid_byte(aid)),
+        Err(fault) => talk.done(Err(fault)),
     }
 }
 
 /// Puts how far a terminal is with its host, and its screen without the cells.
-fn put_state(talk: &mut Talk<'_>, terminal: &Terminal) -> Result<(), Fault> {
-    let (phase, lock, screen) = (terminal.phase(), terminal.lock(), terminal.screen());
+fn put_state(talk: &mut Talk<'_>, terminal: &Terminal) -> Result<(), AllocError> {
+    let (phase, lock) = (terminal.phase(), terminal.lock());
     writeln!(talk.answer, "phase {phase}\nlock {lock}")?;
-    writeln!(talk.answer, "size {:?}", screen.size())?;
-    writeln!(talk.answer, "cursor {}", screen.cursor().get())?;
-    writeln!(talk.answer, "aid {:02X}", aid_byte(screen.aid()))?;
+    put_screen(talk.answer, terminal.screen())?;
     writeln!(talk.answer, "inserting {}", terminal.keyboard().inserting())?;
-    Ok(writeln!(talk.answer, "took-write {}", terminal.took_write())?)
+    writeln!(talk.answer, "took-write {}", terminal.took_write())
 }
 
 /// Puts all that is to be seen of a terminal.
-pub(crate) fn put_all(talk: &mut Talk<'_>, terminal: &Terminal) -> Result<(), Fault> {
+pub(crate) fn put_all(talk: &mut Talk<'_>, terminal: &Terminal) -> Result<(), AllocError> {
     put_state(talk, terminal)?;
     talk.name("out", terminal.out())?;
     put_cells(talk.answer, terminal.screen())
 }
 
 /// Puts a text, if there was memory for it.
-pub(crate) fn put_page(talk: &mut Talk<'_>, page: Result<String, AllocError>) -> Result<(), Fault> {
+pub(crate) fn put_page(
+    talk: &mut Talk<'_>,
+    page: Result<String, AllocError>,
+) -> Result<(), AllocError> {
     match page {
         Ok(text) => talk.text(text.as_str()),
         Err(fault) => talk.done(Err(fault)),
@@ -68,30 +70,30 @@ impl Made for Terminal {
 
     fn take(&mut self, word: &str, talk: &mut Talk<'_>) -> Result<(), Fault> {
         match word {
-            "connected" => connect(self, talk.rest()),
+            "connected" => connect(self, talk.rest())?,
             "feed" => {
-                let bytes = talk.bytes()?;
-                talk.line(&self.feed(bytes.as_slice()))
+                let bytes = talk.all_bytes()?;
+                talk.line(&self.feed(bytes.as_slice()))?;
             }
-            "key" => {
-                let key = key(talk)?;
-                press(talk, self, key)
-            }
+            "key" => match Key::named(talk.word()?) {
+                Some(key) => press(talk, self, key)?,
+                None => return Err(Fault::Needs("a key")),
+            },
             "type" => {
                 for letter in talk.rest().chars() {
                     press(talk, self, Key::Char(letter))?;
                 }
-                Ok(())
             }
-            "sent" => Ok(self.sent(talk.number::<usize>()?.min(self.out().len()))),
-            "lost" => talk.name("unsent", self.lost().as_slice()),
-            "restart" => Ok(self.restart()),
-            "out" => talk.name("out", self.out()),
-            "state" => put_state(talk, self),
-            "see" => put_all(talk, self),
-            "text" => put_page(talk, self.screen_text(talk.alloc)),
-            "lines" => put_page(talk, screen_lines(talk.alloc, self.screen())),
-            _ => Err(Fault::Needs("a command for a terminal")),
+            "sent" => self.sent(talk.number::<usize>()?.min(self.out().len())),
+            "lost" => talk.name("unsent", self.lost().as_slice())?,
+            "restart" => self.restart(),
+            "out" => talk.name("out", self.out())?,
+            "state" => put_state(talk, self)?,
+            "see" => put_all(talk, self)?,
+            "text" => put_page(talk, self.screen_text(talk.alloc))?,
+            "lines" => put_page(talk, screen_lines(talk.alloc, self.screen()))?,
+            _ => return Err(Fault::Needs("a command for a terminal")),
         }
+        Ok(())
     }
 }

@@ -11,19 +11,31 @@
 use crate::subjects::Subject;
 use crate::talk::{Fault, Talk, bytes_of};
 use std::alloc::{AllocError, Global};
-use telnet_wire::{Decoder, Step, Verb, put_option, put_record, put_sub, put_sub_parts};
+use telnet_wire::{Decoder, Item, Step, Verb, put_option, put_record, put_sub, put_sub_parts};
 
 #[derive(Drop)]
 pub(crate) struct Wire {
     decoder: Decoder,
 }
 
-pub(crate) static VERBS: [(&str, Verb); 4] = [
-    ("Will", Verb::Will),
-    ("Wont", Verb::Wont),
-    ("Do", Verb::Do),
-    ("Dont", Verb::Dont),
-];
+pub(crate) fn verb_named(word: &str) -> Result<Verb, Fault> {
+    match word {
+        "Will" => Ok(Verb::Will),
+        "Wont" => Ok(Verb::Wont),
+        "Do" => Ok(Verb::Do),
+        "Dont" => Ok(Verb::Dont),
+        _ => Err(Fault::Needs("Will, Wont, Do or Dont")),
+    }
+}
+
+fn put_item(talk: &mut Talk<'_>, item: Item<'_>) -> Result<(), AllocError> {
+    match item {
+        Item::Record(data) => talk.name("record", data),
+        Item::Opt { verb, code } => writeln!(talk.answer, "option {verb:?} {code:02X}"),
+        Item::Sub(bytes) => talk.name("sub", bytes),
+        Item::Other(code) => writeln!(talk.answer, "other {code:02X}"),
+    }
+}
 
 fn put_parts(talk: &mut Talk<'_>) -> Result<(), Fault> {
     let mut owned = Vec::new(talk.alloc);
@@ -35,26 +47,27 @@ fn put_parts(talk: &mut Talk<'_>) -> Result<(), Fault> {
         parts.push(part.as_slice())?;
     }
     let called = put_sub_parts(talk.out, parts.as_slice());
-    talk.done(called)
+    Ok(talk.done(called)?)
 }
 
 fn append(talk: &mut Talk<'_>, word: &str) -> Result<(), Fault> {
     let called = match word {
+        "parts" => return put_parts(talk),
         "option" => {
-            let (verb, code) = (talk.named(&VERBS)?, talk.byte()?);
+            let verb = verb_named(talk.word()?)?;
+            let code = talk.byte()?;
             put_option(talk.out, verb, code)
         }
-        "record" => {
-            let bytes = talk.bytes()?;
-            put_record(talk.out, bytes.as_slice())
+        _ => {
+            let bytes = talk.all_bytes()?;
+            match word {
+                "record" => put_record(talk.out, bytes.as_slice()),
+                "sub" => put_sub(talk.out, bytes.as_slice()),
+                _ => return Err(Fault::Needs("a command of wire")),
+            }
         }
-        "sub" => {
-            let bytes = talk.bytes()?;
-            put_sub(talk.out, bytes.as_slice())
-        }
-        _ => return Err(Fault::Needs("a command of wire")),
     };
-    talk.done(called)
+    Ok(talk.done(called)?)
 }
 
 impl Wire {
@@ -66,17 +79,20 @@ impl Wire {
     }
 
     /// Pushes the byte at a place, and puts what it completes.
-    fn push(&mut self, talk: &mut Talk<'_>, place: usize, byte: u8) -> Result<(), Fault> {
+    fn push(&mut self, talk: &mut Talk<'_>, place: usize, byte: u8) -> Result<(), AllocError> {
         match self.decoder.push(byte) {
             Ok(Step::More) => Ok(()),
-            Ok(Step::Ready) => Ok(writeln!(talk.answer, "{place} {:?}", self.decoder.item())?),
-            Err(fault) => Ok(writeln!(talk.answer, "{place} {fault}")?),
+            Ok(Step::Ready) => {
+                write!(talk.answer, "{place} ")?;
+                put_item(talk, self.decoder.item())
+            }
+            Err(fault) => writeln!(talk.answer, "{place} {fault}"),
         }
     }
 
     /// Pushes each byte, unless it is fed and `push_data` takes it.
     fn push_each(&mut self, talk: &mut Talk<'_>, is_fed: bool) -> Result<(), Fault> {
-        let bytes = talk.bytes()?;
+        let bytes = talk.all_bytes()?;
         let mut next = 0;
         for (index, byte) in bytes.as_slice().iter().enumerate() {
             if index < next {
@@ -101,19 +117,19 @@ impl Subject for Wire {
             "new" => match Decoder::new(talk.alloc, talk.number()?) {
                 Ok(decoder) => {
                     self.decoder = decoder;
-                    talk.done(Ok(()))
+                    talk.done(Ok(()))?;
                 }
-                Err(fault) => Ok(writeln!(talk.answer, "{fault}")?),
+                Err(fault) => writeln!(talk.answer, "{fault}")?,
             },
-            "push" => self.push_each(talk, false),
-            "feed" => self.push_each(talk, true),
+            "push" => self.push_each(talk, false)?,
+            "feed" => self.push_each(talk, true)?,
             "data" => {
-                let bytes = talk.bytes()?;
-                talk.line(&self.decoder.push_data(bytes.as_slice()))
+                let bytes = talk.all_bytes()?;
+                writeln!(talk.answer, "{}", self.decoder.push_data(bytes.as_slice()))?;
             }
-            "reset" => Ok(self.decoder.reset()),
-            "parts" => put_parts(talk),
-            word => append(talk, word),
+            "reset" => self.decoder.reset(),
+            word => append(talk, word)?,
         }
+        Ok(())
     }
 }

@@ -23,6 +23,7 @@ use codes3270::Model;
 use host_core::{MOST_CONNECTIONS, Phase};
 use keyboard::Key;
 use scripts::{ScriptCommand, typed_text};
+use std::alloc::AllocError;
 use world3270::{Event, World};
 
 const MODELS: [Model; 4] = [Model::M2, Model::M3, Model::M4, Model::M5];
@@ -59,7 +60,7 @@ impl Worlds {
         }
     }
 
-    fn put_states(&self, talk: &mut Talk<'_>) -> Result<(), Fault> {
+    fn put_states(&self, talk: &mut Talk<'_>) -> Result<(), AllocError> {
         for terminal in 0..self.world.terminals() {
             let phase = self.world.terminal(terminal).phase();
             writeln!(talk.answer, "terminal {phase}")?;
@@ -76,31 +77,32 @@ impl Worlds {
     /// Puts what a line asks for.
     fn look(&self, word: &str, talk: &mut Talk<'_>) -> Result<(), Fault> {
         match word {
-            "states" => self.put_states(talk),
+            "states" => self.put_states(talk)?,
             "host" => {
                 let conn = read_conn(talk)?;
-                host::put_all(talk, self.world.host(), conn)
+                host::put_all(talk, self.world.host(), conn)?;
             }
             "terminal" => {
                 let terminal = self.read_terminal(talk)?;
-                terminal::put_all(talk, self.world.terminal(terminal))
+                terminal::put_all(talk, self.world.terminal(terminal))?;
             }
             "left" => {
                 let terminal = self.read_terminal(talk)?;
                 writeln!(talk.answer, "erased {}", self.world.erased(terminal))?;
-                put_cells(talk.answer, self.world.last_restored(terminal))
+                put_cells(talk.answer, self.world.last_restored(terminal))?;
             }
             "text" => {
                 let terminal = self.world.terminal(self.read_terminal(talk)?);
-                put_page(talk, terminal.screen_text(talk.alloc))
+                put_page(talk, terminal.screen_text(talk.alloc))?;
             }
             "queued" => {
                 let conn = read_conn(talk)?;
                 talk.name("up", self.world.queued_up(conn))?;
-                talk.name("down", self.world.queued_down(conn))
+                talk.name("down", self.world.queued_down(conn))?;
             }
-            _ => Err(Fault::Needs("a command for a world")),
+            _ => return Err(Fault::Needs("a command for a world")),
         }
+        Ok(())
     }
 }
 
@@ -116,15 +118,16 @@ impl Made for Worlds {
         match word {
             "step" => {
                 let event = read_event(talk.rest())?;
-                talk.line(&self.world.step(event))
+                talk.line(&self.world.step(event))?;
             }
-            "list" => Ok(self.events.push(read_event(talk.rest())?)?),
+            "list" => self.events.push(read_event(talk.rest())?)?,
             "run" => {
                 let ran = self.world.run(self.events.as_slice());
                 self.events.clear();
-                talk.line(&ran)
+                talk.line(&ran)?;
             }
-            _ => self.look(word, talk),
+            _ => self.look(word, talk)?,
         }
+        Ok(())
     }
 }
