@@ -17,6 +17,7 @@ RUNS = (
 )
 GRAPHIC = [code for first, last in RUNS for code in range(first, last + 1)]
 DISPLAYS = ("Normal", "Detectable", "Bright", "Hidden")
+SIZES = {"M2": "24 80", "M3": "32 80", "M4": "43 80", "M5": "27 132"}
 
 
 def attribute(found: re.Match[str]) -> str:
@@ -47,6 +48,15 @@ SPELLINGS = [(re.compile(pattern), said) for pattern, said in (
     (r"\b(?:Sf|Attr)\((\w\w)\)", r"1D\1"),
     (r"\bSome\(([^()]*)\)", r"\1"),
     (r"\b(None|Keep|Pt|Ic)\b", lambda it: it[1].lower()),
+    (r"Size \{ model: (M\d) \}", lambda it: SIZES[it[1]]),
+    # The first line of a command, of inbound data and of a wanted screen.
+    (r"\((\w+), (\w+), (\d+ \d+), ([^(]*)\)", r"\1 has-orders \2\nsize \3\nwcc \4"),
+    (
+        r"\((\w+), (\d+ \d+), \[(\d+)\], (\w+), \[([\d, ]*)\]\)",
+        lambda it: f"{it[1]}\nsize {it[2]}\naid {int(it[3]):02X}\ncursor {it[4]}\n"
+        f"leading {text_of(it[5])}",
+    ),
+    (r"\((\d+ \d+), (\d+), (\w+)\)", r"size \1\ncursor \2\nreset \3"),
 )]
 
 

@@ -1,6 +1,7 @@
 """Reads files of cases."""
 import dataclasses
 import pathlib
+import re
 from collections.abc import Iterator
 
 from harness.case import BadCase, Place, relative
@@ -24,8 +25,8 @@ class Line:
         return int(word)
 
     def data(self, words: str) -> bytes:
-        """The bytes that words of the line spell, as the probe reads them: pairs of hexadecimal
-        digits, PAIRS*N, "TEXT", - for none."""
+        """The bytes that words of the line spell: pairs of hexadecimal digits, PAIRS*N, "TEXT",
+        - for none."""
         try:
             return b"".join(map(word_bytes, words.split()))
         except ValueError as error:
@@ -44,6 +45,18 @@ def word_bytes(word: str) -> bytes:
     ):
         raise ValueError(f"{word} spells no bytes")
     return bytes.fromhex(pairs) * int(times or 1)
+
+
+def in_digits(command: str) -> str:
+    """A command of the probe, with its words PAIRS*N and "TEXT" in hexadecimal digits, unless it
+    has a text to type."""
+    if re.match("(! )?(type|step|list) ", command):
+        return command
+    return re.sub(
+        r'(?<= )(?:"[^" ]*"|(?:[0-9A-Fa-f]{2})+\*\d+)(?= |$)',
+        lambda word: word_bytes(word[0]).hex().upper() or "-",
+        command,
+    )
 
 
 def lines_of(path: pathlib.Path) -> list[Line]:

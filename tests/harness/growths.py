@@ -8,24 +8,24 @@ import tempfile
 
 from harness.case import BadCase, Difference
 
-SOURCE = pathlib.Path(__file__).resolve().parent / "refuse.c"
+SOURCES = pathlib.Path(__file__).resolve().parent
 # Held until the process ends.
 FOLDER = tempfile.TemporaryDirectory(prefix="tests-growths-")
 
 
 @functools.cache
-def library() -> pathlib.Path:
-    """refuse.c as a library, which is compiled once in a process."""
-    path = pathlib.Path(FOLDER.name) / "refuse.so"
+def library(name: str = "refuse") -> pathlib.Path:
+    """A C file of this folder as a library, which is compiled once in a process."""
+    path = pathlib.Path(FOLDER.name) / f"{name}.so"
     try:
         subprocess.run(
-            ["cc", "-O2", "-shared", "-fPIC", "-o", path, SOURCE],
+            ["cc", "-O2", "-shared", "-fPIC", "-o", path, SOURCES / f"{name}.c"],
             check=True,
             capture_output=True,
             text=True,
         )
     except (OSError, subprocess.CalledProcessError) as error:
-        raise BadCase(f"refuse.c isn't compiled: {getattr(error, 'stderr', error)}") from None
+        raise BadCase(f"{name}.c isn't compiled: {getattr(error, 'stderr', error)}") from None
     return path
 
 

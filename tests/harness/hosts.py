@@ -211,13 +211,13 @@ def free_port() -> int:
             return port
 
 
-def run(words, given, limit=None, **how):
+def run(words, given, limit=None, seconds=PATIENCE, **how):
     """The status of a run, and what it printed on its two outputs."""
     how = {"stdout": subprocess.PIPE, "stderr": subprocess.PIPE, **how}
     if limit:
         how["preexec_fn"] = lambda: resource.setrlimit(resource.RLIMIT_NOFILE, (limit, limit))
     done = subprocess.run(
-        [programs.panel3270(), *map(str, words)], input=given, timeout=PATIENCE, check=False, **how
+        [programs.panel3270(), *map(str, words)], input=given, timeout=seconds, check=False, **how
     )
     return done.returncode, *(
         (it or b"").decode(errors="replace") for it in (done.stdout, done.stderr)

@@ -4,6 +4,7 @@ from collections.abc import Mapping
 
 from harness import programs
 from harness.case import BadCase, Difference, Place
+from harness.data import in_digits
 
 # How many short commands are written at once: neither these nor their answers fill a pipe.
 MOST_COMMANDS = 400
@@ -40,7 +41,8 @@ class Probe:
                 raise BadCase(f"a command is one line: {command!r}", at)
         assert self.process.stdin is not None
         try:
-            self.process.stdin.write("".join(f"{command}\n" for command in commands).encode())
+            lines = "".join(f"{in_digits(command)}\n" for command in commands)
+            self.process.stdin.write(lines.encode())
             self.process.stdin.flush()
         except BrokenPipeError:
             raise self.ended() from None

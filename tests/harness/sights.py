@@ -4,6 +4,8 @@ import dataclasses
 import functools
 import re
 
+from harness.tables import named
+
 CELL = re.compile(r"1D..|..")
 ENTER_AND_PF = {
     "7D",
@@ -36,8 +38,8 @@ def plain(text: str) -> str:
         return f"{found[1].lower()} {REFUSALS.get(found[2], found[2])}"
     if found := re.fullmatch(r"Some\(M?(\d+)\)", text):
         return found[1]
-    if text.startswith("Bound "):
-        return f"bound {text[6:]}"
+    if text.startswith("Bound("):
+        return f"bound {named(text)[6:-1]}"
     return {"true": "yes", "false": "no"}.get(text, text.lower() if text.isalpha() else text)
 
 

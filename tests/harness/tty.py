@@ -136,7 +136,7 @@ class Operator:
     """An operator before a tty, on which bin/operate runs with these words."""
 
     def __init__(self, *words, rows=25, columns=80, command=None):
-        self.screen, self.kept = Screen(rows, columns), b""
+        self.screen, self.kept, self.written = Screen(rows, columns), b"", b""
         self.master, slave = pty.openpty()
         self.slave = slave
         fcntl.ioctl(slave, termios.TIOCSWINSZ, struct.pack("HHHH", rows, columns, 0, 0))
@@ -173,7 +173,9 @@ class Operator:
         ready, _, _ = select.select([self.master], [], [], seconds)
         if not ready:
             return False
-        data = self.kept + os.read(self.master, 1 << 16)
+        more = os.read(self.master, 1 << 16)
+        self.written += more
+        data = self.kept + more
         self.kept = data[self.screen.takes(data) :]
         return True
 
@@ -191,6 +193,13 @@ class Operator:
                     what, f"not in {PATIENCE} seconds; the screen is\n{self.screen.text()}"
                 )
             self.looks(0.01)
+
+    def writes(self, wanted):
+        """Just this is written to the tty, and nothing more for a moment."""
+        self.until("what the tty is written", lambda _: len(self.written) >= len(wanted))
+        while self.looks(0.1):
+            pass
+        expect("what the tty is written", self.written.decode(), wanted)
 
     def sees(self, text):
         self.until(f"an operator sees {text!r}", lambda screen: text in screen.text())

@@ -15,8 +15,7 @@ The steps of a case, which begins with nothing known:
                              the cursor in the first cell
     want, put, aim           make the wanted screen as the probe's lines do
     wanted ADDR BOOL CELL .. the wanted screen has this cursor, resets MDT or not, and has these
-    cells: in one walk, by
-                             address, and as the one behind an address, round the end
+                             cells
     fits BOOL                whether what is to be kept is believed to be there
     paints BYTES             these bytes paint the wanted screen
     paints-first BYTES       they begin so
@@ -55,7 +54,10 @@ class Belief:
     def silent(self, line: Line, words: list[str]) -> None:
         same("", self.ask(line.text, line), line.at)
 
-    do_new = do_want = do_put = do_aim = silent
+    do_new = do_want = do_aim = silent
+
+    def do_put(self, line: Line, words: list[str]) -> None:
+        same("", self.ask(f"put {' '.join(tokens(' '.join(words)))}", line), line.at)
 
     def do_take(self, line: Line, words: list[str]) -> None:
         same("Ok(true)", self.ask(line.text, line), line.at)
@@ -70,20 +72,20 @@ class Belief:
         same(f"Err({words[0]})", self.ask(f"hear {' '.join(words[1:])}", line), line.at)
 
     def do_size(self, line: Line, words: list[str]) -> None:
-        same(line.text, f"size {self.ask('size', line)}", line.at)
+        (size,) = plainly([self.ask("size", line)])
+        same(line.text, f"size {size}", line.at)
 
     def place(self, line: Line, words: list[str]) -> list[str]:
-        """What is believed at an address: a fact, the cell, and the text, in one walk and by its
-        places."""
+        """What is believed at an address: a fact, the cell, and the text."""
         return plainly(self.probe.ask(f"at {words[0]}", line.at))
 
     def do_fact(self, line: Line, words: list[str]) -> None:
-        fact, _, *texts = self.place(line, words)
+        fact, _, text = self.place(line, words)
         same(words[1], fact, line.at)
         if len(words) > 2:
             wanted = line.data(" ".join(words[2:])).hex().upper() or "-"
-            came = [text_of(it.removeprefix("text").strip().replace(" ", ", ")) for it in texts]
-            same([wanted] * 2, came, line.at)
+            came = text_of(text.removeprefix("text").strip().replace(" ", ", "))
+            same(wanted, came, line.at)
 
     def do_known(self, line: Line, words: list[str]) -> None:
         same(words[1], self.place(line, words)[1].replace("none", "?"), line.at)
@@ -99,9 +101,8 @@ class Belief:
 
     def do_wanted(self, line: Line, words: list[str]) -> None:
         answer, cells = plainly(self.probe.ask("wanted", line.at)), tokens(" ".join(words[2:]))
-        came = [line_of(answer, it) for it in ("cursor", "reset", "cells", "each")]
-        each = [it for both in zip(cells, [*cells[1:], *cells[:1]]) for it in both]
-        same([words[:1], words[1:2], cells, each], came, line.at)
+        came = [line_of(answer, it) for it in ("cursor", "reset", "cells")]
+        same([words[:1], words[1:2], cells], came, line.at)
 
     def do_fits(self, line: Line, words: list[str]) -> None:
         same(line.text, f"fits {self.ask('fits', line)}", line.at)

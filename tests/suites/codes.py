@@ -4,12 +4,13 @@ table.
 What is wanted of each value is computed here from the rules and tables of GA23-0059-07, and of code
 page 037.
 """
+import re
 from collections.abc import Iterable, Iterator
 
 from harness.case import CASES, Case, of_functions, same
-from harness.cells import DISPLAYS, GRAPHIC
+from harness.cells import DISPLAYS, GRAPHIC, plainly
 from harness.probe import Probe
-from harness.tables import rows
+from harness.tables import named, rows
 
 # The rows and columns of each model's alternate size.
 SIZES = {2: (24, 80), 3: (32, 80), 4: (43, 80), 5: (27, 132)}
@@ -41,6 +42,12 @@ CODE_PAGE_037 = "".join((
 LATIN = dict(zip(range(0x40, 0xFF), CODE_PAGE_037))
 
 
+def in_words(answer: str) -> str:
+    """What is printed by Debug, as the rows say it."""
+    keys = re.sub(r"P[fa]\((P.)No { number: (\d+) }\)", lambda it: it[1].upper() + it[2], answer)
+    return re.sub(r"\bSome\b|[(),]", "", plainly([named(keys)])[0])
+
+
 def check(wanted: Iterable[tuple[str, str]]) -> None:
     """Asks each command, and compares the first line of its answer."""
     pairs = list(wanted)
@@ -50,7 +57,7 @@ def check(wanted: Iterable[tuple[str, str]]) -> None:
             for (command, answer), came in zip(
                 part, probe.ask_each([command for command, _ in part])
             ):
-                same(f"{command} = {answer}", f"{command} = {came[0]}")
+                same(f"{command} = {answer}", f"{command} = {in_words(came[0])}")
 
 
 def of_bytes(command: str, answer) -> Iterator[tuple[str, str]]:
@@ -71,8 +78,13 @@ def each_six_bit_value_has_its_code() -> None:
 def each_address_is_written_in_twelve_bits() -> None:
     with Probe("codes") as probe:
         for model, cells in CELLS.items():
-            wanted = [f"{at} {GRAPHIC[at // 64]:02X}{GRAPHIC[at % 64]:02X}" for at in range(cells)]
-            same("\n".join(wanted), "\n".join(probe.ask(f"addresses {model}")))
+            wanted = " ".join(map(str, ["each", *range(cells)]))
+            same([wanted], plainly(probe.ask(f"addresses {model}")))
+    check(
+        (f"address {model} {at}", f"{at} {GRAPHIC[at // 64]:02X}{GRAPHIC[at % 64]:02X}")
+        for model, cells in CELLS.items()
+        for at in range(cells)
+    )
     check(
         (f"address {model} {at}", "none")
         for model, cells in CELLS.items()
@@ -92,7 +104,8 @@ def each_two_bytes_are_read_as_an_address() -> None:
             for high in range(256):
                 pairs = "".join(f"{high:02X}{low:02X}" for low in range(256))
                 wanted = [read_address(high, low, cells) for low in range(256)]
-                same((model, high, wanted), (model, high, probe.ask(f"read {model} {pairs}")))
+                came = plainly(probe.ask(f"read {model} {pairs}"))
+                same((model, high, wanted), (model, high, came))
 
 
 def walks_go_round_the_screen() -> None:
@@ -111,7 +124,7 @@ def walks_go_round_the_screen() -> None:
 def attribute(byte: int) -> str:
     display, protected, numeric = DISPLAYS[byte >> 2 & 3], byte & 0x20, byte & 0x10
     without = byte & 0x3C
-    codes = f"{GRAPHIC[without | byte & 1]:02X} {GRAPHIC[without]:02X} {GRAPHIC[without | 1]:02X}"
+    codes = f"{GRAPHIC[without | byte & 1]:02X}{GRAPHIC[without]:02X}{GRAPHIC[without | 1]:02X}"
     codes += f" {display}"
     return codes + truths(
         protected,
@@ -168,7 +181,7 @@ def the_code_page_is_the_published_one() -> None:
 
 
 def cases() -> Iterator[Case]:
-    yield from rows(CASES / "codes.rows", "codes")
+    yield from rows(CASES / "codes.rows", "codes", in_words)
     yield from of_functions(
         (
             each_six_bit_value_has_its_code,

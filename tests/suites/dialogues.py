@@ -14,14 +14,24 @@ ignored:
 """
 import dataclasses
 import functools
+import re
 from collections.abc import Callable, Iterator
 
 from harness.case import CASES, BadCase, Case, Difference, same
+from harness.cells import plainly
 from harness.data import Line, lines_of, panel_text
 from harness.probe import Probe
 from harness.sights import cells_of, parts_of, plain, spelt
+from harness.tables import named
 
 PARTS = 3
+# Why a key is refused, in the order of the numbers of our profile, from 1 on.
+REFUSALS = ["locked", "protected", "not-numeric", "no-room", "no-code"]
+# Why a device is rejected, by the reason codes of RFC 1647.
+REASONS = (
+    "CONN-PARTNER DEVICE-IN-USE INV-ASSOCIATE INV-NAME INV-DEVICE-TYPE TYPE-NAME-ERROR"
+    " UNKNOWN-ERROR UNSUPPORTED-REQ"
+).split()
 HEADINGS = {
     f"{subject}-{kind}": (subject, kind)
     for subject in ("terminal", "host")
@@ -88,6 +98,7 @@ class Terminal(Subject):
     took-write YES       whether the last byte completed a write: yes or no
     cursor N             where the cursor is
     aid XX               the attention identifier
+    size ROWS COLUMNS    how many rows and columns the screen has
     cell N XX            what a cell has: a character's code, or 1D and an attribute's
     line N TEXT          what a row shows, the first being 1
     screen [|TEXT]..     what the rows show from the first on; further ones are blank
@@ -158,6 +169,8 @@ class Terminal(Subject):
 
     def do_key(self, words: str) -> None:
         name, _, outcome = words.partition(" ")
+        if refusal := outcome.partition("refused ")[2]:
+            outcome = f"refused {1 + REFUSALS.index(refusal)} {refusal}"
         self.expect(
             [outcome or "done"], self.ask(f"type {name}" if len(name) == 1 else f"key {name}")
         )
@@ -187,6 +200,9 @@ class Terminal(Subject):
     def do_aid(self, words: str) -> None:
         self.expect(words, self.seen("aid"))
 
+    def do_size(self, words: str) -> None:
+        self.expect([words], plainly([self.seen("size")]))
+
     def do_cell(self, words: str) -> None:
         place, _, cell = words.partition(" ")
         cells = cells_of(parts_of(self.ask("see"))["cells"])
@@ -202,6 +218,7 @@ class Terminal(Subject):
         self.expect(words, "".join(self.ask("lines")).rstrip("|"))
 
     def do_status(self, words: str) -> None:
+        self.expect("yes" if " insert " in words else "no", self.seen("inserting"))
         self.expect([*self.ask("lines"), f"|{words}"], self.ask("text"))
 
 
@@ -293,7 +310,11 @@ class Host(Subject):
 
     def do_broken(self, words: str) -> None:
         conn, wanted = self.split(words)
-        self.expect([wanted], self.ask(f"broken {conn}"))
+        broken = re.match(
+            r"Some\(RuleBreak { rule: (\w+), cell: (\d+) }\)",
+            self.ask(f"broken {conn}")[0],
+        )
+        self.expect(wanted, " ".join(broken.groups()) if broken else "none")
 
     def do_deaf(self, words: str) -> None:
         conn, why = self.split(words)
@@ -333,11 +354,15 @@ class Host(Subject):
 
     def do_rejected(self, words: str) -> None:
         conn, wanted = self.split(words)
-        self.expect([wanted], self.ask(f"rejected {conn}"))
+        rejected = named(self.ask(f"rejected {conn}")[0])
+        found = re.fullmatch(r"Some\(\((None|Some\((.+)\)), Reason\((\d+)\)\)\)", rejected)
+        came = [found[2] or "", REASONS[int(found[3])]] if found else ["none"]
+        self.expect(wanted, " ".join(came).strip())
 
     def do_dropped(self, words: str) -> None:
         conn, wanted = self.split(words)
-        self.expect([wanted], self.ask(f"dropped {conn}"))
+        aid = re.fullmatch(r"Some\((\d+)\)", self.ask(f"dropped {conn}")[0])
+        self.expect(wanted, f"{int(aid[1]):02X}" if aid else "none")
 
     def do_phase(self, words: str) -> None:
         self.expect_state("phase", words)

@@ -361,7 +361,7 @@ class Call:
         self, probe: Refusing, growth: int, answer: str, wanted: list[str], before: list[str]
     ) -> None:
         """A call was refused memory. It stands as it should, and does all when it is made again."""
-        if self.call != "run" and not re.search("memory|AllocError", answer):
+        if self.call != "run" and not re.search(r"memory|AllocError|Err\(Memory\)", answer):
             raise Difference(wanted, f"growth {growth}: {answer}")
         is_part = self.taken or self.call == "run" or re.fullmatch(r"\d+ memory", answer)
         stand = self.partly(answer) if is_part else before

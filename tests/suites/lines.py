@@ -14,6 +14,7 @@ import re
 from collections.abc import Callable, Iterator
 
 from harness.case import CASES, Case, of_function, same
+from harness.cells import text_of
 from harness.data import Line, lines_of
 from harness.debug import variant
 from harness.probe import Probe
@@ -80,19 +81,27 @@ JOBS: dict[str, Callable[[dict], str]] = {
 
 def job(answer: list[str]) -> str:
     """A job in the words of a case."""
-    name, parts = variant(answer[0])
+    name, parts = variant(re.fullmatch(r"(?:Ok|Err)\((.*)\)", answer[0])[1])
     return JOBS[name](parts) if name in JOBS else name.lower()
 
 
-def script(answer: list[str], text: str) -> str:
+def script(text: str, answer: list[str]) -> str:
     """A command of a script in the words of a case."""
     first, *more = answer
     if first.startswith(("type ", "answer ")):
         typed = probe().ask(f"typed {hexadecimal(text)}")
         return f"{first} [{typed[0]}]"
-    if note := re.fullmatch(r"note (\d+) text (\S+)", first):
-        return f"note {note[1]} [{note[2].replace('-', '')}]"
-    return " ".join([first, *(it.removeprefix("lu ") for it in more)])
+    if note := re.fullmatch(r"note (\d+) \[(.*)\]", first):
+        return f"note {note[1]} [{text_of(note[2]).replace('-', '')}]"
+    return " ".join([first, *more])
+
+
+def terminal(answer: list[str]) -> str:
+    """A command of a terminal's script in the words of a case."""
+    if key := re.fullmatch(r"Some\(Press\((\w+).*?(\d*)\W*\)\)", answer[0]):
+        return f"key {key[1]}{key[2]}".lower()
+    found = re.fullmatch(r"Some\((\w+)\)", answer[0])
+    return found[1].lower().removesuffix("text") if found else "not understood"
 
 
 def check_line(line: Line) -> None:
@@ -101,7 +110,8 @@ def check_line(line: Line) -> None:
         raise line.bad("needs KIND [LINE] = COMMAND")
     kind, text, wanted = found.groups()
     answer = probe().ask(f"{kind} {hexadecimal(text)}", line.at)
-    same(wanted, job(answer) if kind == "words" else script(answer, text))
+    spell = {"words": job, "script": functools.partial(script, text), "terminal": terminal}
+    same(wanted, spell[kind](answer))
 
 
 def a_line_without_a_second_word_has_no_typed_text() -> None:

@@ -30,9 +30,8 @@ def check(wanted: Iterable[tuple[str, str]]) -> None:
             for (command, answer), came in zip(
                 part, probe.ask_each([command for command, _ in part])
             ):
-                same(
-                    f"{command} = {answer}", f"{command} = {named('; '.join(came))[: len(answer)]}"
-                )
+                came = named("; ".join(came))
+                same(f"{command} = {answer}", f"{command} = {came[: len(answer) or None]}")
 
 
 def header(kind: int, flag: int) -> tuple[str, str]:
@@ -42,7 +41,7 @@ def header(kind: int, flag: int) -> tuple[str, str]:
         return f"header {hexadecimal(spelling)}F1", "response flag out of range"
     fields = f"kind: {name}, request: 9, flag: {flag}, seq: {128 * 256 + kind}"
     spelt = hexadecimal(spelling)
-    return f"header {spelt}F1", f"Header {{ {fields} }}; bytes {spelt}; body F1"
+    return f"header {spelt}F1", f"(Header {{ {fields} }}, F1); {spelt}"
 
 
 def each_type_takes_its_flags() -> None:
@@ -56,8 +55,8 @@ def each_number_has_its_next() -> None:
 def each_byte_is_a_letter_of_a_name_or_none() -> None:
     def name(text: bytes, is_name: bool) -> tuple[str, str]:
         kept = text.upper()
-        printed = f"bytes {hexadecimal(kept)}; {kept.decode('latin-1')}"
-        return f"lu {hexadecimal(text)}", printed if is_name else "none"
+        printed = f"{kept.decode('latin-1')} {hexadecimal(kept)}"
+        return f"lu {hexadecimal(text)}", printed if is_name else ""
 
     check(name(bytes([byte]), byte in FIRSTS) for byte in range(256))
     for length in (1, 7, 8):
@@ -97,15 +96,15 @@ def each_other_word_is_malformed() -> None:
 def where_there_is_room_no_memory_is_taken() -> None:
     written = [
         (line, row_of(line))
-        for line in lines_of(CASES / "messages.rows") if "; bytes FFFA" in line.text
+        for line in lines_of(CASES / "messages.rows") if "; FFFA" in line.text
     ]
     same(True, bool(written))
     with Probe("messages") as probe:
         for line, (command, answer) in written:
-            spelling = answer.partition("; bytes ")[2]
+            spelling = answer.partition("; ")[2]
             probe.ask(f"vector {len(spelling) // 2} -")
             room = probe.ask("capacity")
-            same(f"bytes {spelling}", probe.ask(command, line.at)[1], line.at)
+            same(spelling, named(probe.ask(command, line.at)[1]), line.at)
             same(room, probe.ask("capacity"), line.at)
 
 

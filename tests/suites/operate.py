@@ -13,6 +13,7 @@ from harness.hosts import (
     DEVICE_IN_USE,
     DO,
     FUNCTIONS_IS,
+    FUNCTIONS_REQUEST,
     LOCALHOST,
     PATIENCE,
     SEND_TYPE,
@@ -137,6 +138,88 @@ def the_screen_is_drawn_again():
         operator.types(REDRAW)
         operator.until("the screen is drawn", lambda screen: screen.line(0) == " HI A")
         operator.has_status("connected", "PNL01", "001/006")
+
+
+# ---- what a tty is written
+
+
+def put(row: int, column: int, text: str) -> str:
+    return f"\x1b[{row:03};{column:03}H\x1b[0m{text}"
+
+
+def at(row: int, column: int) -> str:
+    return f"\x1b[{row:03};{column:03}H"
+
+
+ERASE_ALL = "\x1b[0m\x1b[2J"
+WAITS, FREE = put(25, 17, "X") + put(25, 19, "SYSTEM"), put(25, 17, " ") + put(25, 19, " " * 6)
+CONNECTED = put(25, 1, "connected")
+# At first the whole screen, which is blank.
+FIRST = ERASE_ALL + CONNECTED + WAITS + put(25, 73, "001/001") + at(1, 1)
+# Turns of a session: the bytes of the host, those that are typed, and those that the tty is written
+# then. What is written are CUP, SGR and ED (ECMA-48): the cells that changed, and then the cursor's
+# place. The status row is the 25th.
+TURNS = [
+    # The terminal is bound.
+    (
+        DO + SEND_TYPE + device_type(4, "PNL01") + FUNCTIONS_IS,
+        b"",
+        put(25, 41, "PNL01") + at(1, 1),
+    ),
+    # Erase/Write, number 0: `HI` without fields, the cursor after it; it restores the keyboard.
+    (
+        bytes.fromhex("0000020000 F5C3 114040 C8C9 13 FFEF"),
+        b"",
+        put(1, 1, "HI") + FREE + put(25, 79, "3") + at(1, 3),
+    ),
+    # Two keys, in one read.
+    (b"", b"AB", put(1, 3, "AB") + put(25, 79, "5") + at(1, 5)),
+    # Nothing happens, and nothing is written.
+    (b"", b"", ""),
+    # Enter, and another key, which the keyboard refuses.
+    (b"", b"\rC", WAITS + at(1, 5)),
+    # Another, in a turn of its own.
+    (b"", b"D", at(1, 5)),
+    # Write, number 1, which restores the keyboard: no key is kept from before.
+    (bytes.fromhex("0000020001 F1C3 FFEF"), b"", FREE + at(1, 5)),
+    (b"", b"E", put(1, 5, "E") + put(25, 79, "6") + at(1, 6)),
+    # The operator has the screen drawn again.
+    (
+        b"",
+        b"\x0c",
+        ERASE_ALL
+        + put(1, 1, "HIABE")
+        + CONNECTED
+        + put(25, 41, "PNL01")
+        + put(25, 73, "001/006")
+        + at(1, 6),
+    ),
+]
+# All that the terminal sends: its answers, the response to number 0, Enter with the text of a
+# screen without fields (GA23-0059, Read Modified), and the response to number 1.
+SENT = WILL + device_type(7, None) + FUNCTIONS_REQUEST + bytes.fromhex(
+    "020000000000FFEF 0000000000 7D40C4 C8C9C1C2 FFEF 020000000100FFEF"
+)
+
+
+@check
+def each_turn_writes_what_changed():
+    """Nothing more is written, and no key that is typed at a locked keyboard is kept. The end draws
+    nothing."""
+    with Host() as host, Operator(host.port) as operator:
+        host.accepts()
+        operator.has_status("connected", "X", "SYSTEM", "001/001")
+        # Behind what bin/operate writes before the program begins.
+        expect("the first turn", operator.written.partition(b"\x1b[2J")[2].decode(), FIRST)
+        for came, typed, drawn in TURNS:
+            operator.written = b""
+            host.says(came)
+            operator.types(typed)
+            operator.writes(drawn)
+        operator.written = b""
+        operator.types(b"\x1dF")
+        operator.ends(0)
+        host.hears(SENT)
 
 
 @check

@@ -9,6 +9,7 @@ The steps of a case:
                              number of panels
     lus N                    it has so many LUs
     panel INDEX              the next steps speak of this panel
+    is NAME M                it has this name, and is of this model
     shows MESSAGE at ADDR    it asks for a screen with the cursor there, and with the items below,
                              nulls elsewhere. It resets MDT if it is fresh; if not, the screen that
                              keeps the fields becomes this one once their values are put
@@ -24,6 +25,7 @@ The steps of a case:
 """
 import dataclasses
 import functools
+import re
 from collections.abc import Iterator
 
 from harness.case import CASES, TOP, Case, of_function, same
@@ -62,7 +64,7 @@ class Panels:
         self.probe, self.texts, self.panel, self.screen = Probe("panel"), texts, "0", None
 
     def ask(self, command: str, line: Line) -> list[str]:
-        return self.probe.ask(command, line.at)
+        return plainly(self.probe.ask(command, line.at))
 
     def done(self) -> None:
         """Compares the screen whose items were read."""
@@ -94,19 +96,19 @@ class Panels:
         return (self.texts.get(name) or file.read_text()).encode().hex()
 
     def do_read(self, line: Line, words: list[str]) -> None:
-        self.read = self.ask(f"read {self.text(words[0], line)}", line)
+        self.read = said(self.probe.ask(f"read {self.text(words[0], line)}", line.at))
         same("start", self.read[0].split()[0], line.at)
 
     def do_fault(self, line: Line, words: list[str]) -> None:
         same(
             [f"fault {' '.join(words[1:])}"],
-            self.ask(f"read {self.text(words[0], line)}", line),
+            self.probe.ask(f"read {self.text(words[0], line)}", line.at),
             line.at,
         )
 
     def do_has(self, line: Line, words: list[str]) -> None:
         same([" ".join(words)], self.read, line.at)
-        same(["none"], self.ask(f"panel {words[3]}", line), line.at)
+        same([], self.ask(f"panel {words[3]}", line), line.at)
 
     def do_lus(self, line: Line, words: list[str]) -> None:
         same(int(words[0]), len(self.read[0].partition(" lus ")[2].split()), line.at)
@@ -139,21 +141,24 @@ class Panels:
     def do_leads(self, line: Line, words: list[str]) -> None:
         place, _, keys = " ".join(words).partition(" by ")
         for key in keys.split():
-            came = plain(self.ask(f"next {key}", line)[0])
+            came = plain(self.probe.ask(f"next {key}", line.at)[0])
             same(f"{key}: {place}", f"{key}: {came}", line.at)
 
     def do_fields(self, line: Line, words: list[str]) -> None:
         found = []
         for word in words:
             number, extent, required = word.split(":")
-            found.append(
-                f"field {number} at {extent} required {str(required == 'required').lower()}"
-            )
+            place = extent.replace("+", ", ")
+            found.append(f"({number}, ({place}), {str(required == 'required').lower()})")
         same(found, self.about[1:], line.at)
+
+    def do_is(self, line: Line, words: list[str]) -> None:
+        name, model, _ = self.about[0].strip("()").split(", ")
+        same([f'"{words[0]}"', f"M{words[1]}"], [name, model], line.at)
 
     def do_size(self, line: Line, words: list[str]) -> None:
         size = " ".join(words)
-        same(size, self.about[0].partition(" size ")[2], line.at)
+        same(size, self.about[0].rstrip(")").rpartition(", ")[2], line.at)
         same(f"size {size}", self.ask("wanted true plain", line)[0], line.at)
 
     def do_shown(self, line: Line, words: list[str]) -> None:
@@ -165,13 +170,19 @@ class Panels:
     do_copy = do_set
 
     def do_value(self, line: Line, words: list[str]) -> None:
-        wanted = "none" if words[1] == "none" else f"value {words[1]}"
-        same([wanted], self.ask(f"value {words[0]}", line), line.at)
+        wanted = None if words[1] == "none" else [*line.data(words[1])]
+        same(["None" if wanted is None else f"Some({wanted})"], self.probe.ask(f"value {words[0]}"))
 
     def silent(self, line: Line, words: list[str]) -> None:
         same([], self.ask(line.text, line), line.at)
 
     do_swap = silent
+
+
+def said(answer: list[str]) -> list[str]:
+    """What the probe says of a text, in the words of a case."""
+    start, panels, *lus = re.findall(r"\w+", answer[0])
+    return [" ".join(["start", start, "panels", panels, "lus", *lus])]
 
 
 def held(texts: Texts, lines: list[Line], head: Line) -> None:
@@ -216,8 +227,8 @@ def a_large_text_is_read() -> None:
     text = large_text()
     same(True, len(text) > 1_048_576)
     with Probe("panel") as probe:
-        same(["start 0 panels 64 lus"], probe.ask(f"read {text.encode().hex()}"))
-        numbers = [int(it.split()[1]) for it in probe.ask("panel 63")[1:]]
+        same(["start 0 panels 64 lus"], said(probe.ask(f"read {text.encode().hex()}")))
+        numbers = [int(it[1:].split(",")[0]) for it in probe.ask("panel 63")[1:]]
         same(list(range(63 * 128, 64 * 128)), numbers)
 
 

@@ -4,17 +4,23 @@ What is wanted of random requests is answered by a table of who holds what.
 """
 import functools
 import random
+import re
 from collections.abc import Iterator
 
 from harness.case import CASES, Case, Place, of_function, same
 from harness.probe import Probe
-from harness.tables import blocks
+from harness.tables import blocks, named
 
 MOST = 64
 
 
 def names(count: int) -> list[str]:
     return [f"L{number}" for number in range(count)]
+
+
+def in_words(answer: str) -> str:
+    """An answer with the names of LUs alone, and `none`."""
+    return re.sub(r"Some\((.*)\)", r"\1", named(answer)).replace("None", "none")
 
 
 def read(probe: Probe, texts: list[str]) -> list[str]:
@@ -25,7 +31,7 @@ def a_pool_has_at_most_64_lus() -> None:
     with Probe("pool") as probe:
         for count in (1, 2, MOST):
             same(["done"], read(probe, names(count)))
-            same(names(count), [probe.ask(f"ask {conn}")[0] for conn in range(count)])
+            same(names(count), [in_words(probe.ask(f"ask {conn}")[0]) for conn in range(count)])
             same(["DEVICE-IN-USE"], probe.ask(f"ask {count}"))
         same(["lu: BadCount"], read(probe, names(MOST + 1)))
         same(["lu: BadCount"], read(probe, ["A"] * (MOST + 1)))
@@ -82,12 +88,12 @@ def check_random(seed: int) -> None:
             command, wanted = request(chance, holders)
             same(
                 f"step {step}: {command} = {wanted}",
-                f"step {step}: {command} = {''.join(probe.ask(command))}",
+                f"step {step}: {command} = {in_words(''.join(probe.ask(command)))}",
             )
 
 
 def cases() -> Iterator[Case]:
-    yield from blocks(CASES / "pool.blocks", "pool")
+    yield from blocks(CASES / "pool.blocks", "pool", in_words)
     yield of_function(a_pool_has_at_most_64_lus)
     at = Place("tests/suites/pool.py", check_random.__code__.co_firstlineno)
     for seed in range(10):

@@ -62,7 +62,7 @@ def an_operator_sees_the_printed_screens():
         shows("Enter is pressed, and then the host is killed:")
         with tty.serve_bank(host.port):
             operator.types(tty.ENTER)
-            shows("A host is started at the same port, and Enter is pressed:")
+            operator.sees("FIRST NATIONAL BANK")
 
 
 @check

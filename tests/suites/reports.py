@@ -48,13 +48,13 @@ VALUES = (
 
 @functools.cache
 def probe() -> Probe:
-    return Probe("reports")
+    return Probe("lines")
 
 
 def check_text(text: str, at: Place) -> None:
     """Raises a Difference if the report on a text and the readers differ."""
     first, *page, readers = probe().ask(f"check {text.encode().hex() or '-'}", at)
-    _, faults, _, agrees = first.split(" ")
+    faults, agrees = first.strip("()").split(", ")
     refused = readers.partition("readers refuse ")[2]
     if (int(faults) > 0) != bool(refused) or agrees != "true":
         wanted = (

@@ -30,18 +30,15 @@ import functools
 import re
 from collections.abc import Iterator
 
-from harness.case import CASES, Case, Difference, of_function, same
+from harness.case import CASES, Case, Difference, same
 from harness.cells import appended, plainly, steps_of, take_step
 from harness.data import Line, blocks_of, lines_of
 from harness.probe import Probe
 
 FILL = "apply 7EC33C40405C"
 DUP, FIELD_MARK = 0x1C, 0x1E
-SIZES = {"M2": "24 80", "M3": "32 80", "M4": "43 80", "M5": "27 132"}
-SHOWN = re.compile(
-    r"Shown { size: Size { model: (?P<size>M.) }, cursor: (?P<cursor>\d+), home: (?P<home>\d+), .*}"
-)
-LOOK = re.compile(r"Look { cell: (\w+), field: (\S+), over: (\w+), glyph: (\d+) }")
+SHOWN = re.compile(r"\((?P<size>\d+ \d+), (?P<cursor>\d+), (?P<home>\d+), .*\)")
+LOOK = re.compile(r"\((\w+), (\S+), (\w+), (\d+)\)")
 
 
 @dataclasses.dataclass(frozen=True)
@@ -71,7 +68,7 @@ class Display:
     def show(self, line: Line) -> dict[str, str]:
         shown = SHOWN.fullmatch(self.ask("show", line)).groupdict()
         fields = self.ask("fields", line).removeprefix("fields").strip()
-        return {**shown, "size": SIZES[shown["size"]], "fields": fields}
+        return {**shown, "fields": fields}
 
     def look(self, line: Line) -> list[Cell]:
         rows = [LOOK.fullmatch(it).groups() for it in self.ask("look", line).split("\n")]
@@ -253,15 +250,6 @@ def new_line_goes(line: Line) -> None:
     display.probe.close()
 
 
-def refusals_have_numbers() -> None:
-    """Our profile."""
-    with Probe("screen") as probe:
-        same(
-            ["1 locked", "2 protected", "3 not-numeric", "4 no-room", "5 no-code"],
-            probe.ask("refusals"),
-        )
-
-
 def cases() -> Iterator[Case]:
     for head, name, lines in blocks_of(CASES / "screen.cases", "case"):
         yield from of_block(head, name, lines)
@@ -272,4 +260,3 @@ def cases() -> Iterator[Case]:
                 line.at,
                 functools.partial(new_line_goes, line),
             )
-    yield of_function(refusals_have_numbers)

@@ -13,14 +13,15 @@ agreed enum whose variants aren't agreed comes with these. A crate with the entr
 agreed items. Modules `laws` are left out: the page speaks of them once.
 
 A crate is a case. It fails for each item that is in neither, and for each item that one of the two
-names and the crate doesn't have.
+names and the crate doesn't have. One more case is that docs/promises prints a table for each crate.
 """
 import functools
 import re
+import subprocess
 from collections import defaultdict
 from collections.abc import Iterator
 
-from harness.case import TOP, BadCase, Case, Difference, Place
+from harness.case import TOP, BadCase, Case, Difference, Place, of_function, same
 
 AGREED = TOP / "tests/surface.agreed"
 DECISIONS = TOP / "docs/DECISIONS.md"
@@ -187,7 +188,22 @@ def check_crate(crate: str) -> None:
         raise Difference("the items of surface.agreed and DECISIONS.md", "\n".join(found))
 
 
+def promises(*crates: str) -> subprocess.CompletedProcess:
+    return subprocess.run([TOP / "docs/promises", *crates], capture_output=True, text=True)
+
+
+def docs_promises_prints_a_table_for_each_crate() -> None:
+    crates = re.findall(r"^\w+", (TOP / "crates.txt").read_text(), re.MULTILINE)
+    same(crates, re.findall(r"^## (\w+)$", promises().stdout, re.MULTILINE))
+    clauses, sentence = "value, in_range", "The next address on a screen of this size that has this cell"
+    row = f"| `Addr::next` | {clauses} | {sentence}; 0 after the last. |"
+    same([row], [it for it in promises("codes3270").stdout.splitlines() if "`Addr::next`" in it])
+    unknown = promises("codes")
+    same((2, "docs/promises: crates.txt has no crate codes\n"), (unknown.returncode, unknown.stderr))
+
+
 def cases() -> Iterator[Case]:
+    yield of_function(docs_promises_prints_a_table_for_each_crate)
     for root in sorted(TOP.glob("crates/*/src/lib.rt")):
         crate = root.parent.parent.name
         yield Case(

@@ -108,11 +108,18 @@ def answers(
         yield item, meanings.get(message, closes("BadTalk"))
 
 
+def as_printed(wanted: str) -> str:
+    """An answer, with the cause if it closes, as the probe prints it."""
+    sends, reply, *closing, state = wanted.split("; ")
+    cause = f"Some({closing[0].removeprefix('closes ')})" if closing else "None"
+    return f"({sends}, {reply}, {cause}, {state})"
+
+
 def check_item(before: list[str], command: str, wanted: str) -> None:
     with Probe("messages") as probe:
         for step in before:
             probe.ask(step)
-        same(wanted, named("; ".join(probe.ask(command))))
+        same(as_printed(wanted), named("; ".join(probe.ask(command))))
 
 
 def items_in_states() -> Iterator[tuple[str, list[str], str, str]]:

@@ -1,5 +1,5 @@
-"""What the program prints of each fault and each event: tests/cases/texts.talks. And of a word that
-no page can have."""
+"""What the program prints of faults of which the system gives few: tests/cases/texts.talks. And of a
+word that no page can have."""
 import subprocess
 from collections.abc import Iterator
 
@@ -11,7 +11,7 @@ check = Checks()
 
 
 def cases() -> Iterator[Case]:
-    yield from talks(CASES / "texts.talks", "texts")
+    yield from talks(CASES / "texts.talks", "lines")
     yield from check.cases()
 
 

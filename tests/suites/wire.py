@@ -6,12 +6,13 @@ RFC 854, 855 and 885.
 import dataclasses
 import functools
 import random
+import re
 from collections.abc import Iterator
 
 from harness.case import CASES, Case, Place, same
 from harness.data import Line, blocks_of, lines_of
 from harness.probe import Probe
-from harness.tables import blocks, bytes_of, check_row, hexadecimal, row_of, spelt
+from harness.tables import blocks, bytes_of, check_row, hexadecimal, named, row_of, spelt
 
 # The data bytes that a record may have, and those of a subnegotiation.
 LIMIT, SUB_LIMIT = 16_384, 256
@@ -37,6 +38,19 @@ class Stream:
         return [1, 4, length // 2, length // 2 + 1, *range(length - 4, length)]
 
 
+def in_words(answer: str) -> str:
+    """Items that are printed by Debug, as the cases say them."""
+    answer = re.sub(
+        r"Opt { verb: (\w+), code: (\d+) }", lambda it: f"option {it[1]} {int(it[2]):02X}", answer
+    )
+    answer = re.sub(r"Other\((\d+)\)", lambda it: f"other {int(it[1]):02X}", answer)
+    return re.sub(r"(Record|Sub)\((.*?)\)", lambda it: f"{it[1].lower()} {it[2]}", named(answer))
+
+
+def asked(probe: Probe, command: str) -> list[str]:
+    return [in_words(line) for line in probe.ask(command)]
+
+
 def moved(lines: list[str], by: int) -> list[str]:
     return [f"{int(place) + by} {text}" for place, text in (line.split(" ", 1) for line in lines)]
 
@@ -46,7 +60,7 @@ def given(probe: Probe, call: str, pieces: list[bytes]) -> list[str]:
     probe.ask(f"new {LIMIT}")
     came, start = [], 0
     for piece in pieces:
-        came += moved(probe.ask(f"{call} {hexadecimal(piece)}"), start)
+        came += moved(asked(probe, f"{call} {hexadecimal(piece)}"), start)
         start += len(piece)
     return came
 
@@ -76,7 +90,7 @@ def check_resets(stream: Stream) -> None:
             probe.ask("reset")
             same(
                 f"reset at {place}: ['3 record 07']",
-                f"reset at {place}: {probe.ask('push 07FFEF')}",
+                f"reset at {place}: {asked(probe, 'push 07FFEF')}",
             )
 
 
@@ -243,13 +257,13 @@ def check_random(seed: int) -> None:
                 call, piece = chance.choice(("push", "feed", "data")), random_piece(chance)
                 wanted = [str(reading.data(piece))] if call == "data" else reading.answers(piece)
                 said = f"limit {limit}: {call} {hexadecimal(piece)} = "
-                same(f"{said}{wanted}", f"{said}{probe.ask(f'{call} {hexadecimal(piece)}')}")
+                same(f"{said}{wanted}", f"{said}{asked(probe, f'{call} {hexadecimal(piece)}')}")
 
 
 def cases() -> Iterator[Case]:
     yield from items()
     yield from streams()
-    yield from blocks(CASES / "wire.blocks", "wire")
+    yield from blocks(CASES / "wire.blocks", "wire", in_words)
     at = Place("tests/suites/wire.py", check_random.__code__.co_firstlineno)
     for seed in range(RANDOM_STREAMS):
         yield Case(f"random streams of seed {seed}", at, functools.partial(check_random, seed))

@@ -2,8 +2,8 @@
 goal of the contract of the function that it is put into.
 
 A contract is proved function by function, from the contracts of what is called and not from bodies.
-So the mistakes of a crate are put into a copy of it together, a function's second mistake in a
-second function beside it, and one check of these functions alone tries them all. A wrong body is
+So the mistakes of a crate are put into a copy of it together, a function's further mistakes in
+further functions beside it, and one check of these functions alone tries them all. A wrong body is
 refused where the prover says of its function that it isn't proved, and names a goal of its contract
 that it couldn't show: such a goal stands on the contracts of what is called, and so on no other
 mistake. Where it names nothing, and says that the function calls another which isn't proved, the
@@ -55,7 +55,7 @@ from harness.case import TOP, BadCase, Case, Difference, Place
 
 LONG, BY_FILE, SECONDS = True, True, 7200
 PAGE = "must-fail/wrong-bodies.md"
-# What the name of a second function ends with, that has a second mistake.
+# What is put behind the name of a function for one more that has another mistake.
 AGAIN = "_again"
 
 
@@ -252,14 +252,14 @@ def text_of(function: str, source: str) -> str:
     return found[0][0] if found else ""
 
 
-def put_beside(mistake: Mistake, crate: str, room: pathlib.Path) -> bool:
-    """Puts a mistake into a copy that has another one in the same function: into a second function
-    beside that one, with the same contract and with what is written in answer to its goals. If all
-    that it changes stands in that function."""
+def put_beside(mistake: Mistake, crate: str, room: pathlib.Path, again: str) -> bool:
+    """Puts a mistake into a copy that has another one in the same function: into a function beside
+    that one, of the same name with `again` behind it, with the same contract and with what is
+    written in answer to its goals. If all that it changes stands in that function."""
     name, own = mistake.function.rpartition("::")[2], TOP / "crates" / crate
     file, written = mistake.changes[0][0], proofs_of(mistake.function)
     second = text_of(mistake.function, (own / file).read_text(encoding="utf-8")).replace(
-        f"fn {name}", f"fn {name}{AGAIN}", 1
+        f"fn {name}", f"fn {name}{again}", 1
     )
     for other, old, new in mistake.changes:
         if other != file or second.count(old) != 1 or old == new:
@@ -270,10 +270,10 @@ def put_beside(mistake: Mistake, crate: str, room: pathlib.Path) -> bool:
     (room / file).write_text(text.replace(first, f"{first}\n{second}"), encoding="utf-8")
     if (own / written).is_dir():
         left_out = shutil.ignore_patterns("Answers.antt") if mistake.is_without_answers else None
-        shutil.copytree(own / written, room / f"{written}{AGAIN}", ignore=left_out)
-        for it in (room / f"{written}{AGAIN}").iterdir():
+        shutil.copytree(own / written, room / f"{written}{again}", ignore=left_out)
+        for it in (room / f"{written}{again}").iterdir():
             its = re.sub(
-                rf"\.{name}\.(Goals|Given)\b", rf".{name}{AGAIN}.\1", it.read_text(encoding="utf-8")
+                rf"\.{name}\.(Goals|Given)\b", rf".{name}{again}.\1", it.read_text(encoding="utf-8")
             )
             it.write_text(its, encoding="utf-8")
     return True
@@ -402,14 +402,9 @@ def tried(
     for mistake in mistakes:
         if together and any(it.is_apart(page.crate) for it in [mistake, *together.values()]):
             continue
-        if mistake.function not in together and put(mistake, room):
-            together[mistake.function] = mistake
-        elif (
-            mistake.function in together
-            and mistake.function + AGAIN not in together
-            and put_beside(mistake, page.crate, room)
-        ):
-            together[mistake.function + AGAIN] = mistake
+        again = AGAIN * sum(it.function == mistake.function for it in together.values())
+        if put_beside(mistake, page.crate, room, again) if again else put(mistake, room):
+            together[mistake.function + again] = mistake
     lacking = [it.function for it in cuts if not put_cut(it, room)]
     if lacking:
         raise BadCase(

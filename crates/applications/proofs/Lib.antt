@@ -3,3 +3,4 @@ mod Replies
 pub mod AnswerWords
 pub mod AskedKeys
 pub mod SessionTexts
+pub mod Exchanging

@@ -179,6 +179,10 @@ is_reply_late began now most = nat_le most (now - began)
 
 -- ---- what the operator sees of a failure
 
+-- the answer that shows the same panel again, with a message
+abbrev pub telling : List ℕ → Answer
+telling text = record { panel = None; values = []; message = record { characters = message_of text }; cursor = None }
+
 abbrev pub failure_text : FailureMessage → List ℕ
 failure_text failure.NotAvailable = codes "APPLICATION NOT AVAILABLE"
 failure_text failure.Error = codes "APPLICATION ERROR"

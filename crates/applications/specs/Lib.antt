@@ -5,4 +5,5 @@ pub mod PanelHosts
 pub mod SessionNames
 pub mod Applications
 pub mod ApplicationRequests
+pub mod ExchangeTurns
 pub mod AskedKeys

@@ -6,7 +6,7 @@ ghost use Rattle.application_http.specs.Replies.{field_text};
 ghost use Rattle.panels.specs.Characters.{codes_of};
 ghost use Rattle.panels.specs.MessageText.{message_of};
 ghost use Rattle.panels.specs.Values.{value_of};
-ghost use Rattle.applications.specs.Applications.{AreKnownTexts, IsAnswerFault, IsAnswerFor, IsFirstTextFault, IsKnown, IsTextFault, IsUnknown, TakesMemory, as_byte, first_field_replaced, first_replaced, is_known_text, message_bytes, message_in, most_characters, number_on, panel_number, panel_of_reply, value_by, with_text, with_texts};
+ghost use Rattle.applications.specs.Applications.{AreKnownTexts, IsAnswerFault, IsAnswerFor, IsFirstTextFault, IsKnown, IsTextFault, IsUnknown, TakesMemory, as_byte, first_field_replaced, first_replaced, is_known_text, message_bytes, message_in, most_characters, number_on, panel_number, panel_of_reply, telling, value_by, with_text, with_texts};
 ghost use Rattle.plain_text.specs.PlainTexts.{plain_text};
 ghost use Rattle.applications.specs.declared.application_reply.AnswerFault.TheVariants as flaw;
 
@@ -220,7 +220,7 @@ fn message_in(reply: &Reply) -> &str
 /// What the host does for a reply, if the panel of this number is on the screen: the reply's panel is found first, then its cursor's
 /// field, then its message and its fields. The fault of a refused reply is the first of these.
 #[tactic(auto, using(crate::proofs::Replies::fields_refused, crate::proofs::Replies::message_refused))]
-pub fn answer_of(
+pub(crate) fn answer_of(
     alloc: Global,
     panels: &PanelSet,
     shown: usize,
@@ -277,7 +277,9 @@ pub fn replaced_in(reply: &Reply) -> Option<Replaced<'_>>
 }
 
 /// The answer that shows the same panel again, with a message.
-pub fn telling(alloc: Global, message: &str) -> Answer {
+pub(crate) fn telling(alloc: Global, message: &str) -> Answer
+    ensures { result ≡ telling message.now }
+{
     Answer {
         panel: None,
         values: Values::new(alloc),

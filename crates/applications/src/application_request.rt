@@ -175,7 +175,7 @@ fn request_on(
 }
 
 /// The request of a question, from a start of the host that drew this number; None if its panel isn't one of the panels.
-pub fn request_of(
+pub(crate) fn request_of(
     alloc: Global,
     endpoint: &Endpoint,
     boot: u64,

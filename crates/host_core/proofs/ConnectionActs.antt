@@ -1,6 +1,7 @@
 -- What acts and notes make of a connection is what they make of its line, and they leave the talk.
 use Rattle.std.proofs.Common.{◌≡◌, ◌≤◌, ℕ, Bool, true, false, List, Option, Some, None, Vec, refl, ap, sym, subst, ◌∙◌, if◌then◌else◌, arith}
 use Rattle.std.specs.Prelude.{IfSome, ◌&&◌}
+use Rattle.std.specs.Option.{option_and_then}
 use Rattle.std.specs.Vec.{vec_capacity}
 use Rattle.std.specs.declared.alloc.Global.{Global}
 use Rattle.telnet_wire.specs.Reading.{Rest}
@@ -122,7 +123,7 @@ done_keeps : (app : Application) (conn : Conn) (act : Act) → (done app conn ac
 done_keeps app conn Act.Read = refl
 done_keeps app conn (Act.Show panel message keep values) = refl
 
-decided_talks : (app : Application) (conn : Conn) (may : Bool) (decision : Decision) → Talks conn (if may then decided app conn decision else None)
+decided_talks : (app : Application) (conn : Conn) (may : Bool) (decision : Decision) → Talks conn (option_and_then (decided app conn) (if may then Some decision else None))
 decided_talks app conn false decision = tt
 decided_talks app conn true (Decision.Do act) = done_keeps app conn act
 decided_talks app conn true Decision.Asks = tt

@@ -1,6 +1,6 @@
 -- What a host learns of fields, and when their values have to grow.
 use Rattle.std.proofs.Common.{◌≡◌, ◌≢◌, ◌<◌, ◌≤◌, ◌+◌, ℕ, zero, suc, Bool, true, false, List, [], ◌∷◌, length, drop, get_or, Option, Some, None, refl, ap, sym, subst, ◌∙◌, arith, lt-ltb, ltb-true}
-use Rattle.std.specs.Prelude.{Result, Ok, Err, OnErr, slice_get, ◌||◌, ◌&&◌, is_some, unwrap_or, if◌then◌else◌}
+use Rattle.std.specs.Prelude.{Result, Ok, Err, OnErr, slice_get, ◌||◌, ◌&&◌, unwrap_or, if◌then◌else◌}
 use Rattle.std.specs.List.{list_any}
 use Rattle.std.specs.Option.{option_map_or, option_or}
 use Rattle.std.proofs.lemmas.List.{drop_more}
@@ -65,23 +65,22 @@ value_learned shadow (field ∷ fields) values (suc k) one apart at_k =
     ∙ ap (λ (value : Option (List ℕ)). option_or (text_known shadow one) value)
     (set_there (text_known shadow field) field.number one.number values (λ same. apart zero (suc k) field one (omega arith) refl at_k (sym same)))
 
--- a required field that isn't filled in now is missing then
+-- the number of the first field that passes a test
+abbrev pub first_by : (Field → Bool) → List Field → Option ℕ
+first_by test [] = None
+first_by test (field ∷ fields) = if test field then Some field.number else first_by test fields
+
+-- the first required field that isn't filled in now is the first that is missing then
 missing_among : (shadow : Shadow) (values now : Values) (fields : List Field)
     → ((k : ℕ) (one : Field) → slice_get fields k ≡ Some one → value_of now one.number ≡ value_now shadow values one)
-    → list_any (is_missing_now shadow values) fields ≡ is_some (first_missing now fields)
+    → first_by (is_missing_now shadow values) fields ≡ first_missing now fields
 missing_among shadow values now [] are = refl
 missing_among shadow values now (field ∷ fields) are =
-    let here : is_missing now field ≡ is_missing_now shadow values field =
-    ap (λ (value : Option (List ℕ)). field.required && is_blank (unwrap_or value [])) (are zero field refl) in
-    by_test (is_missing now field) here (missing_among shadow values now fields (λ k one at_k. are (suc k) one at_k))
-  where
-    by_test : (b : Bool) → b ≡ is_missing_now shadow values field → list_any (is_missing_now shadow values) fields ≡ is_some (first_missing now fields)
-        → (is_missing_now shadow values field || list_any (is_missing_now shadow values) fields) ≡ is_some (if b then Some field.number else first_missing now fields)
-    by_test true is rest = ap (λ (b : Bool). b || list_any (is_missing_now shadow values) fields) (sym is)
-    by_test false is rest = ap (λ (b : Bool). b || list_any (is_missing_now shadow values) fields) (sym is) ∙ rest
+    ap (λ (value : Option (List ℕ)). if field.required && is_blank (unwrap_or value []) then Some field.number else first_by (is_missing_now shadow values) fields) (sym (are zero field refl))
+    ∙ ap (λ (rest : Option ℕ). if is_missing now field then Some field.number else rest) (missing_among shadow values now fields (λ k one at_k. are (suc k) one at_k))
 
 pub missing_now : (shadow : Shadow) (values : Values) (fields : List Field) → HaveNumbersApart fields
-    → list_any (is_missing_now shadow values) fields ≡ is_some (first_missing (learned shadow fields values) fields)
+    → first_by (is_missing_now shadow values) fields ≡ first_missing (learned shadow fields values) fields
 missing_now shadow values fields apart =
     missing_among shadow values (learned shadow fields values) fields (λ k one at_k. value_learned shadow fields values k one apart at_k)
 
@@ -176,6 +175,17 @@ pub any_behind : (test : Field → Bool) (fields : List Field) (i : ℕ) (field 
     → list_any test (drop (i + 1) fields) ≡ list_any test (drop i fields)
 any_behind test fields i field within is fails =
     sym (ap (list_any test) (front fields i field within is) ∙ ap (λ (b : Bool). b || list_any test (drop (i + 1) fields)) fails)
+
+-- the same of the first that passes
+pub first_here : (test : Field → Bool) (fields : List Field) (i : ℕ) (field : Field) → i < length fields → field ≡ get_or fields i field → test field ≡ true
+    → first_by test (drop i fields) ≡ Some field.number
+first_here test fields i field within is holds =
+    ap (first_by test) (front fields i field within is) ∙ ap (λ (b : Bool). if b then Some field.number else first_by test (drop (i + 1) fields)) holds
+
+pub first_behind : (test : Field → Bool) (fields : List Field) (i : ℕ) (field : Field) → i < length fields → field ≡ get_or fields i field → test field ≡ false
+    → first_by test (drop (i + 1) fields) ≡ first_by test (drop i fields)
+first_behind test fields i field within is fails =
+    sym (ap (first_by test) (front fields i field within is) ∙ ap (λ (b : Bool). if b then Some field.number else first_by test (drop (i + 1) fields)) fails)
 
 -- the fields that are left have the values that they had
 pub Untouched : Values → Values → List Field → ℕ → Type 0

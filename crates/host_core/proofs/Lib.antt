@@ -14,7 +14,6 @@ pub mod Wanting
 pub mod Paintings
 pub mod Measured
 pub mod Knowing
-pub mod Deciding
 mod Doings
 pub mod NoteBytes
 pub mod RecordsTaken

@@ -5,7 +5,7 @@ use Rattle.std.proofs.lemmas.List.{take_all, length-drop}
 use Rattle.codes3270.specs.Size.{Shape}
 use Rattle.datastream.specs.InboundText.{InboundParts, IsInbound, IsNoInbound}
 use Rattle.datastream.specs.declared.inbound_part.Form.{Form}
-use Rattle.datastream.specs.declared.inbound_part.Form.TheVariants.{Buffer, Modified}
+use Rattle.datastream.specs.declared.inbound_part.Form.TheVariants.{Modified}
 use Rattle.datastream.specs.declared.inbound_part.InboundFault.{InboundFault}
 use Rattle.shadow.specs.Belief.{Shadow}
 use Rattle.shadow.specs.declared.fault.HeardFault.{HeardFault}

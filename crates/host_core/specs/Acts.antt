@@ -194,9 +194,14 @@ may_act whose.Host (Pending.Reading number) agreed = false
 may_act whose.Host (Pending.Noting number command) agreed = false
 may_act whose.Terminal pending agreed = false
 
+-- what it decides now: nothing, unless it may act
+abbrev pub decision_in : Application → Conn → Option Decision
+decision_in app conn =
+    if may_act conn.turn conn.pending (is_agreed conn.talk.state) then Some (decision_on app conn conn.turn_reason) else None
+
 abbrev pub decided : Application → Conn → Decision → Option Sent
 decided app conn (Decision.Do act) = Some (done app conn act)
 decided app conn Decision.Asks = None
 
 abbrev pub acted : Application → Conn → Option Sent
-acted app conn = if may_act conn.turn conn.pending (is_agreed conn.talk.state) then decided app conn (decision_on app conn conn.turn_reason) else None
+acted app conn = option_and_then (decided app conn) (decision_in app conn)

@@ -1,10 +1,9 @@
 -- How the host keeps a connection, and its steps as the code takes them (our profile); only private contracts and proofs need it.
-use Rattle.std.specs.Prelude.{◌≡◌, ◌≢◌, ◌==◌, ◌&&◌, not, ◌↔◌, ◌<◌, ◌+◌, ⊤, ℕ, Bool, true, false, List, [], ◌∷◌, ◌++◌, drop, Option, Some, None, map, Vec, vec_len, if◌then◌else◌}
+use Rattle.std.specs.Prelude.{◌≡◌, ◌≢◌, ◌==◌, ◌↔◌, ◌<◌, ◌+◌, ⊤, ℕ, true, List, [], ◌∷◌, ◌++◌, drop, Option, Some, None, map, Vec, vec_len, if◌then◌else◌}
 use Rattle.std.specs.Vec.{vec_capacity}
 use Rattle.std.specs.declared.alloc.Global.{Global}
 use Rattle.codes3270.specs.Size.{Shape, cells_in}
 use Rattle.codes3270.specs.WriteControl.{wcc_of}
-use Rattle.codes3270.specs.declared.attention.Aid.TheVariants.{Clear}
 use Rattle.datastream.specs.Grammar.{CommandParts, IsCommand, codes_of, size_after}
 use Rattle.datastream.specs.Reading.{orders_in}
 use Rattle.datastream.specs.declared.command_code.CommandCode.{CommandCode}
@@ -12,8 +11,6 @@ use Rattle.datastream.specs.declared.command_code.CommandCode.TheVariants.{Write
 use Rattle.lu_pool.specs.Asking.{answer_to}
 use Rattle.lu_pool.specs.Pool.{Holds}
 use Rattle.lu_pool.specs.declared.entry.Entry.{Entry}
-use Rattle.panels.specs.Screen.{Values}
-use Rattle.panels.specs.declared.message.Message.TheVariants.{Fresh}
 use Rattle.shadow.specs.Belief.{Shadow, IsOfSize}
 use Rattle.shadow.specs.Stores.{is_plain}
 use Rattle.telnet_wire.specs.Held.{Held, IsRunning as Running}
@@ -23,7 +20,7 @@ use Rattle.tn3270e_msg.specs.HostTable.{granted}
 use Rattle.tn3270e_msg.specs.declared.cause.Cause.{Cause}
 use Rattle.tn3270e_msg.specs.declared.cause.Stop.{Stop}
 use Rattle.tn3270e_msg.specs.declared.cause.Stop.TheVariants.{Going, Memory, Closed as ClosedStop}
-use Rattle.host_core.specs.Acts.{Act, Decision, Sent, is_to_be_read, learned, led, repeated, target_or}
+use Rattle.host_core.specs.Acts.{Sent}
 use Rattle.host_core.specs.Application.{Application}
 use Rattle.host_core.specs.Does.{Grow, ValuesMayWantMemory}
 use Rattle.host_core.specs.Bytes.{Counter, service_after}
@@ -33,13 +30,10 @@ use Rattle.host_core.specs.Rooms.{room_for}
 use Rattle.host_core.specs.Says.{item_sent}
 use Rattle.host_core.specs.Session.{Conn, Pending}
 use Rattle.host_core.specs.Takes.{HostStep, breaking, closed_by, dropping, pool_after, quiet}
-use Rattle.host_core.specs.declared.acting.Shown.{Shown}
 use Rattle.host_core.specs.declared.question.Answer.{Answer}
 use Rattle.host_core.specs.declared.acted.Acted.{Acted}
 use Rattle.host_core.specs.declared.acted.Acted.TheVariants.{Sent as IsSent, Nothing, Memory as NoMemory}
 use Rattle.host_core.specs.declared.pending.Pending.{Pending as Unanswered}
-use Rattle.host_core.specs.declared.turn_reason.TurnReason.{TurnReason}
-use Rattle.host_core.specs.declared.turn_reason.TurnReason.TheVariants.{Agreement, Key, Refusal}
 use Rattle.host_core.specs.declared.after_record.AfterRecord.{AfterRecord}
 use Rattle.host_core.specs.declared.after_record.AfterRecord.TheVariants.{GoesOn, Closes, Drops, Breaks}
 use Rattle.host_core.specs.declared.pending.Pending.TheVariants as unanswered
@@ -146,44 +140,6 @@ cause_of Memory = None
 cause_of (ClosedStop cause) = Some cause
 
 -- ---- acts
-
--- a key other than Clear, by which the host learns what the operator typed
-abbrev pub teaches : TurnReason → Bool
-teaches Agreement = false
-teaches (Key Clear buffered) = false
-teaches (Key aid buffered) = true
-teaches Refusal = false
-
--- whether the screen is read: it is to be, and wasn't yet
-abbrev pub reads : Application → Conn → TurnReason → Bool
-reads app conn Agreement = false
-reads app conn (Key Clear buffered) = false
-reads app conn (Key aid buffered) = is_to_be_read app conn aid && not buffered
-reads app conn Refusal = false
-
--- the values of fields with which a panel is shown
-abbrev pub values_shown : Application → Conn → Values
-values_shown app conn = if teaches conn.turn_reason then learned conn.shadow (app.fields conn.panel) conn.values else conn.values
-
--- the act by which a panel is shown, with these values of fields
-abbrev pub act_of : Values → Shown → Act
-act_of values shown = Act.Show shown.panel shown.message shown.keep values
-
--- the same, if something is shown; else the application is asked
-abbrev pub decision_of : Values → Option Shown → Decision
-decision_of values None = Decision.Asks
-decision_of values (Some shown) = Decision.Do (act_of values shown)
-
--- what is decided if nothing is read, once the values of fields are set
-abbrev pub show_for : Application → Conn → TurnReason → Decision
-show_for app conn Agreement = Decision.Do (Act.Show app.start Fresh false conn.values)
-show_for app conn (Key Clear buffered) = Decision.Do (Act.Show (target_or conn.panel (app.next conn.panel Clear)) Fresh false conn.values)
-show_for app conn (Key aid buffered) = led app conn conn.values aid (app.next conn.panel aid)
-show_for app conn Refusal = Decision.Do (Act.Show conn.panel (repeated conn.message) false conn.values)
-
--- the same, from before the values of fields are set
-abbrev pub show_once : Application → Conn → Decision
-show_once app conn = show_for app (record conn { values = values_shown app conn }) conn.turn_reason
 
 -- something was sent: its bytes were appended to what was there
 pub record IsSentOn (sent : Sent) (before after : Vec ℕ Global) (new : Conn) : Type 0 where

@@ -8,10 +8,10 @@ use Rattle.panels.specs.declared.message.Message.TheVariants.{Told}
 use Rattle.panels.specs.declared.panel.Field.{Field}
 use Rattle.panels.specs.Screen.{Values}
 use Rattle.panels.specs.Values.{value_of, with_values, without_fields}
-use Rattle.host_core.specs.Acts.{Act, Decision, Sent, decision_on, done, learned, may_act}
+use Rattle.host_core.specs.Acts.{Act, Decision, Sent, decision_in, done, learned}
 use Rattle.host_core.specs.Application.{Application}
 use Rattle.host_core.specs.State.{Service}
-use Rattle.host_core.specs.Session.{Conn, agreed_lu, is_agreed, model_in}
+use Rattle.host_core.specs.Session.{Conn, agreed_lu, model_in}
 use Rattle.host_core.specs.declared.question.Answer.{Answer}
 use Rattle.host_core.specs.declared.question.Question.{Question}
 use Rattle.host_core.specs.declared.question.Ticket.{Ticket}
@@ -26,7 +26,7 @@ is_ask Decision.Asks = true
 
 -- a question is open: it is the host's turn, and the application decides
 abbrev pub is_asking : Application → Conn → Bool
-is_asking app conn = may_act conn.turn conn.pending (is_agreed conn.talk.state) && is_ask (decision_on app conn conn.turn_reason)
+is_asking app conn = option_map_or is_ask (decision_in app conn) false
 
 -- the key that gave the host the turn
 abbrev pub key_of : TurnReason → Aid

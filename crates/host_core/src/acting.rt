@@ -1,24 +1,23 @@
-//! What a host does in its turn.
-ghost use Rattle.std.specs.Prelude.{◌≡◌, ◌≤◌, ◌<◌, ℕ, Bool, false, true, Some, IfSome, OnOk, OnErr, length};
+//! What a host decides in its turn, and does.
+ghost use Rattle.std.specs.Prelude.{◌≡◌, ◌≤◌, ◌<◌, ℕ, Bool, false, true, Some, OnOk, OnErr, length};
 ghost use Rattle.std.specs.List.{list_any};
 ghost use Rattle.std.specs.Vec.{vec_capacity};
 ghost use Rattle.codes3270.specs.Size.{cells_in};
 ghost use Rattle.codes3270.specs.declared.attention.Aid.TheVariants.{Clear};
 ghost use Rattle.panels.specs.Keys.{IsKey};
-ghost use Rattle.panels.specs.Screen.{Values as FieldValues};
+ghost use Rattle.panels.specs.Panel.{Panels};
 ghost use Rattle.panels.specs.declared.message.Message.TheVariants.{Fresh};
 ghost use Rattle.panels.specs.declared.next.Next.TheVariants.{Go};
-ghost use Rattle.host_core.specs.Acts.{Act as Doing, Decision as Decided, acted, decided, done, is_in_doubt as in_doubt, is_to_be_read, led, may_act, once_filled_in, repeated, target_or, unless_missing};
+ghost use Rattle.host_core.specs.Acts.{Act as Doing, Decision as Decided, acted, after_key, decision_in, decision_on, done, is_in_doubt as in_doubt, is_to_be_read, led, may_act, once_filled_in, repeated, target_or, unless_missing};
 ghost use Rattle.shadow.specs.Belief.{IsOfSize};
 ghost use Rattle.host_core.specs.Application.{Application, application_of, panel_at};
-ghost use Rattle.host_core.specs.Choices.{CanBeShown};
+ghost use Rattle.host_core.specs.Choices.{CanBeDone, CanBeShown, act_of, decision_of, values_with};
 ghost use Rattle.host_core.specs.Does.{Grow};
-ghost use Rattle.host_core.specs.Keeps.{DoesOn, act_of, decision_of, reads, show_for, show_once, teaches, values_shown};
+ghost use Rattle.host_core.specs.Keeps.{DoesOn};
 ghost use Rattle.host_core.specs.Learning.{HaveFields};
-ghost use Rattle.host_core.specs.Questions.{is_ask};
-ghost use Rattle.host_core.specs.Session.{is_agreed};
+ghost use Rattle.host_core.specs.Session.{Conn, is_agreed};
 ghost use Rattle.host_core.specs.Sound.{IsShownOn};
-ghost use Rattle.host_core.specs.declared.turn_reason.TurnReason.TheVariants.{Key as KeyPressed};
+ghost use Rattle.host_core.specs.declared.acting.Decision.TheVariants.{Show};
 
 use crate::acted::Acted;
 use crate::learning::{first_missing, is_in_doubt, learn_all};
@@ -39,6 +38,19 @@ pub(crate) struct Shown {
     pub(crate) panel: usize,
     pub(crate) message: Message,
     pub(crate) keep: bool,
+}
+
+/// What the host decides.
+#[derive(Clone, Copy)]
+pub(crate) enum Decision {
+    /// It does nothing: it isn't its turn, the session isn't agreed, or a command isn't answered yet.
+    Nothing,
+    /// It reads the whole screen.
+    Read,
+    /// It asks the application, and does nothing until that has answered.
+    Ask,
+    /// It shows a panel. With `learn`, the texts that are known become the values of their fields first.
+    Show { shown: Shown, learn: bool },
 }
 
 /// Whether some field is in doubt.
@@ -66,30 +78,21 @@ fn repeated(message: Message) -> Message
     }
 }
 
-/// While a required field is missing, the panel is shown again in place of what was decided.
-fn unless_missing(panel: usize, decided: Option<Shown>, missing: Option<usize>) -> Option<Shown>
-    ensures decision { (values : FieldValues) → decision_of values result ≡ unless_missing panel (decision_of values decided) values missing }
-    ensures can_be_done { (count : ℕ) → panel < count → IfSome decided (CanBeShown count) → IfSome result (CanBeShown count) }
-{
-    match missing {
-        None => decided,
-        Some(field) => Some(Shown {
-            panel,
-            message: Message::Required(field),
-            keep: true,
-        }),
-    }
-}
-
 /// A panel is shown fresh.
-fn fresh(panel: usize) -> Option<Shown>
-    ensures { result ≡ Some (record { panel = panel; message = Fresh; keep = false }) }
+fn fresh(panel: usize, learn: bool) -> Decision
+    ensures decision { (app : Application) (conn : Conn) →
+        decision_of app conn result ≡ Some (Decided.Do (Doing.Show panel Fresh false (values_with app conn learn))) }
+    ensures can_be_done { (panels : Panels) (conn : Conn) → panel < length panels.panels →
+        IsOfSize (cells_in conn.shape) conn.shadow → CanBeDone panels conn result }
 {
-    Some(Shown {
-        panel,
-        message: Message::Fresh,
-        keep: false,
-    })
+    Decision::Show {
+        shown: Shown {
+            panel,
+            message: Message::Fresh,
+            keep: false,
+        },
+        learn,
+    }
 }
 
 /// Law: an identifier is a key's, or none's.
@@ -110,26 +113,13 @@ fn aid_is_real(aid: &Aid)
 }
 
 /// Where a key leads.
-pub(crate) fn next_of(panels: &PanelSet, panel: usize, aid: &Aid) -> Next
+fn next_of(panels: &PanelSet, panel: usize, aid: &Aid) -> Next
     requires { panel < length panels.now.panels }
     ensures next { result ≡ (application_of panels.now).next panel aid.now }
     ensures target { (target : ℕ) → result ≡ Go target → target < length panels.now.panels }
 {
     aid_is_real(aid);
     panel_in(panels, panel).next(*aid)
-}
-
-/// Whether the host learns what the operator typed: after a key other than Clear.
-fn teaches(turn_reason: TurnReason) -> bool
-    ensures { result ≡ teaches turn_reason }
-{
-    match turn_reason {
-        TurnReason::Agreement | TurnReason::Refusal => false,
-        TurnReason::Key(aid, _) => match aid {
-            Aid::Clear => false,
-            Aid::NoAid | Aid::Enter | Aid::Pf(_) | Aid::Pa(_) => true,
-        },
-    }
 }
 
 impl Session {
@@ -151,111 +141,155 @@ impl Session {
 
     /// The first required field that is missing, after Enter.
     fn missing_after(&self, panels: &PanelSet, aid: &Aid) -> Option<usize>
-        requires { self.now.panel < length panels.now.panels }
-        ensures { (decision : Decided) → once_filled_in (application_of panels.now) self.now decision self.now.values aid.now ≡ unless_missing self.now.panel decision self.now.values result }
+        requires panel { self.now.panel < length panels.now.panels }
+        requires fields { HaveFields self.now.shadow (panel_at panels.now self.now.panel).fields }
+        ensures { (decision : Decided) →
+            once_filled_in (application_of panels.now) self.now decision
+            (values_with (application_of panels.now) self.now true) aid.now
+            ≡ unless_missing self.now.panel decision (values_with (application_of panels.now) self.now true) result }
     {
+        panels.panels_are_sound();
         match aid {
-            Aid::Enter => first_missing(&self.values, panel_in(panels, self.panel).fields()),
+            Aid::Enter => {
+                let fields = panel_in(panels, self.panel).fields();
+                first_missing(&self.values, &self.shadow, fields)
+            }
             Aid::NoAid | Aid::Clear | Aid::Pf(_) | Aid::Pa(_) => None,
         }
     }
 
-    /// Where a key leads once the values of fields are set; a key that leads nowhere isn't active. None if the application is
-    /// asked.
-    fn led(&self, panels: &PanelSet, aid: &Aid, next: Next) -> Option<Shown>
-        requires panel { self.now.panel < length panels.now.panels }
+    /// The panel is shown again, with what the operator left in its fields.
+    fn again(&self, message: Message) -> Decision
+        ensures { result ≡ Show (record { panel = self.now.panel; message = message; keep = true }) true }
+    {
+        Decision::Show {
+            shown: Shown {
+                panel: self.panel,
+                message,
+                keep: true,
+            },
+            learn: true,
+        }
+    }
+
+    /// After Enter, while a required field is missing, the panel is shown again in place of what was decided.
+    fn once_filled_in(&self, panels: &PanelSet, aid: &Aid, decision: Decision) -> Decision
+        requires panel { IsShownOn panels.now self.now }
+        requires known { IsOfSize (cells_in self.now.shape) self.now.shadow }
+        requires can_be_done { CanBeDone panels.now self.now decision }
+        ensures decision { (decided : Decided) →
+            decision_of (application_of panels.now) self.now decision ≡ Some decided →
+            decision_of (application_of panels.now) self.now result
+            ≡ Some (once_filled_in (application_of panels.now) self.now decided
+            (values_with (application_of panels.now) self.now true) aid.now) }
+        ensures can_be_done { CanBeDone panels.now self.now result }
+    {
+        self.fields_are_believed(panels);
+        match self.missing_after(panels, aid) {
+            None => decision,
+            Some(field) => self.again(Message::Required(field)),
+        }
+    }
+
+    /// Where a key leads. A key that leads nowhere isn't active.
+    fn led(&self, panels: &PanelSet, aid: &Aid, next: Next) -> Decision
+        requires panel { IsShownOn panels.now self.now }
+        requires known { IsOfSize (cells_in self.now.shape) self.now.shadow }
         requires target { (target : ℕ) → next ≡ Go target → target < length panels.now.panels }
-        ensures decision { decision_of self.now.values result ≡ led (application_of panels.now) self.now self.now.values aid.now next }
-        ensures can_be_done { IfSome result (CanBeShown (length panels.now.panels)) }
+        ensures decision { decision_of (application_of panels.now) self.now result
+            ≡ Some (led (application_of panels.now) self.now
+            (values_with (application_of panels.now) self.now true) aid.now next) }
+        ensures can_be_done { CanBeDone panels.now self.now result }
     {
         match next {
-            Next::Again => Some(Shown {
-                panel: self.panel,
-                message: Message::KeyNotActive,
-                keep: true,
-            }),
-            Next::Go(target) => {
-                unless_missing(self.panel, fresh(target), self.missing_after(panels, aid))
-            }
-            Next::Ask => unless_missing(self.panel, None, self.missing_after(panels, aid)),
+            Next::Again => self.again(Message::KeyNotActive),
+            Next::Go(target) => self.once_filled_in(panels, aid, fresh(target, true)),
+            Next::Ask => self.once_filled_in(panels, aid, Decision::Ask),
         }
     }
 
-    /// What is shown after Clear: the target of that key, else the same panel.
-    fn after_clear(&self, panels: &PanelSet) -> Shown
-        requires { self.now.panel < length panels.now.panels }
-        ensures act { act_of self.now.values result ≡ Doing.Show (target_or self.now.panel ((application_of panels.now).next self.now.panel Clear)) Fresh false self.now.values }
-        ensures can_be_done { CanBeShown (length panels.now.panels) result }
+    /// After Clear: the target of that key is shown, else the same panel.
+    fn after_clear(&self, panels: &PanelSet) -> Decision
+        requires panel { IsShownOn panels.now self.now }
+        requires known { IsOfSize (cells_in self.now.shape) self.now.shadow }
+        ensures decision { decision_of (application_of panels.now) self.now result
+            ≡ Some (Decided.Do (Doing.Show
+            (target_or self.now.panel ((application_of panels.now).next self.now.panel Clear))
+            Fresh false self.now.values)) }
+        ensures can_be_done { CanBeDone panels.now self.now result }
     {
-        let target = match next_of(panels, self.panel, &Aid::Clear) {
-            Next::Again | Next::Ask => self.panel,
-            Next::Go(target) => target,
-        };
-        Shown {
-            panel: target,
-            message: Message::Fresh,
-            keep: false,
+        match next_of(panels, self.panel, &Aid::Clear) {
+            Next::Again | Next::Ask => fresh(self.panel, false),
+            Next::Go(target) => fresh(target, false),
         }
     }
 
-    /// What is shown after a key, once the values of fields are set. None if the application is asked.
-    fn after_key(&self, panels: &PanelSet, aid: &Aid) -> Option<Shown>
-        requires { self.now.panel < length panels.now.panels }
-        ensures decision { (buffered : Bool) → decision_of self.now.values result ≡ show_for (application_of panels.now) self.now (KeyPressed aid.now buffered) }
-        ensures can_be_done { IfSome result (CanBeShown (length panels.now.panels)) }
+    /// After a key.
+    fn after_key(&self, panels: &PanelSet, aid: &Aid, buffered: bool) -> Decision
+        requires panel { IsShownOn panels.now self.now }
+        requires known { IsOfSize (cells_in self.now.shape) self.now.shadow }
+        ensures decision { decision_of (application_of panels.now) self.now result
+            ≡ Some (after_key (application_of panels.now) self.now aid.now buffered) }
+        ensures can_be_done { CanBeDone panels.now self.now result }
     {
+        self.fields_are_believed(panels);
         match aid {
-            Aid::Clear => Some(self.after_clear(panels)),
+            Aid::Clear => self.after_clear(panels),
             Aid::NoAid | Aid::Enter | Aid::Pf(_) | Aid::Pa(_) => {
+                if self.is_to_be_read(panels, aid) && !buffered {
+                    return Decision::Read;
+                }
                 self.led(panels, aid, next_of(panels, self.panel, aid))
             }
         }
     }
 
-    /// What is to be shown, once the values of fields are set: at agreement the first panel, after a refusal the same panel, whole.
-    /// None if the application is asked.
-    fn shown(&self, panels: &PanelSet) -> Option<Shown>
-        requires { self.now.panel < length panels.now.panels }
-        ensures decision { decision_of self.now.values result ≡ show_for (application_of panels.now) self.now self.now.turn_reason }
-        ensures can_be_done { IfSome result (CanBeShown (length panels.now.panels)) }
+    /// What is decided in its turn: at agreement the first panel is shown, after a refusal the same panel, whole.
+    fn decide_in_turn(&self, panels: &PanelSet) -> Decision
+        requires panel { IsShownOn panels.now self.now }
+        requires known { IsOfSize (cells_in self.now.shape) self.now.shadow }
+        ensures decision { decision_of (application_of panels.now) self.now result
+            ≡ Some (decision_on (application_of panels.now) self.now self.now.turn_reason) }
+        ensures can_be_done { CanBeDone panels.now self.now result }
     {
         match self.turn_reason {
-            TurnReason::Agreement => fresh(panels.start()),
-            TurnReason::Key(aid, _) => self.after_key(panels, &aid),
-            TurnReason::Refusal => Some(Shown {
-                panel: self.panel,
-                message: repeated(self.message),
-                keep: false,
-            }),
-        }
-    }
-
-    /// Whether the screen is read before anything is shown.
-    pub(crate) fn reads_first(&self, panels: &PanelSet) -> bool
-        requires panel { self.now.panel < length panels.now.panels }
-        requires fields { HaveFields self.now.shadow (panel_at panels.now self.now.panel).fields }
-        ensures { result ≡ reads (application_of panels.now) self.now self.now.turn_reason }
-    {
-        match self.turn_reason {
-            TurnReason::Agreement | TurnReason::Refusal => false,
-            TurnReason::Key(aid, buffered) => match aid {
-                Aid::Clear => false,
-                Aid::NoAid | Aid::Enter | Aid::Pf(_) | Aid::Pa(_) => {
-                    self.is_to_be_read(panels, &aid) && !buffered
-                }
+            TurnReason::Agreement => fresh(panels.start(), false),
+            TurnReason::Key(aid, buffered) => self.after_key(panels, &aid, buffered),
+            TurnReason::Refusal => Decision::Show {
+                shown: Shown {
+                    panel: self.panel,
+                    message: repeated(self.message),
+                    keep: false,
+                },
+                learn: false,
             },
         }
     }
 
-    /// Sets the values of fields, before a panel is shown. Memory is needed only if a value has to grow.
-    fn learn(&mut self, panels: &PanelSet) -> Result<(), Memory>
+    /// What the host decides now.
+    pub(crate) fn decide(&self, panels: &PanelSet) -> Decision
+        requires { IsShownOn panels.now self.now }
+        ensures decision { decision_of (application_of panels.now) self.now result
+            ≡ decision_in (application_of panels.now) self.now }
+        ensures can_be_done { CanBeDone panels.now self.now result }
+    {
+        if !self.may_act() {
+            return Decision::Nothing;
+        }
+        self.decide_in_turn(panels)
+    }
+
+    /// Sets the texts that are known as values of their fields, before a panel is shown, if that was decided. Memory is
+    /// needed only if a value has to grow.
+    fn learn(&mut self, panels: &PanelSet, learn: bool) -> Result<(), Memory>
         requires panel { self.old.panel < length panels.now.panels }
         requires fields { HaveFields self.old.shadow (panel_at panels.now self.old.panel).fields }
-        ensures values { OnOk result (self.new ≡ record self.old { values = values_shown (application_of panels.now) self.old }) }
-        ensures memory { OnErr result (Grow self.old.values (values_shown (application_of panels.now) self.old)) }
+        ensures values { OnOk result
+            (self.new ≡ record self.old { values = values_with (application_of panels.now) self.old learn }) }
+        ensures memory { OnErr result (Grow self.old.values (values_with (application_of panels.now) self.old learn)) }
         ensures err { OnErr result (self.new ≡ self.old) }
     {
-        if !teaches(self.turn_reason) {
+        if !learn {
             return Ok(());
         }
         panels.panels_are_sound();
@@ -271,7 +305,7 @@ impl Session {
     }
 
     /// Whether it may act: in its turn, once the session is agreed and its last command answered.
-    pub(crate) fn may_act(&self) -> bool
+    fn may_act(&self) -> bool
         ensures may { result ≡ may_act self.now.turn self.now.pending (is_agreed self.now.talk.state) }
         // Nothing waits for its answer then, so that what is believed has the size of the screen.
         ensures known { result ≡ true → IsOfSize (cells_in self.now.shape) self.now.shadow }
@@ -311,23 +345,29 @@ impl Session {
     }
 
     /// Shows a panel, if there is room for the command and for the values of fields.
-    fn show_in_turn(&mut self, panels: &PanelSet, out: &mut Vec<u8>) -> Acted
+    fn show_in_turn(
+        &mut self,
+        panels: &PanelSet,
+        shown: Shown,
+        learn: bool,
+        out: &mut Vec<u8>,
+    ) -> Acted
         requires panel { IsShownOn panels.now self.old }
-        requires fields { HaveFields self.old.shadow (panel_at panels.now self.old.panel).fields }
-        requires shows { is_ask (show_once (application_of panels.now) self.old) ≡ false }
-        ensures acted { DoesOn (decided (application_of panels.now) self.old (show_once (application_of panels.now) self.old)) self.old out.old result self.new out.new }
+        requires known { IsOfSize (cells_in self.old.shape) self.old.shadow }
+        requires shows { CanBeShown (length panels.now.panels) shown }
+        ensures acted { DoesOn (Some (done (application_of panels.now) self.old
+            (act_of (values_with (application_of panels.now) self.old learn) shown)))
+            self.old out.old result self.new out.new }
         ensures panel { IsShownOn panels.now self.new }
         ensures capacity { vec_capacity out.old ≤ vec_capacity out.new }
     {
         if out.reserve(COMMAND_ROOM).is_err() {
             return Acted::Memory;
         }
-        if self.learn(panels).is_err() {
+        self.fields_are_believed(panels);
+        if self.learn(panels, learn).is_err() {
             return Acted::Memory;
         }
-        let Some(shown) = self.shown(panels) else {
-            unreachable!()
-        };
         self.show(panels, shown, out);
         Acted::Sent
     }
@@ -340,16 +380,10 @@ impl Session {
         ensures panel { IsShownOn panels.now self.new }
         ensures capacity { vec_capacity out.old ≤ vec_capacity out.new }
     {
-        if !self.may_act() {
-            return Acted::Nothing;
+        match self.decide(panels) {
+            Decision::Nothing | Decision::Ask => Acted::Nothing,
+            Decision::Read => self.read_in_turn(out),
+            Decision::Show { shown, learn } => self.show_in_turn(panels, shown, learn, out),
         }
-        self.fields_are_believed(panels);
-        if self.reads_first(panels) {
-            return self.read_in_turn(out);
-        }
-        if self.asks(panels) {
-            return Acted::Nothing;
-        }
-        self.show_in_turn(panels, out)
     }
 }

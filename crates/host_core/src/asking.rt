@@ -1,74 +1,30 @@
 //! Questions to the application, and its answers.
 ghost use Rattle.std.specs.Prelude.{◌≡◌, ◌≢◌, ◌≤◌, ◌<◌, [], Some, IfOk, OnOk, OnErr, is_some, length, not, ◌&&◌, true};
-ghost use Rattle.std.specs.List.{list_any};
 ghost use Rattle.std.specs.Vec.{vec_capacity};
 ghost use Rattle.panels.specs.Panel.{HaveNumbersApart};
 ghost use Rattle.panels.specs.Values.{value_of, without_fields};
 ghost use Rattle.shadow.specs.Storable.{CanBeStored};
-ghost use Rattle.host_core.specs.Acts.{first_missing, led, learned, may_act};
+ghost use Rattle.host_core.specs.Acts.{learned};
 ghost use Rattle.host_core.specs.Application.{application_of, panel_at};
-ghost use Rattle.host_core.specs.Choices.{CanBeShown};
+ghost use Rattle.host_core.specs.Choices.{CanBeShown, act_of};
 ghost use Rattle.host_core.specs.Does.{Grow, ValuesMayWantMemory};
-ghost use Rattle.host_core.specs.Keeps.{AnswersOn, act_of, show_once};
-ghost use Rattle.host_core.specs.Learning.{HasField, HaveFields, is_missing_now};
-ghost use Rattle.host_core.specs.Questions.{HasTexts, act_by, answered_in, answered_on, has_its_panel, has_value_of, is_ask, is_asking, key_of, named_fields, question_in, ticket_of, values_for};
-ghost use Rattle.host_core.specs.Session.{is_agreed};
+ghost use Rattle.host_core.specs.Keeps.{AnswersOn};
+ghost use Rattle.host_core.specs.Learning.{HaveFields};
+ghost use Rattle.host_core.specs.Questions.{HasTexts, act_by, answered_in, answered_on, has_its_panel, has_value_of, is_asking, key_of, named_fields, question_in, ticket_of, values_for};
 ghost use Rattle.host_core.specs.Sound.{IsShownOn};
 
 use crate::acted::Acted;
-use crate::acting::{Shown, next_of};
-use crate::learning::{are_blanks, characters_known, is_blank, learn_all, texts_known};
+use crate::acting::{Decision, Shown};
+use crate::learning::{learn_all, texts_known};
 use crate::question::{Answer, Question, Ticket, is_ticket};
 use crate::room::COMMAND_ROOM;
 use crate::sending::panel_in;
 use crate::session::Session;
 use crate::turn_reason::TurnReason;
 use codes3270::Aid;
-use panels::{Field, Message, Next, PanelSet, Values};
+use panels::{Field, Message, PanelSet, Values};
 use shadow::Shadow;
 use telnet_wire::Memory;
-
-/// Whether a required field isn't filled in, by what is known of it now.
-fn is_missing_now(values: &Values, shadow: &Shadow, field: &Field) -> bool
-    requires stored { CanBeStored shadow.now }
-    requires there { HasField shadow.now field.now }
-    ensures { result ≡ is_missing_now shadow.now values.now field.now }
-{
-    if !field.required {
-        return false;
-    }
-    match characters_known(shadow, field) {
-        Some(characters) => are_blanks(characters),
-        None => match values.get(field.number) {
-            Some(value) => is_blank(value),
-            None => true,
-        },
-    }
-}
-
-/// Whether there is such a field.
-fn is_some_missing(values: &Values, shadow: &Shadow, fields: &[Field]) -> bool
-    requires stored { CanBeStored shadow.now }
-    requires there { HaveFields shadow.now fields.now }
-    ensures { result ≡ list_any (is_missing_now shadow.now values.now) fields.now }
-{
-    for field in fields {
-        if is_missing_now(values, shadow, field) {
-            return true;
-        }
-    }
-    false
-}
-
-/// Whether a required field isn't filled in once the known texts are set.
-fn is_missing_once_learned(values: &Values, shadow: &Shadow, fields: &[Field]) -> bool
-    requires stored { CanBeStored shadow.now }
-    requires there { HaveFields shadow.now fields.now }
-    requires numbers { HaveNumbersApart fields.now }
-    ensures { result ≡ is_some (first_missing (learned shadow.now fields.now values.now) fields.now) }
-{
-    is_some_missing(values, shadow, fields)
-}
 
 /// The key that gave the host the turn.
 fn key_of(turn_reason: TurnReason) -> Aid
@@ -129,51 +85,19 @@ fn has_its_panel(panels: &PanelSet, answer: &Answer) -> bool
 }
 
 impl Session {
-    /// Whether the application is asked about a key.
-    fn asks_about(&self, panels: &PanelSet, aid: &Aid) -> bool
-        requires panel { self.now.panel < length panels.now.panels }
-        requires fields { HaveFields self.now.shadow (panel_at panels.now self.now.panel).fields }
-        ensures { result ≡ is_ask (led (application_of panels.now) self.now (learned self.now.shadow (panel_at panels.now self.now.panel).fields self.now.values) aid.now ((application_of panels.now).next self.now.panel aid.now)) }
-    {
-        panels.panels_are_sound();
-        match next_of(panels, self.panel, aid) {
-            Next::Again | Next::Go(_) => false,
-            Next::Ask => match aid {
-                Aid::Enter => {
-                    let fields = panel_in(panels, self.panel).fields();
-                    !is_missing_once_learned(&self.values, &self.shadow, fields)
-                }
-                Aid::NoAid | Aid::Clear | Aid::Pf(_) | Aid::Pa(_) => true,
-            },
-        }
-    }
-
-    /// Whether the application is asked, if nothing is read first.
-    pub(crate) fn asks(&self, panels: &PanelSet) -> bool
-        requires panel { self.now.panel < length panels.now.panels }
-        requires fields { HaveFields self.now.shadow (panel_at panels.now self.now.panel).fields }
-        ensures { result ≡ is_ask (show_once (application_of panels.now) self.now) }
-    {
-        match self.turn_reason {
-            TurnReason::Agreement | TurnReason::Refusal => false,
-            TurnReason::Key(aid, _) => match aid {
-                Aid::Clear => false,
-                Aid::NoAid | Aid::Enter | Aid::Pf(_) | Aid::Pa(_) => self.asks_about(panels, &aid),
-            },
-        }
-    }
-
     /// Whether a question is open.
     fn is_asking(&self, panels: &PanelSet) -> bool
         requires { IsShownOn panels.now self.now }
         ensures asking { result ≡ is_asking (application_of panels.now) self.now }
         ensures fields { result ≡ true → HaveFields self.now.shadow (panel_at panels.now self.now.panel).fields }
     {
-        if !self.may_act() {
-            return false;
+        match self.decide(panels) {
+            Decision::Ask => {
+                self.fields_are_believed(panels);
+                true
+            }
+            Decision::Nothing | Decision::Read | Decision::Show { .. } => false,
         }
-        self.fields_are_believed(panels);
-        !self.reads_first(panels) && self.asks(panels)
     }
 
     /// The texts of the panel's fields that are known. Memory is needed only if there is one.

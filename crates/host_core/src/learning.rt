@@ -10,9 +10,9 @@ ghost use Rattle.panels.specs.Values.{set_if};
 ghost use Rattle.shadow.specs.Asked.{kind_of};
 ghost use Rattle.shadow.specs.Belief.{Belief};
 ghost use Rattle.shadow.specs.Storable.{CanBeStored};
-ghost use Rattle.host_core.specs.Acts.{first_missing, is_blank, is_in_doubt, is_missing, is_settled_fact, learned, text_known};
+ghost use Rattle.host_core.specs.Acts.{first_missing, is_blank, is_in_doubt, is_settled_fact, learned, text_known};
 ghost use Rattle.host_core.specs.Does.{Grow};
-ghost use Rattle.host_core.specs.Learning.{needs_room, HasField, HaveFields};
+ghost use Rattle.host_core.specs.Learning.{is_missing_now, needs_room, HasField, HaveFields};
 
 use arrayvec::ArrayVec;
 use codes3270::MOST_CELLS;
@@ -45,7 +45,7 @@ pub(crate) fn is_in_doubt(shadow: &Shadow, field: &Field) -> bool
 }
 
 /// The characters of a field's text, if that is known. There may be nulls among them.
-pub(crate) fn characters_known<'a>(shadow: &'a Shadow, field: &Field) -> Option<FieldText<'a>>
+fn characters_known<'a>(shadow: &'a Shadow, field: &Field) -> Option<FieldText<'a>>
     requires stored { CanBeStored shadow.now }
     requires there { HasField shadow.now field.now }
     ensures text { option_map without_nulls result ≡ text_known shadow.now field.now }
@@ -221,7 +221,7 @@ pub(crate) fn learn_all(
 }
 
 /// Whether a value is blanks, or nothing.
-pub(crate) fn is_blank(value: &[u8]) -> bool
+fn is_blank(value: &[u8]) -> bool
     ensures { result ≡ is_blank value.now }
 {
     value.iter().all(|byte| *byte == BLANK)
@@ -231,7 +231,7 @@ pub(crate) fn is_blank(value: &[u8]) -> bool
 const BLANK: u8 = 0x40;
 
 /// Whether characters are blanks, but for nulls.
-pub(crate) fn are_blanks(characters: FieldText<'_>) -> bool
+fn are_blanks(characters: FieldText<'_>) -> bool
     ensures { result ≡ is_blank (without_nulls characters.entry) }
 {
     for byte in characters {
@@ -242,23 +242,33 @@ pub(crate) fn are_blanks(characters: FieldText<'_>) -> bool
     true
 }
 
-/// Whether a field is required and isn't filled in.
-fn is_missing(values: &Values, field: &Field) -> bool
-    ensures { result ≡ is_missing values.now field.now }
+/// Whether a required field isn't filled in, by what is known of it now.
+fn is_missing_now(values: &Values, shadow: &Shadow, field: &Field) -> bool
+    requires stored { CanBeStored shadow.now }
+    requires there { HasField shadow.now field.now }
+    ensures { result ≡ is_missing_now shadow.now values.now field.now }
 {
-    field.required
-        && match values.get(field.number) {
+    if !field.required {
+        return false;
+    }
+    match characters_known(shadow, field) {
+        Some(characters) => are_blanks(characters),
+        None => match values.get(field.number) {
             Some(value) => is_blank(value),
             None => true,
-        }
+        },
+    }
 }
 
-/// The number of the first such field.
-pub(crate) fn first_missing(values: &Values, fields: &[Field]) -> Option<usize>
-    ensures { result ≡ first_missing values.now fields.now }
+/// The number of the first required field that isn't filled in, once the known texts are set as values of their fields.
+pub(crate) fn first_missing(values: &Values, shadow: &Shadow, fields: &[Field]) -> Option<usize>
+    requires stored { CanBeStored shadow.now }
+    requires there { HaveFields shadow.now fields.now }
+    requires numbers { HaveNumbersApart fields.now }
+    ensures { result ≡ first_missing (learned shadow.now fields.now values.now) fields.now }
 {
     for field in fields {
-        if is_missing(values, field) {
+        if is_missing_now(values, shadow, field) {
             return Some(field.number);
         }
     }

@@ -304,7 +304,7 @@ impl Dialer {
             Ok(socket) => socket,
             Err(error) => return Err(error.kind()),
         };
-        // As in `Server::admit`: if one of these calls fails, the socket is used anyway.
+        // As where the server accepts: if one of these calls fails, the socket is used anyway.
         let _ = socket.set_nodelay(true);
         let interest = Interest::READABLE | Interest::WRITABLE;
         let _ = self

@@ -6,108 +6,117 @@ mod commands;
 mod host;
 mod lines;
 mod links;
-mod made;
 mod messages;
 mod panel;
 mod pool;
-mod reports;
 mod screen;
-mod streams;
 mod terminal;
-mod texts;
 mod wire;
 mod world;
 
-use crate::talk::{Fault, Talk};
-use belief::{Belief, Present};
+use crate::subjects::belief::Painter;
+use crate::talk::{Answer, Done, Fault, Put, Words};
 use codes3270::Model;
 use host_core::Host;
-use reference::{AnyScreen, ReferenceBelief, ReferenceScreen};
+use reference::{ReferenceBelief, ReferenceScreen};
+use shadow::Shadow;
 use std::alloc::AllocError;
 use std::io::{self, BufRead, BufReader, Write};
+use telnet_wire::Decoder;
 use term_core::Terminal;
 
-/// Takes commands.
 pub(crate) trait Subject {
     /// Does the command of a line, and puts the lines of its answer, each with its newline.
-    fn take(&mut self, talk: &mut Talk<'_>) -> Result<(), Fault>;
+    fn take(&mut self, words: &mut Words<'_>, answer: &mut Answer) -> Done;
 }
 
-/// Does the command of a whole line.
-fn take_all<S: Subject>(subject: &mut S, talk: &mut Talk<'_>) -> Result<(), Fault> {
-    if !talk.take_vector()? {
-        subject.take(talk)?;
+/// A subject that a command `new` makes, and other commands are done to.
+pub(crate) trait Made {
+    /// Makes it as the words after `new` say.
+    fn new(words: &mut Words<'_>) -> Result<Self, Fault>;
+
+    fn take(&mut self, word: &str, words: &mut Words<'_>, answer: &mut Answer) -> Done;
+}
+
+impl<M: Made + Drop> Subject for Option<M> {
+    fn take(&mut self, words: &mut Words<'_>, answer: &mut Answer) -> Done {
+        let word = words.word()?;
+        match self {
+            made if word == "new" => match M::new(words) {
+                Ok(new) => {
+                    *made = Some(new);
+                    answer.done(Ok(()))
+                }
+                Err(Fault::NoMemory(fault)) => answer.done(Err(fault)),
+                Err(fault) => Err(fault),
+            },
+            Some(made) => made.take(word, words, answer),
+            None => Err(Fault::Line),
+        }
     }
-    talk.end()
+}
+
+fn take_all<S: Subject>(subject: &mut S, words: &mut Words<'_>, answer: &mut Answer) -> Done {
+    if !answer.take_vector(words)? {
+        subject.take(words, answer)?;
+    }
+    match words.rest {
+        "" => Ok(()),
+        _ => Err(Fault::Line),
+    }
 }
 
 /// Does the command of a line, and puts the whole answer.
-fn put_answer<S: Subject>(subject: &mut S, talk: &mut Talk<'_>) -> Result<(), AllocError> {
-    if let Err(fault) = take_all(subject, talk) {
-        talk.answer.clear();
-        writeln!(talk.answer, "? {fault}")?;
+fn put_answer<S: Subject>(subject: &mut S, mut words: Words<'_>, answer: &mut Answer) -> Put {
+    answer.text.clear();
+    if let Err(fault) = take_all(subject, &mut words, answer) {
+        answer.text.clear();
+        writeln!(answer.text, "? {fault}")?;
     }
-    talk.answer.push_str(".\n")
+    answer.text.push_str(".\n")
 }
 
-/// Answers a line. A command behind `! ` is done between two lines on standard error, `begin` and `end`: so a library that is preloaded
-/// can tell the growths of memory in it.
-fn answer_line<S: Subject>(
-    rt: &HostRuntime,
-    subject: &mut S,
-    talk: &mut Talk<'_>,
-) -> io::Result<()> {
-    match talk.rest.strip_prefix("! ") {
-        Some(line) => {
-            talk.rest = line;
-            eprintln!(rt; "begin")?;
-            put_answer(subject, talk)?;
-            eprintln!(rt; "end")
-        }
-        None => Ok(put_answer(subject, talk)?),
-    }
-}
-
-/// Answers each line of standard input.
+/// Answers each line of standard input. A command after `! ` is done between the lines `begin` and `end` on standard
+/// error: so a library that is preloaded can tell the growths of memory in it.
 fn serve<S: Subject + Drop>(rt: &HostRuntime, mut subject: S) -> io::Result<bool> {
+    let alloc = rt.alloc();
     // Answers have room, so that want of memory is but that of calls.
-    let mut answer = String::with_capacity(rt.alloc(), 1 << 16)?;
-    let mut out = Vec::new(rt.alloc());
-    for line in BufReader::new(rt.alloc(), rt.reader())?.lines(rt.alloc()) {
+    let text = String::with_capacity(alloc, 1 << 16)?;
+    let out = Vec::new(alloc);
+    let mut answer = Answer { text, out };
+    for line in BufReader::new(alloc, rt.reader())?.lines(alloc) {
         let line = line?;
-        answer.clear();
-        let mut talk = Talk {
-            alloc: rt.alloc(),
-            rest: line.as_str(),
-            answer: &mut answer,
-            out: &mut out,
-        };
-        answer_line(rt, &mut subject, &mut talk)?;
-        rt.stdout().write_all(answer.as_bytes())?;
+        let rest = line.as_str();
+        if let Some(rest) = rest.strip_prefix("! ") {
+            eprintln!(rt; "begin")?;
+            put_answer(&mut subject, Words { alloc, rest }, &mut answer)?;
+            eprintln!(rt; "end")?;
+        } else {
+            put_answer(&mut subject, Words { alloc, rest }, &mut answer)?;
+        }
+        rt.stdout().write_all(answer.text.as_bytes())?;
     }
     Ok(true)
 }
 
-/// Answers the commands of a subject. Whether there is one of this name.
 pub(crate) fn run(rt: &HostRuntime, name: &str) -> io::Result<bool> {
-    let alloc = rt.alloc();
     match name {
-        "belief" => serve(rt, Belief::<Present>::new()),
+        "belief" => serve(rt, Painter::new(Shadow::blank())),
         "codes" => serve(rt, codes::Codes),
         "commands" => serve(rt, commands::Commands),
         "host" => serve(rt, None::<Host>),
         "lines" => serve(rt, lines::Lines),
         "messages" => serve(rt, messages::Messages::new()),
-        "panel" => serve(rt, panel::Panels::new(alloc)),
+        "panel" => serve(rt, panel::Panels::new(rt.alloc())),
         "pool" => serve(rt, pool::Pools { pool: None }),
-        "reference-belief" => serve(rt, Belief::<ReferenceBelief>::new()),
-        "reference-screen" => serve(rt, ReferenceScreen::blank(Model::M2)),
-        "reports" => serve(rt, reports::Reports),
+        "reference-belief" => serve(rt, Painter::new(ReferenceBelief::Nothing)),
+        "reference-screen" => serve(rt, ReferenceScreen::blank()),
         "screen" => serve(rt, screen::Display::blank(Model::M2)),
-        "streams" => serve(rt, streams::Streams),
         "terminal" => serve(rt, None::<Terminal>),
-        "texts" => serve(rt, texts::Texts),
-        "wire" => serve(rt, wire::Wire::new(alloc)?),
+        "wire" => match Decoder::new(rt.alloc(), 0) {
+            Ok(decoder) => serve(rt, decoder),
+            Err(_) => Err(io::Error::from(AllocError)),
+        },
         "world" => serve(rt, None::<world::Worlds>),
         _ => Ok(false),
     }

@@ -1,134 +1,145 @@
-//! A line of standard input, as words, numbers and bytes, and the lines of its answer.
+//! The words of a line of standard input, and its answer.
+ghost use Rattle.std.specs.Prelude.{◌<◌, IfOk};
 ghost use Rattle.std.specs.Iterator.{IsFinite};
 
-use codes3270::Model;
+use codes3270::{Model, Size};
 use hex::FromHexError;
 use std::alloc::{AllocError, Global};
-use std::fmt::Debug;
+use std::fmt::{Debug, Display};
+use std::mem;
 use std::str::{self, FromStr};
 use thiserror::Error;
 
-/// Why a line isn't understood.
+pub(crate) const MODELS: [Model; 4] = [Model::M2, Model::M3, Model::M4, Model::M5];
+
 #[derive(Debug, Drop, Error)]
 pub(crate) enum Fault {
-    /// What the line lacks, or has too much.
-    #[error("needs {0}")]
-    Needs(&'static str),
+    /// The line is no command of the subject, with its words.
+    #[error("doesn't understand")]
+    Line,
     /// An allocation of the probe's own failed.
     #[error("no memory")]
     NoMemory(#[from(alloc)] AllocError),
 }
 
-const BYTES: &str = "bytes: pairs of hexadecimal digits, PAIRS*N, \"TEXT\", or - for none";
+pub(crate) type Done = Result<(), Fault>;
 
-/// The words of a line that weren't taken yet, its answer so far, and the vector that calls append to.
+/// Whether a call had the memory that it wanted.
+pub(crate) type Put = Result<(), AllocError>;
+
+/// The words of a line that weren't read yet.
 #[derive(Drop)]
-pub(crate) struct Talk<'a> {
+pub(crate) struct Words<'a> {
     pub(crate) alloc: Global,
     pub(crate) rest: &'a str,
-    pub(crate) answer: &'a mut String,
-    pub(crate) out: &'a mut Vec<u8>,
 }
 
-impl<'a> Talk<'a> {
-    /// Does a command on the vector: `vector ROOM BYTES` makes a new one with this room and these bytes, `appended` shows
-    /// what it has, and `capacity` its capacity. Whether it is one of these.
-    pub(crate) fn take_vector(&mut self) -> Result<bool, Fault> {
-        let line = self.rest;
-        match self.word()? {
-            "vector" => {
-                *self.out = Vec::with_capacity(self.alloc, self.number()?)?;
-                let bytes = self.all_bytes()?;
-                self.out.extend_from_slice(bytes.as_slice())?;
-            }
-            "appended" => put_named(self.answer, "appended", self.out.as_slice())?,
-            "capacity" => writeln!(self.answer, "{}", self.out.capacity())?,
-            _ => {
-                self.rest = line;
-                return Ok(false);
-            }
-        }
-        Ok(true)
-    }
-
-    /// The next word.
+impl<'a> Words<'a> {
     pub(crate) fn word(&mut self) -> Result<&'a str, Fault> {
         let (word, rest) = self.rest.split_once(' ').unwrap_or((self.rest, ""));
         self.rest = rest;
         if word.is_empty() {
-            return Err(Fault::Needs("a word"));
+            return Err(Fault::Line);
         }
         Ok(word)
     }
 
     /// The rest of the line, as it is.
     pub(crate) fn rest(&mut self) -> &'a str {
-        let rest = self.rest;
-        self.rest = "";
-        rest
+        mem::replace(&mut self.rest, "")
     }
 
-    /// Whether no word is left.
-    pub(crate) fn is_empty(&self) -> bool {
-        self.rest.is_empty()
+    pub(crate) fn named<T: Copy + Debug>(&mut self, values: &[T]) -> Result<T, Fault> {
+        named(self.alloc, values, self.word()?)
     }
 
-    /// Expects that no word is left.
-    pub(crate) fn end(&self) -> Result<(), Fault> {
-        if self.is_empty() {
-            return Ok(());
-        }
-        Err(Fault::Needs("no more words"))
-    }
-
-    /// The next word as a number in decimal, in the type's range.
+    /// The next word as a number in decimal, or as `true` or `false`.
     pub(crate) fn number<T: FromStr>(&mut self) -> Result<T, Fault>
     where
         T::Err: Drop,
     {
-        self.word()?
-            .parse::<T>()
-            .map_err(|_| Fault::Needs("a number in range"))
+        let number = self.word()?.parse::<T>();
+        number.map_err(|_| Fault::Line)
     }
 
-    /// The next word as a byte, two hexadecimal digits.
+    /// The next word as a number below a count.
+    pub(crate) fn index(&mut self, count: usize) -> Result<usize, Fault>
+        ensures { IfOk result (λ index. index < count) }
+    {
+        match self.number::<usize>()? {
+            index if index < count => Ok(index),
+            _ => Err(Fault::Line),
+        }
+    }
+
     pub(crate) fn byte(&mut self) -> Result<u8, Fault> {
         byte_of(self.word()?)
     }
 
-    /// The next word as the number of a model.
     pub(crate) fn model(&mut self) -> Result<Model, Fault> {
-        match self.word()? {
-            "2" => Ok(Model::M2),
-            "3" => Ok(Model::M3),
-            "4" => Ok(Model::M4),
-            "5" => Ok(Model::M5),
-            _ => Err(Fault::Needs("a model, 2 to 5")),
-        }
+        let place = self.number::<usize>()?.checked_sub(2);
+        let model = place.and_then(|it| MODELS.get(it));
+        model.copied().ok_or(Fault::Line)
     }
 
-    /// The bytes of the next word.
-    pub(crate) fn bytes(&mut self) -> Result<Vec<u8>, Fault> {
-        bytes_of(self.alloc, self.word()?)
+    pub(crate) fn size(&mut self) -> Result<Size, Fault> {
+        Ok(self.model()?.alternate())
     }
 
     /// The bytes of all words that are left, one after the other.
-    pub(crate) fn all_bytes(&mut self) -> Result<Vec<u8>, Fault> {
+    pub(crate) fn bytes(&mut self) -> Result<Vec<u8>, Fault> {
         let mut bytes = Vec::new(self.alloc);
         for word in self.rest().split_whitespace() {
             bytes.extend_from_slice(bytes_of(self.alloc, word)?.as_slice())?;
         }
         Ok(bytes)
     }
+}
+
+/// The lines of an answer, and the vector that calls append to.
+#[derive(Drop)]
+pub(crate) struct Answer {
+    pub(crate) text: String,
+    pub(crate) out: Vec<u8>,
+}
+
+impl Answer {
+    /// Does `vector ROOM BYTES`, `appended` or `capacity`, a command on the vector, if the line is one.
+    pub(crate) fn take_vector(&mut self, words: &mut Words<'_>) -> Result<bool, Fault> {
+        let line = words.rest;
+        match words.word()? {
+            "vector" => {
+                self.out = Vec::with_capacity(words.alloc, words.number()?)?;
+                self.out.extend_from_slice(words.bytes()?.as_slice())?;
+            }
+            "appended" => put_bytes(&mut self.text, "appended", self.out.as_slice())?,
+            "capacity" => writeln!(self.text, "{}", self.out.capacity())?,
+            _ => words.rest = line,
+        }
+        Ok(words.rest != line)
+    }
 
     /// Puts a line: a name, and bytes in hexadecimal, `-` for none.
-    pub(crate) fn name(&mut self, name: &str, bytes: &[u8]) -> Result<(), AllocError> {
-        put_named(self.answer, name, bytes)
+    pub(crate) fn name(&mut self, name: &str, bytes: &[u8]) -> Done {
+        Ok(put_bytes(&mut self.text, name, bytes)?)
     }
 
     /// Puts a line: a value by `{:?}`.
-    pub(crate) fn line<T: Debug>(&mut self, value: &T) -> Result<(), AllocError> {
-        writeln!(self.answer, "{value:?}")
+    pub(crate) fn line<T: Debug>(&mut self, value: &T) -> Done {
+        Ok(writeln!(self.text, "{value:?}")?)
+    }
+
+    /// Puts a line: a value as it is printed.
+    pub(crate) fn said<T: Display>(&mut self, value: &T) -> Done {
+        Ok(writeln!(self.text, "{value}")?)
+    }
+
+    /// Puts a line: what a call answers by `{:?}`, or its fault as it is printed.
+    pub(crate) fn called<T: Debug, F: Display>(&mut self, called: &Result<T, F>) -> Done {
+        match called {
+            Ok(value) => self.line(value),
+            Err(fault) => self.said(fault),
+        }
     }
 
     /// Puts a line: a name, and each item by `{:?}`.
@@ -136,89 +147,71 @@ impl<'a> Talk<'a> {
         &mut self,
         name: &str,
         items: I,
-    ) -> Result<(), AllocError>
+    ) -> Done
         requires can { I.can_next items }
         requires ends { IsFinite (I.remaining items) }
     {
-        self.answer.push_str(name)?;
+        self.text.push_str(name)?;
         for item in items {
-            write!(self.answer, " {item:?}")?;
+            write!(self.text, " {item:?}")?;
         }
-        self.answer.push('\n')
+        Ok(self.text.push('\n')?)
     }
 
-    /// Puts whether a call had the memory that it wanted.
-    pub(crate) fn done(&mut self, called: Result<(), AllocError>) -> Result<(), AllocError> {
-        self.answer
-            .push_str(if called.is_ok() { "done\n" } else { "memory\n" })
+    pub(crate) fn done(&mut self, called: Put) -> Done {
+        let done = if called.is_ok() { "done\n" } else { "memory\n" };
+        Ok(self.text.push_str(done)?)
     }
 
-    /// Puts that there is nothing to show.
-    pub(crate) fn none(&mut self) -> Result<(), AllocError> {
-        self.answer.push_str("none\n")
-    }
-
-    /// Puts the lines of a text, each behind `|`.
-    pub(crate) fn text(&mut self, text: &str) -> Result<(), AllocError> {
-        for line in text.lines() {
-            writeln!(self.answer, "|{line}")?;
+    /// Puts the lines of a text, each after `|`, if there was memory for it.
+    pub(crate) fn page(&mut self, page: Result<String, AllocError>) -> Done {
+        match page {
+            Ok(text) => Ok(for line in text.lines() {
+                writeln!(self.text, "|{line}")?;
+            }),
+            Err(fault) => self.done(Err(fault)),
         }
-        Ok(())
     }
 }
 
 /// Puts bytes in hexadecimal, `-` for none.
-pub(crate) fn put_hex(answer: &mut String, bytes: &[u8]) -> Result<(), AllocError> {
-    if bytes.is_empty() {
-        return answer.push('-');
-    }
+pub(crate) fn put_hex(answer: &mut String, bytes: &[u8]) -> Put {
+    answer.push_str(if bytes.is_empty() { "-" } else { "" })?;
     for byte in bytes {
         write!(answer, "{byte:02X}")?;
     }
     Ok(())
 }
 
-/// Puts a line: a name and bytes.
-pub(crate) fn put_named(answer: &mut String, name: &str, bytes: &[u8]) -> Result<(), AllocError> {
+fn put_bytes(answer: &mut String, name: &str, bytes: &[u8]) -> Put {
     write!(answer, "{name} ")?;
     put_hex(answer, bytes)?;
     answer.push('\n')
 }
 
-/// A byte of two hexadecimal digits.
+/// The value that is printed so by `{:?}`, in any case.
+pub(crate) fn named<T: Copy + Debug>(alloc: Global, values: &[T], name: &str) -> Result<T, Fault> {
+    for value in values {
+        if format!(in alloc; "{value:?}")?.eq_ignore_ascii_case(name) {
+            return Ok(*value);
+        }
+    }
+    Err(Fault::Line)
+}
+
 pub(crate) fn byte_of(digits: &str) -> Result<u8, Fault> {
-    u8::from_str_radix(digits, 16).map_err(|_| Fault::Needs("two hexadecimal digits"))
+    u8::from_str_radix(digits, 16).map_err(|_| Fault::Line)
 }
 
-/// The text that bytes spell in UTF-8.
 pub(crate) fn text_of(bytes: &[u8]) -> Result<&str, Fault> {
-    str::from_utf8(bytes).map_err(|_| Fault::Needs("bytes of UTF-8"))
+    str::from_utf8(bytes).map_err(|_| Fault::Line)
 }
 
-/// The bytes that a word says.
+/// The bytes that a word says: pairs of hexadecimal digits, or `-` for none.
 pub(crate) fn bytes_of(alloc: Global, word: &str) -> Result<Vec<u8>, Fault> {
-    let mut bytes = Vec::new(alloc);
-    if word == "-" {
-        return Ok(bytes);
+    match hex::decode(alloc, if word == "-" { "" } else { word }) {
+        Ok(bytes) => Ok(bytes),
+        Err(FromHexError::OutOfMemory) => Err(Fault::NoMemory(AllocError)),
+        Err(_) => Err(Fault::Line),
     }
-    if let Some(text) = word
-        .strip_prefix('"')
-        .and_then(|text| text.strip_suffix('"'))
-    {
-        bytes.extend_from_slice(text.as_bytes())?;
-        return Ok(bytes);
-    }
-    let (pairs, times) = word.split_once('*').unwrap_or((word, "1"));
-    let Ok(times) = times.parse::<u32>() else {
-        return Err(Fault::Needs(BYTES));
-    };
-    let some = match hex::decode(alloc, pairs) {
-        Ok(some) => some,
-        Err(FromHexError::OutOfMemory) => return Err(Fault::NoMemory(AllocError)),
-        Err(_) => return Err(Fault::Needs(BYTES)),
-    };
-    for _ in 0..times {
-        bytes.extend_from_slice(some.as_slice())?;
-    }
-    Ok(bytes)
 }

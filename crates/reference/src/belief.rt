@@ -1,10 +1,10 @@
 //! What is believed of a screen.
-use crate::fields::{Cells, Chars, Fields, Known, fields_of, laid_out, push_chars};
+use crate::fields::{Cells, Chars, Fields, Known, fields_of, laid_out, mdt_state, push_chars};
 use crate::hearing::{after_attention, any_other, heard_fields};
 use crate::painting::{fits_fields, put_cells, wants_of};
-use crate::{AnyBelief, put_cell};
+use crate::put_cell;
 use arrayvec::ArrayVec;
-use codes3270::{Aid, CELL_COUNT, Cell, Model, Size, Wcc};
+use codes3270::{Aid, CELL_COUNT, Cell, Size, Wcc};
 use datastream::{
     Command, CommandCode, CommandFault, CommandWriter, Form, Inbound, InboundFault, Memory, Order,
     Orders, Want, Wanted, read_command, read_inbound,
@@ -26,8 +26,7 @@ pub enum ReferenceBelief {
 /// A cell that was just stored, or read.
 fn stored_cell(cell: Cell) -> Known {
     match cell {
-        Cell::Attr(attr) if attr.mdt => Known::Attr(attr.with_mdt(false), MdtState::On),
-        Cell::Attr(attr) => Known::Attr(attr, MdtState::Off),
+        Cell::Attr(attr) => Known::Attr(attr.with_mdt(false), mdt_state(attr.mdt)),
         Cell::Char(char) => Known::Char(Some(char), true),
     }
 }
@@ -181,14 +180,9 @@ impl ReferenceBelief {
             ReferenceBelief::Formatted(fields) => laid_out(fields),
         }
     }
-}
 
-impl AnyBelief for ReferenceBelief {
-    fn blank() -> ReferenceBelief {
-        ReferenceBelief::Nothing
-    }
-
-    fn take(&mut self, _model: Model, bytes: &[u8]) -> Result<bool, CommandFault> {
+    /// Takes in a write that a terminal carried out, if the bytes are one. Whether it is plain.
+    pub fn take(&mut self, bytes: &[u8]) -> Result<bool, CommandFault> {
         let command = read_command(bytes, Size::base(), Size::base())?;
         let is_taken = plain(&command);
         if is_taken {
@@ -197,7 +191,8 @@ impl AnyBelief for ReferenceBelief {
         Ok(is_taken)
     }
 
-    fn hear(&mut self, form: Form, bytes: &[u8]) -> Result<Option<HeardFault>, InboundFault> {
+    /// Takes in what a terminal sent, or answers why it can't be.
+    pub fn hear(&mut self, form: Form, bytes: &[u8]) -> Result<Option<HeardFault>, InboundFault> {
         match self.heard(&read_inbound(bytes, form, Size::base())?) {
             Ok(next) => {
                 *self = next;
@@ -207,7 +202,8 @@ impl AnyBelief for ReferenceBelief {
         }
     }
 
-    fn put(&self, answer: &mut String) -> Result<(), AllocError> {
+    /// Puts the cells as far as they are known, and a line for each field.
+    pub fn put(&self, answer: &mut String) -> Result<(), AllocError> {
         answer.push_str("belief ")?;
         for cell in self.laid_out().as_slice() {
             let known = match *cell {
@@ -217,13 +213,21 @@ impl AnyBelief for ReferenceBelief {
             put_cell(answer, known)?;
         }
         answer.push('\n')?;
-        match self {
-            ReferenceBelief::Formatted(fields) => put_fields(answer, fields),
-            _ => Ok(()),
+        let ReferenceBelief::Formatted(fields) = self else {
+            return Ok(());
+        };
+        for head in fields.heads() {
+            write!(answer, "field {} {:?} ", head.place, head.fact)?;
+            for code in fields.lent(*head).text {
+                write!(answer, "{code:02X}")?;
+            }
+            answer.push('\n')?;
         }
+        Ok(())
     }
 
-    fn fits(&self, wanted: &Wanted) -> bool {
+    /// Whether Keep is only where it may be.
+    pub fn fits(&self, wanted: &Wanted) -> bool {
         let wants = wants_of(wanted);
         match self {
             ReferenceBelief::Formatted(fields) => fits_fields(fields, &wants),
@@ -231,10 +235,15 @@ impl AnyBelief for ReferenceBelief {
         }
     }
 
-    fn paint(&self, out: &mut Vec<u8>, wanted: &Wanted) -> Option<Result<(), Memory>> {
+    /// Appends what paints a wanted screen, if it fits or keeps nothing.
+    pub fn paint(&self, out: &mut Vec<u8>, wanted: &Wanted) -> Option<Result<(), Memory>> {
         if wanted.cells().any(|want| want == Want::Keep) && !self.fits(wanted) {
             return None;
         }
+        Some(self.put_paint(out, wanted))
+    }
+
+    fn put_paint(&self, out: &mut Vec<u8>, wanted: &Wanted) -> Result<(), Memory> {
         let (code, mut cells) = match self {
             ReferenceBelief::Formatted(fields) => (CommandCode::Write, laid_out(fields)),
             _ => (
@@ -242,36 +251,11 @@ impl AnyBelief for ReferenceBelief {
                 unformatted(nulls_known().as_slice()),
             ),
         };
+        let wcc = Wcc::from_byte(if wanted.reset() { 0x03 } else { 0x02 });
+        CommandWriter::new(out).begin(code, wcc)?;
         if wanted.reset() {
             marks_off(cells.as_mut_slice());
         }
-        Some(put_paint(out, code, wanted, cells.as_slice()))
+        put_cells(out, &wants_of(wanted), wanted.cursor(), cells.as_slice())
     }
-}
-
-fn put_paint(
-    out: &mut Vec<u8>,
-    code: CommandCode,
-    wanted: &Wanted,
-    known: &[Known],
-) -> Result<(), Memory> {
-    let wcc = Wcc {
-        alarm: false,
-        restore: true,
-        reset: wanted.reset(),
-    };
-    CommandWriter::new(out).begin(code, wcc)?;
-    put_cells(out, &wants_of(wanted), wanted.cursor(), known)
-}
-
-/// Puts the fact and the text of each field.
-fn put_fields(answer: &mut String, fields: &Fields) -> Result<(), AllocError> {
-    for head in fields.heads() {
-        write!(answer, "field {} {:?} ", head.place, head.fact)?;
-        for code in fields.lent(*head).text {
-            write!(answer, "{code:02X}")?;
-        }
-        answer.push('\n')?;
-    }
-    Ok(())
 }

@@ -1,6 +1,6 @@
 //! The list of fields that a belief is, the cells that it is laid out to, and the fields that cells make.
 use arrayvec::ArrayVec;
-use codes3270::{Attr, CELL_COUNT, Display};
+use codes3270::{Attr, CELL_COUNT};
 use shadow::{Fact, MdtState};
 
 /// What is known of a cell.
@@ -10,6 +10,11 @@ pub(crate) enum Known {
     Attr(Attr, MdtState),
     /// A character, if it is known, and whether the write at hand stored it.
     Char(Option<u8>, bool),
+}
+
+/// What is known of a modified data tag that is on, or off.
+pub(crate) const fn mdt_state(is_on: bool) -> MdtState {
+    if is_on { MdtState::On } else { MdtState::Off }
 }
 
 impl Default for Known {
@@ -47,13 +52,7 @@ impl Head {
 
 impl Default for Head {
     fn default() -> Head {
-        let attr = Attr {
-            protected: false,
-            numeric: false,
-            display: Display::Normal,
-            mdt: false,
-        };
-        Head::new(0, attr, MdtState::Unknown, 0)
+        Head::new(0, Attr::from_code(0x40), MdtState::Unknown, 0)
     }
 }
 
@@ -118,11 +117,9 @@ impl Fields {
 
     /// Adds a field, of whose characters that is known. There is room for as many as a screen has cells.
     pub(crate) fn push(&mut self, head: Head, lent: Lent<'_>) {
-        let is_partly = lent.fact == Fact::Any;
-        let start = if is_partly {
-            self.chars.len()
-        } else {
-            self.texts.len()
+        let start = match lent.fact {
+            Fact::Any => self.chars.len(),
+            _ => self.texts.len(),
         };
         let _chars = self.chars.try_extend_from_slice(lent.chars);
         let _texts = self.texts.try_extend_from_slice(lent.text);
@@ -173,11 +170,11 @@ pub(crate) fn laid_out(fields: &Fields) -> Cells {
     for head in fields.heads() {
         push_cells(&mut cells, fields, *head);
     }
-    let first = match fields.heads().first() {
-        Some(head) => head.place.min(cells.len()),
-        None => 0,
-    };
-    cells.as_mut_slice().rotate_right(first);
+    let count = cells.len();
+    let first = fields.heads().first();
+    cells
+        .as_mut_slice()
+        .rotate_right(first.map_or(0, |head| head.place.min(count)));
     cells
 }
 
@@ -207,13 +204,6 @@ fn gather(gathered: &mut Gathered, behind: &[Known], whole: &[Known]) {
     }
 }
 
-/// What was known of the field that had this address and length.
-fn lent_before<'a>(before: &'a Fields, place: usize, length: usize) -> Option<Lent<'a>> {
-    let mut heads = before.heads().iter();
-    let head = heads.find(|head| head.place == place && head.length == length)?;
-    Some(before.lent(*head))
-}
-
 /// What is known of the field that was gathered, if it doesn't keep what was known.
 fn lent_now(gathered: &Gathered) -> Lent<'_> {
     if gathered.text.len() == gathered.chars.len() {
@@ -226,12 +216,11 @@ fn lent_now(gathered: &Gathered) -> Lent<'_> {
 /// Adds the field that was gathered. It keeps its fact, where none of its characters was just stored.
 fn push_field(after: &mut Fields, gathered: &Gathered, before: &Fields, head: Head) {
     let length = gathered.chars.len();
-    let kept = if gathered.fresh {
-        None
-    } else {
-        lent_before(before, head.place, length)
+    let mut heads = before.heads().iter();
+    let lent = match heads.find(|old| old.place == head.place && old.length == length) {
+        Some(old) if !gathered.fresh => before.lent(*old),
+        _ => lent_now(gathered),
     };
-    let lent = kept.unwrap_or(lent_now(gathered));
     after.push(Head { length, ..head }, lent);
 }
 
@@ -247,12 +236,8 @@ pub(crate) fn fields_of(fields: &Fields, cells: &[Known]) -> Fields {
         if let Known::Attr(attr, mark) = *cell {
             let behind = cells.get(place.saturating_add(1)..).unwrap_or(&[]);
             gather(&mut gathered, behind, cells);
-            push_field(
-                &mut after,
-                &gathered,
-                fields,
-                Head::new(place, attr, mark, 0),
-            );
+            let head = Head::new(place, attr, mark, 0);
+            push_field(&mut after, &gathered, fields, head);
         }
     }
     after

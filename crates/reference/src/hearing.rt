@@ -1,5 +1,5 @@
 //! The fields of a belief after what a terminal sent.
-use crate::fields::{Fields, Head, Lent};
+use crate::fields::{Fields, Head, Lent, mdt_state};
 use arrayvec::ArrayVec;
 use codes3270::{CELL_COUNT, attr_code};
 use datastream::{Inbound, ReturnedFields};
@@ -28,46 +28,25 @@ fn first_address(place: usize) -> usize {
 fn any_nowhere(fields: &Fields, returned: ReturnedFields<'_>) -> bool {
     for field in returned {
         let first = usize::from(field.first.get());
-        if !fields
-            .heads()
-            .iter()
-            .any(|head| first_address(head.place) == first)
-        {
+        let mut heads = fields.heads().iter();
+        if !heads.any(|head| first_address(head.place) == first) {
             return true;
         }
     }
     false
 }
 
-/// A returned field: the address of its first cell, and its text.
-#[derive(Clone, Copy)]
-struct Came<'a> {
-    first: usize,
-    text: &'a [u8],
-}
-
-/// The first of the fields that are left.
-fn next_of<'a>(rest: &mut ReturnedFields<'a>) -> Option<Came<'a>> {
-    match rest.next() {
-        Some(field) => Some(Came {
-            first: usize::from(field.first.get()),
-            text: field.text,
-        }),
-        None => None,
-    }
-}
-
 /// Each field's text; None if the returned fields are out of order, or one is there twice.
 fn texts_of<'a>(fields: &Fields, returned: ReturnedFields<'a>) -> Option<Texts<'a>> {
     let mut rest = returned;
-    let mut next = next_of(&mut rest);
+    let mut next = rest.next();
     let mut texts = ArrayVec::new();
     for head in fields.heads() {
         let mut found = None;
-        match next {
-            Some(came) if came.first == first_address(head.place) => {
+        match &next {
+            Some(came) if usize::from(came.first.get()) == first_address(head.place) => {
                 found = Some(came.text);
-                next = next_of(&mut rest);
+                next = rest.next();
             }
             _ => {}
         }
@@ -142,11 +121,7 @@ fn after_long(fields: &Fields, texts: &Texts<'_>) -> Fields {
     let erased = any_erased(fields, texts);
     let mut after = Fields::new();
     for (head, text) in fields.heads().iter().zip(texts.as_slice()) {
-        let mark = if text.is_some() {
-            MdtState::On
-        } else {
-            MdtState::Off
-        };
+        let mark = mdt_state(text.is_some());
         let lent = lent_after(*head, fields.lent(*head), erased, *text);
         after.push(Head { mark, ..*head }, lent);
     }
@@ -163,12 +138,10 @@ pub(crate) fn after_attention(fields: &Fields) -> Fields {
         }
         let mark = MdtState::Unknown;
         // Of no characters all is known.
-        let lent = if head.length == 0 {
-            null(0)
-        } else {
-            unknown(head.length)
-        };
-        after.push(Head { mark, ..*head }, lent);
+        match head.length {
+            0 => after.push(Head { mark, ..*head }, null(0)),
+            length => after.push(Head { mark, ..*head }, unknown(length)),
+        }
     }
     after
 }
@@ -192,12 +165,9 @@ fn denies_read(length: usize, lent: Lent<'_>, read: Lent<'_>) -> bool {
     match lent.fact {
         Fact::Exact => lent.text != read.text,
         Fact::Any => {
+            let mut both = lent.chars.iter().zip(read.text);
             lent.chars.len() != read.text.len()
-                || lent
-                    .chars
-                    .iter()
-                    .zip(read.text)
-                    .any(|(known, char)| known.is_some_and(|known| known != *char))
+                || both.any(|(known, char)| known.is_some_and(|known| known != *char))
         }
         _ => length != read.text.len(),
     }

@@ -1,9 +1,8 @@
 //! The bytes of a paint, and whether what is to be kept is believed to be there.
 use crate::at;
-use crate::fields::{Fields, Known};
+use crate::fields::{Fields, Known, mdt_state};
 use codes3270::{Addr, Attr, CELL_COUNT, CELLS, Cell, attr_code, storable};
 use datastream::{CommandWriter, Memory, Want, Wanted};
-use shadow::MdtState;
 
 /// What is wanted of each cell of a screen of 24 by 80.
 pub(crate) fn wants_of(wanted: &Wanted) -> [Want; CELL_COUNT] {
@@ -14,10 +13,6 @@ pub(crate) fn wants_of(wanted: &Wanted) -> [Want; CELL_COUNT] {
     wants
 }
 
-fn is_attribute(want: &Want) -> bool {
-    matches!(want, Want::Attr(_))
-}
-
 /// Whether there is a Keep before the first attribute, in these and then in all wants.
 fn keeps_round(behind: &[Want], whole: &[Want]) -> bool {
     let ends = |want: &&Want| !matches!(want, Want::Char(_));
@@ -26,10 +21,8 @@ fn keeps_round(behind: &[Want], whole: &[Want]) -> bool {
 
 /// The number of cells before the first attribute, in these and then in all wants.
 fn count_round(behind: &[Want], whole: &[Want]) -> usize {
-    behind
-        .iter()
-        .chain(whole)
-        .take_while(|want| !is_attribute(want))
+    let all = behind.iter().chain(whole);
+    all.take_while(|want| !matches!(want, Want::Attr(_)))
         .count()
 }
 
@@ -66,12 +59,7 @@ pub(crate) fn fits_fields(fields: &Fields, wants: &[Want]) -> bool {
 fn is_there(known: Known, cell: Cell) -> bool {
     match (known, cell) {
         (Known::Attr(believed, mark), Cell::Attr(attr)) => {
-            let wanted = if attr.mdt {
-                MdtState::On
-            } else {
-                MdtState::Off
-            };
-            same_attr(believed, attr) && mark == wanted
+            same_attr(believed, attr) && mark == mdt_state(attr.mdt)
         }
         (Known::Char(char, _), Cell::Char(byte)) => char == Some(byte),
         _ => false,

@@ -1,7 +1,7 @@
 //! A screen as the list of its cells, which is searched for attributes.
-use crate::{AnyScreen, Look, Shown, at};
+use crate::at;
 use codes3270::{
-    Aid, Attr, CELL_COUNT, CELLS, Cell, Display, Model, Size, Wcc, addr_to_bytes, aid_byte,
+    Addr, Aid, Attr, CELL_COUNT, CELLS, Cell, Display, Size, Wcc, addr_to_bytes, aid_byte,
     attr_code, storable, to_latin1,
 };
 use datastream::{
@@ -15,10 +15,8 @@ fn next_of(place: u16) -> u16 {
 }
 
 fn cell_at(cells: &[Cell], place: u16) -> Cell {
-    cells
-        .get(usize::from(place))
-        .copied()
-        .unwrap_or(Cell::Char(0))
+    let cell = cells.get(usize::from(place));
+    cell.copied().unwrap_or(Cell::Char(0))
 }
 
 fn put(cells: &mut [Cell], place: u16, cell: Cell) {
@@ -35,11 +33,6 @@ fn cells_from(cells: &[Cell], place: u16) -> &[Cell] {
 /// The cells before a place.
 fn cells_before(cells: &[Cell], place: u16) -> &[Cell] {
     cells.get(..usize::from(place)).unwrap_or(&[])
-}
-
-/// How many characters come before the first attribute.
-fn count_characters(cells: &[Cell]) -> usize {
-    cells.iter().take_while(|cell| cell.is_character()).count()
 }
 
 /// The distance from one address up to another, round the end; all cells if they are equal.
@@ -111,11 +104,8 @@ fn home_of(cells: &[Cell]) -> u16 {
 /// The field whose attribute is at an address.
 fn field_of(cells: &[Cell], attr: u16) -> Field {
     let back = cells_from(cells, attr.saturating_add(1));
-    let count = back
-        .iter()
-        .chain(cells)
-        .take_while(|cell| cell.is_character())
-        .count();
+    let all = back.iter().chain(cells);
+    let count = all.take_while(|cell| cell.is_character()).count();
     Field {
         attr: at(attr),
         length: u16::try_from(count).unwrap_or(CELLS),
@@ -130,8 +120,8 @@ const fn asked(restore: bool, alarm: bool) -> Applied {
 #[derive(Drop)]
 pub struct ReferenceScreen {
     cells: [Cell; CELL_COUNT],
-    cursor: u16,
-    aid: Aid,
+    pub cursor: u16,
+    pub aid: Aid,
 }
 
 /// Where a write is, and whether a PT nulls that comes next.
@@ -149,8 +139,9 @@ const fn moved_to(place: u16) -> Pen {
     }
 }
 
-impl AnyScreen for ReferenceScreen {
-    fn blank(_model: Model) -> ReferenceScreen {
+impl ReferenceScreen {
+    /// A screen of nulls.
+    pub fn blank() -> ReferenceScreen {
         ReferenceScreen {
             cells: [Cell::Char(0); CELL_COUNT],
             cursor: 0,
@@ -158,7 +149,8 @@ impl AnyScreen for ReferenceScreen {
         }
     }
 
-    fn apply(&mut self, bytes: &[u8]) -> Result<Applied, CommandFault> {
+    /// Executes a command, if the bytes are one.
+    pub fn apply(&mut self, bytes: &[u8]) -> Result<Applied, CommandFault> {
         let command = read_command(bytes, Size::base(), Size::base())?;
         match command.code() {
             CommandCode::Write => {}
@@ -176,7 +168,8 @@ impl AnyScreen for ReferenceScreen {
         })
     }
 
-    fn store(&mut self, first: u16, chars: &[u8]) {
+    /// Stores characters from an address on, as far as the cells have characters, and sets MDT in the first one's field.
+    pub fn store(&mut self, first: u16, chars: &[u8]) {
         let mut place = first;
         for char in chars {
             if storable(*char) && cell_at(&self.cells, place).is_character() {
@@ -191,20 +184,14 @@ impl AnyScreen for ReferenceScreen {
         }
     }
 
-    fn set_cursor(&mut self, place: u16) {
-        self.cursor = place;
-    }
-
-    fn set_aid(&mut self, aid: Aid) {
-        self.aid = aid;
-    }
-
-    fn clear(&mut self) {
+    /// The Clear key.
+    pub fn clear(&mut self) {
         fill(&mut self.cells, 0, CELLS, Cell::Char(0));
         self.cursor = 0;
     }
 
-    fn erase_unprotected(&mut self) {
+    /// The Erase Input key.
+    pub fn erase_unprotected(&mut self) {
         self.cursor = home_of(&self.cells);
         erase_unprotected_in(&mut self.cells, 0, CELLS);
         for cell in self.cells.iter_mut() {
@@ -214,30 +201,25 @@ impl AnyScreen for ReferenceScreen {
         }
     }
 
-    fn shown(&self) -> Shown {
-        Shown {
-            size: Size::base(),
-            cursor: at(self.cursor),
-            home: at(home_of(&self.cells)),
-            aid: self.aid,
-        }
+    /// Size, cursor, where Home goes, and AID.
+    pub fn shown(&self) -> (Size, Addr, Addr, Aid) {
+        let home = at(home_of(&self.cells));
+        (Size::base(), at(self.cursor), home, self.aid)
     }
 
-    fn look(&self, place: u16) -> Look {
+    /// A cell, its field, the attribute that governs it, and the number of the character that is displayed.
+    pub fn look(&self, place: u16) -> (Cell, Option<Field>, Option<Attr>, u32) {
         let cell = cell_at(&self.cells, place);
         let attr = attribute_place(&self.cells, place);
         let over = attr.and_then(|attr| cell_at(&self.cells, attr).attribute());
         let is_hidden = over.is_some_and(|attr| attr.display == Display::Hidden);
         let glyph = if is_hidden { ' ' } else { glyph_of(cell) };
-        Look {
-            cell,
-            field: attr.map(|attr| field_of(&self.cells, attr)),
-            over,
-            glyph: glyph.into(),
-        }
+        let field = attr.map(|attr| field_of(&self.cells, attr));
+        (cell, field, over, glyph.into())
     }
 
-    fn put_read(&self, out: &mut Vec<u8>, form: Form) -> Result<(), Memory> {
+    /// Appends what a read is answered.
+    pub fn put_read(&self, out: &mut Vec<u8>, form: Form) -> Result<(), Memory> {
         out.push(aid_byte(self.aid))?;
         if form == Form::Modified && self.aid.is_short() {
             return Ok(());
@@ -251,9 +233,7 @@ impl AnyScreen for ReferenceScreen {
             put_modified_fields(out, &self.cells)
         }
     }
-}
 
-impl ReferenceScreen {
     fn write(&mut self, wcc: Wcc, orders: Orders<'_>) -> Applied {
         if wcc.reset {
             self.reset_mdt();
@@ -313,17 +293,14 @@ impl ReferenceScreen {
     /// Behind the next attribute of an unprotected field, else to the first cell.
     fn tab(&mut self, pen: Pen) -> Pen {
         let ahead = cells_from(&self.cells, pen.place);
-        let stop = match ahead
-            .iter()
-            .position(|cell| cell.is_unprotected_attribute())
-        {
-            Some(distance) => usize::from(pen.place)
-                .saturating_add(distance)
-                .wrapping_add(1),
+        let (place, mut cells) = (usize::from(pen.place), ahead.iter());
+        let stop = match cells.position(|cell| cell.is_unprotected_attribute()) {
+            Some(distance) => place.saturating_add(distance).wrapping_add(1),
             None => 0,
         };
         let to_end = ahead.iter().all(|cell| cell.is_character());
-        let count = u16::try_from(count_characters(ahead)).unwrap_or(CELLS);
+        let characters = ahead.iter().take_while(|cell| cell.is_character());
+        let count = u16::try_from(characters.count()).unwrap_or(CELLS);
         if pen.nulls {
             fill(&mut self.cells, pen.place, count, Cell::Char(0));
         }
@@ -358,10 +335,8 @@ fn put_text(out: &mut Vec<u8>, cells: &[Cell], others: &[Cell]) -> Result<(), Me
 /// SBA, the first address and the text of each field with MDT, round the end.
 fn put_modified_fields(out: &mut Vec<u8>, cells: &[Cell]) -> Result<(), Memory> {
     for place in 0..CELLS {
-        if cell_at(cells, place)
-            .attribute()
-            .is_some_and(|attr| attr.mdt)
-        {
+        let attr = cell_at(cells, place).attribute();
+        if attr.is_some_and(|attr| attr.mdt) {
             let [high, low] = addr_to_bytes(at(next_of(place)));
             out.extend_from_slice(&[SET_BUFFER_ADDRESS, high, low])?;
             let behind = cells_from(cells, place.saturating_add(1));

@@ -111,7 +111,7 @@ impl LoopbackRun {
         let Ok(mut socket) = TcpStream::connect(net, address) else {
             return Err(Fault::SocketFailed);
         };
-        // As in `Server::admit`: if one of these calls fails, the socket is used anyway.
+        // As where the server accepts: if one of these calls fails, the socket is used anyway.
         let _ = socket.set_nodelay(true);
         let _ = self
             .server

@@ -1,1 +1,5 @@
+pub mod Reports
+pub mod Turns
+pub mod Visits
+pub mod Admitting
 pub mod ServiceTurns

@@ -1,2 +1,9 @@
 pub mod Uptimes
+pub mod ConnectionInfos
+pub mod Watching
+pub mod Visits
+pub mod Accepting
+pub mod NumberTurns
+pub mod TimeTurns
+pub mod ServerTurns
 pub mod ServiceTurns

@@ -1,5 +1,6 @@
 //! The log of a server.
-use crate::server::{Server, Watcher};
+use crate::server::Server;
+use crate::watcher::Watcher;
 use applications::{ApplicationFault, Replaced};
 use host_core::Host;
 use jiff::Timestamp;
@@ -43,6 +44,10 @@ impl<C: Clock, E: Sink> Log<'_, C, E> {
 }
 
 impl<C: Clock, E: Sink> Watcher for Log<'_, C, E> {
+    ghost noticed = { λ _ _ _ _. Unit {0} };
+
+    ghost showed = { λ _ _ _ _ _. Unit {0} };
+
     fn notice(&mut self, notice: &Notice) -> Result<(), Fault> {
         if self.quiet {
             return Ok(());

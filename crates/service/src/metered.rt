@@ -3,7 +3,8 @@ ghost use Rattle.std.specs.Prelude.{◌<◌};
 ghost use Rattle.host_core.specs.State.{most_connections};
 
 use crate::metrics_port::MetricsPort;
-use crate::server::{Server, Watcher};
+use crate::server::Server;
+use crate::watcher::Watcher;
 use applications::{ApplicationFault, Replaced};
 use host_core::{Host, MOST_CONNECTIONS, ScreenMeasure};
 use job_streams::Fault;
@@ -57,6 +58,13 @@ impl<'a, W: Watcher> Metered<'a, W> {
 }
 
 impl<W: Watcher> Watcher for Metered<'_, W> {
+    ghost use Rattle.std.specs.Prelude.{◌≡◌};
+    ghost use Rattle.service_events.specs.Metrics.{counted};
+
+    ghost noticed = { λ old notice answer new. W.noticed old.watcher.now notice answer new.watcher.now × (new.metrics ≡ counted notice old.metrics) };
+
+    ghost showed = { λ old host conn answer new. W.showed old.watcher.now host conn answer new.watcher.now };
+
     fn notice(&mut self, notice: &Notice) -> Result<(), Fault> {
         self.metrics.count(notice);
         self.watcher.notice(notice)

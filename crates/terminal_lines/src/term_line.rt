@@ -5,7 +5,7 @@ ghost use Rattle.terminal_lines.specs.TermLines.{command_of_verb, command_of_tex
 use keyboard::Key;
 
 /// A command to a terminal's operator.
-#[derive(Clone, Copy)]
+#[derive(Clone, Copy, Debug)]
 pub enum TerminalCommand {
     /// An empty line: nothing happens.
     Nothing,

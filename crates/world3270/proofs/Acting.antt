@@ -31,6 +31,7 @@ use Rattle.host_core.specs.Session.{Conn, Pending, is_agreed, model_in}
 use Rattle.host_core.specs.Questions.{act_by, answered_on, has_its_panel, has_value_of, is_ask, is_asking, values_for}
 use Rattle.host_core.specs.declared.question.Answer.{Answer as Said}
 use Rattle.std.specs.Prelude.{◌&&◌, not}
+use Rattle.std.specs.Option.{option_and_then, option_map_or}
 use Rattle.world3270.specs.Given.{Given}
 use Rattle.world3270.specs.Link.{Link, sent, host_sent}
 use Rattle.world3270.specs.Moments.{UnderWay, Talking, Serving, Moment, IsAgreed, IsAt, IsHostTalk, IsTermTalk, turn_at, pending_at, down_at, up_at}
@@ -47,6 +48,23 @@ use Rattle.world3270.proofs.TalkStates.{agreed_there}
 -- the connection once the host sent this
 abbrev pub sent_view : Sending → Link → Link
 sent_view sending link = host_sent (Some sending) link
+
+-- it may act in its turn alone, once its last command is answered and both ends agree
+pub may_act_when : (turn : Turn) (pending : Pending) (agreed : Bool) → may_act turn pending agreed ≡ true → (turn ≡ whose.Host) × (pending ≡ Pending.Nothing) × (agreed ≡ true)
+may_act_when whose.Host Pending.Nothing agreed may = (refl, refl, may)
+may_act_when whose.Host (Pending.Writing number command) agreed may = absurd (cc)
+may_act_when whose.Host (Pending.Reading number) agreed may = absurd (cc)
+may_act_when whose.Host (Pending.Noting number command) agreed may = absurd (cc)
+may_act_when whose.Terminal pending agreed may = absurd (cc)
+
+-- and if a question is open it may, and decides to ask
+pub asking_parts : (app : Application) (conn : Conn) → is_asking app conn ≡ true
+    → (may_act conn.turn conn.pending (is_agreed conn.talk.state) ≡ true) × (is_ask (decision_on app conn conn.turn_reason) ≡ true)
+asking_parts app conn = by_may (may_act conn.turn conn.pending (is_agreed conn.talk.state)) (decision_on app conn conn.turn_reason)
+  where
+    by_may : (may : Bool) (decision : Decision) → option_map_or is_ask (if may then Some decision else None) false ≡ true → (may ≡ true) × (is_ask decision ≡ true)
+    by_may true decision asks = (refl, asks)
+    by_may false decision asks = absurd (cc)
 
 abbrev shown : Application → Conn → ℕ → Message → Bool → Values → Sending
 shown app conn panel message keep values = painted app (when_shown conn) panel message keep values
@@ -363,7 +381,7 @@ module _ (given : Given) (app : Application) (is : IsApplication app) (link : Li
   acts_then (MayAct.deciding lu s at f showing) = acts_at lu (decision_on app link.host link.host.turn_reason) (s.same refl) refl at f showing
 
   acts_by : (turn : Turn) (pending : Pending) (agreed : Bool) → link.host.turn ≡ turn → link.host.pending ≡ pending → is_agreed link.host.talk.state ≡ agreed
-      → Kept app (view_of (host_sent (if may_act turn pending agreed then decided app link.host (decision_on app link.host link.host.turn_reason) else None) link))
+      → Kept app (view_of (host_sent (option_and_then (decided app link.host) (if may_act turn pending agreed then Some (decision_on app link.host link.host.turn_reason) else None)) link))
   acts_by whose.Host Pending.Nothing true turns pends agrees = acts_then (may_act_at turns pends agrees)
   acts_by whose.Host Pending.Nothing false turns pends agrees = k
   acts_by whose.Host (Pending.Writing number command) agreed turns pends agrees = k
@@ -374,29 +392,6 @@ module _ (given : Given) (app : Application) (is : IsApplication app) (link : Li
   -- the host acts, if it may
   pub acts : Kept app (view_of (host_sent (acted app link.host) link))
   acts = acts_by link.host.turn link.host.pending (is_agreed link.host.talk.state) refl refl refl
-
-  -- ---- the application answers
-
-  answers_then : (said : Said) → is_ask (decision_on app link.host link.host.turn_reason) ≡ true → MayAct → Kept app (view_of (sent_view (done app link.host (act_by app link.host said said.panel)) link))
-  answers_then said is_asked (MayAct.agreeing lu at n) = absurd (agreed_unasked app link.host n.turn_reason is_asked)
-  answers_then said is_asked (MayAct.deciding lu s at f showing) = answers_at lu said said.panel refl is_asked at f showing
-
-  answers_by : (said : Said) (turn : Turn) (pending : Pending) (agreed is_asked has : Bool) → link.host.turn ≡ turn → link.host.pending ≡ pending → is_agreed link.host.talk.state ≡ agreed
-      → is_ask (decision_on app link.host link.host.turn_reason) ≡ is_asked
-      → Kept app (view_of (host_sent (if (may_act turn pending agreed && is_asked) && has then Some (done app link.host (act_by app link.host said said.panel)) else None) link))
-  answers_by said whose.Host Pending.Nothing true true true turns pends agrees is_asked = answers_then said is_asked (may_act_at turns pends agrees)
-  answers_by said whose.Host Pending.Nothing true true false turns pends agrees is_asked = k
-  answers_by said whose.Host Pending.Nothing true false has turns pends agrees is_asked = k
-  answers_by said whose.Host Pending.Nothing false asks_it has turns pends agrees is_asked = k
-  answers_by said whose.Host (Pending.Writing number command) agreed asks_it has turns pends agrees is_asked = k
-  answers_by said whose.Host (Pending.Reading number) agreed asks_it has turns pends agrees is_asked = k
-  answers_by said whose.Host (Pending.Noting number command) agreed asks_it has turns pends agrees is_asked = k
-  answers_by said whose.Terminal pending agreed asks_it has turns pends agrees is_asked = k
-
-  -- what the application answers is shown, if a question is open
-  pub answers_are_shown : (said : Said) → Kept app (view_of (host_sent (answered_on app link.host said) link))
-  answers_are_shown said =
-      answers_by said link.host.turn link.host.pending (is_agreed link.host.talk.state) (is_ask (decision_on app link.host link.host.turn_reason)) (has_its_panel app said) refl refl refl refl
 
   -- ---- a question is open
 
@@ -409,20 +404,24 @@ module _ (given : Given) (app : Application) (is : IsApplication app) (link : Li
   asks_then is_asked (MayAct.agreeing lu at n) = absurd (agreed_unasked app link.host n.turn_reason is_asked)
   asks_then is_asked (MayAct.deciding lu s at f showing) = (lu, at, f, is_asked, showing)
 
-  asks_by : (turn : Turn) (pending : Pending) (agreed is_asked : Bool) → link.host.turn ≡ turn → link.host.pending ≡ pending → is_agreed link.host.talk.state ≡ agreed
-      → is_ask (decision_on app link.host link.host.turn_reason) ≡ is_asked → (may_act turn pending agreed && is_asked) ≡ true → Asks
-  asks_by whose.Host Pending.Nothing true true turns pends agrees is_asked open_now = asks_then is_asked (may_act_at turns pends agrees)
-  asks_by whose.Host Pending.Nothing true false turns pends agrees is_asked open_now = absurd (cc)
-  asks_by whose.Host Pending.Nothing false asks_it turns pends agrees is_asked open_now = absurd (cc)
-  asks_by whose.Host (Pending.Writing number command) agreed asks_it turns pends agrees is_asked open_now = absurd (cc)
-  asks_by whose.Host (Pending.Reading number) agreed asks_it turns pends agrees is_asked open_now = absurd (cc)
-  asks_by whose.Host (Pending.Noting number command) agreed asks_it turns pends agrees is_asked open_now = absurd (cc)
-  asks_by whose.Terminal pending agreed asks_it turns pends agrees is_asked open_now = absurd (cc)
-
   -- where a question is open, the host decides
   pub asks_deciding : is_asking app link.host ≡ true → Asks
   asks_deciding open_now =
-      asks_by link.host.turn link.host.pending (is_agreed link.host.talk.state) (is_ask (decision_on app link.host link.host.turn_reason)) refl refl refl refl open_now
+      let asks = asking_parts app link.host open_now in
+      let when = may_act_when link.host.turn link.host.pending (is_agreed link.host.talk.state) asks.0 in
+      asks_then asks.1 (may_act_at when.0 when.1 when.2)
+
+  -- what the application answers is shown, if a question is open
+  pub answers_are_shown : (said : Said) → Kept app (view_of (host_sent (answered_on app link.host said) link))
+  answers_are_shown said = by_open (is_asking app link.host) refl (has_its_panel app said)
+    where
+      by_open : (asked : Bool) → is_asking app link.host ≡ asked → (has : Bool)
+          → Kept app (view_of (host_sent (if asked && has then Some (done app link.host (act_by app link.host said said.panel)) else None) link))
+      by_open true open_now true =
+          let asks = asks_deciding open_now in
+          answers_at asks.0 said said.panel refl asks.3 asks.1 asks.2 asks.4
+      by_open true open_now false = k
+      by_open false open_now has = k
 
 -- ---- a connection that is lost
 

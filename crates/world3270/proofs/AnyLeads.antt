@@ -1,6 +1,7 @@
 -- While a read is pending the screen has fields, so that a key's data begins with an address, and can't be taken for the read's answer.
 use Rattle.std.proofs.Common.{◌&&◌, map, ◌⊎◌, inl, inr, ◌++◌, ◌≡◌, ℕ, zero, suc, Bool, true, false, None, List, [], ◌∷◌, drop, refl, ap, sym, subst, ◌∙◌, if◌then◌else◌, ◌||◌, Option, Some, append-nil, length, replicate}
 use Rattle.std.specs.Prelude.{⊤, IfSome}
+use Rattle.std.specs.Option.{option_and_then}
 use Rattle.std.specs.List.{list_all}
 use Rattle.codes3270.specs.declared.attention.Aid.TheVariants.{Clear, NoAid, Enter, Pf, Pa}
 use Rattle.codes3270.specs.declared.attribute.Cell.{Cell}
@@ -254,7 +255,7 @@ done_asked : (app : Application) (conn : Conn) (act : Act) → (act ≡ Act.Read
 done_asked app conn Act.Read read reads = read refl
 done_asked app conn (Act.Show panel message keep values) read reads = λ e. modified_only reads
 
-decided_asked : (app : Application) (conn : Conn) (b : Bool) (reason : TurnReason) → conn.turn_reason ≡ reason → IfSome (if b then decided app conn (decision_on app conn reason) else None) (λ sending. IsAsked sending.conn)
+decided_asked : (app : Application) (conn : Conn) (b : Bool) (reason : TurnReason) → conn.turn_reason ≡ reason → IfSome (option_and_then (decided app conn) (if b then Some (decision_on app conn reason) else None)) (λ sending. IsAsked sending.conn)
 decided_asked app conn false reason is = tt
 decided_asked app conn true turn_reasons.Agreement is = λ reads e. modified_only reads
 decided_asked app conn true turn_reasons.Refusal is = λ reads e. modified_only reads

@@ -3,6 +3,7 @@
 -- for a read's answer (`LeadsAreKept`).
 use Rattle.std.proofs.Common.{◌≡◌, ◌⊎◌, inl, inr, ◌&&◌, ◌≤◌, ◌++◌, ℕ, Bool, true, false, Option, None, Some, List, [], ◌∷◌, arith, map, refl, ap, sym, subst, ◌∙◌, if◌then◌else◌}
 use Rattle.std.specs.Prelude.{⊤, All}
+use Rattle.std.specs.Option.{option_and_then}
 use Rattle.std.proofs.lemmas.List.Elements.{All-cons, All-head, All-map, All-nil, All-tail}
 use Rattle.codes3270.specs.Size.{Shape, alternate_of, cells_in, model_2}
 use Rattle.codes3270.specs.declared.attention.Aid.{Aid}
@@ -22,7 +23,7 @@ use Rattle.host_core.specs.Application.{Application, IsApplication, IsSizeOf, ap
 use Rattle.host_core.specs.Items.{is_paint_or_read, second_key_size}
 use Rattle.host_core.specs.Messages.{ToHost, ToTerminal, Verdict}
 use Rattle.host_core.specs.Notes.{may_note, noted, noted_as}
-use Rattle.host_core.specs.Questions.{act_by, answered_on, has_its_panel, is_ask}
+use Rattle.host_core.specs.Questions.{act_by, answered_on, has_its_panel, is_asking}
 use Rattle.host_core.specs.Session.{Conn, Pending, is_agreed, model_in}
 use Rattle.host_core.specs.Takes.{Answers, HostStep, dropping, form_awaited, may_have_changed, took as host_took}
 use Rattle.host_core.specs.declared.question.Answer.{Answer as Said}
@@ -41,7 +42,7 @@ use Rattle.world3270.specs.Stages.{Kept, may_differ_at}
 use Rattle.world3270.specs.StandsLinks.{HasTheSizes, NoneCloses}
 use Rattle.world3270.specs.Terminal.{Display, TermEnd, TermStep, data_of, is_bound, once_bound, took}
 use Rattle.world3270.specs.View.{view_of}
-use Rattle.world3270.proofs.Acting.{model_here}
+use Rattle.world3270.proofs.Acting.{asking_parts, may_act_when, model_here}
 use Rattle.world3270.proofs.AnyEvery.{AnyLaws, QueueIsKept, over_bytes}
 use Rattle.world3270.proofs.AnyReady.{all_may_now, same_now}
 use Rattle.world3270.proofs.AnySpelt.{IsTexts}
@@ -53,7 +54,7 @@ use Rattle.world3270.proofs.HostSteps.{just_talks}
 use Rattle.world3270.proofs.Known.{the_sizes}
 use Rattle.world3270.proofs.Queues.{front, nothing}
 use Rattle.world3270.proofs.SecondKeys.{Extras, IsSecondKey, is_dropping, pending_after, second_key_dropped, unless_read}
-use Rattle.world3270.proofs.SimulatedHost.{may_act_when, may_note_when, nothing_up}
+use Rattle.world3270.proofs.SimulatedHost.{may_note_when, nothing_up}
 use Rattle.world3270.proofs.Simulation.{Simulated, agrees_now}
 use Rattle.world3270.proofs.TalkStates.{agreed_there}
 use Rattle.world3270.proofs.Worlds.{some_cells}
@@ -412,7 +413,7 @@ module _ (given : Given) (app : Application) (is : IsApplication app) (sizes : H
   act_sized : (act : Act) → may_act_now ≡ true → sends_so (Some (done app t.link.host act))
   act_sized act may = by_act act (may_act_when t.link.host.turn t.link.host.pending (is_agreed t.link.host.talk.state) may)
     where
-      by_act : (act : Act) → (t.link.host.turn ≡ whose.Host) × (t.link.host.pending ≡ Pending.Nothing) → sends_so (Some (done app t.link.host act))
+      by_act : (act : Act) → (t.link.host.turn ≡ whose.Host) × (t.link.host.pending ≡ Pending.Nothing) × (is_agreed t.link.host.talk.state ≡ true) → sends_so (Some (done app t.link.host act))
       by_act Act.Read when = record { model = z.model; model_is = z.model_is; up = unpainted when.1 }
       by_act (Act.Show panel message keep values) when =
           let host = sym s.simulates.host in
@@ -426,22 +427,21 @@ module _ (given : Given) (app : Application) (is : IsApplication app) (sizes : H
   acts_sized : sends_so (acted app t.link.host)
   acts_sized = by_may may_act_now refl (decision_on app t.link.host t.link.host.turn_reason)
     where
-      by_may : (may : Bool) → may_act_now ≡ may → (decision : Decision) → sends_so (if may then decided app t.link.host decision else None)
+      by_may : (may : Bool) → may_act_now ≡ may → (decision : Decision) → sends_so (option_and_then (decided app t.link.host) (if may then Some decision else None))
       by_may true may (Decision.Do act) = act_sized act may
       by_may true may Decision.Asks = z
       by_may false may decision = z
 
   answers_sized : (said : Said) → sends_so (answered_on app t.link.host said)
-  answers_sized said = by_open may_act_now refl (is_ask (decision_on app t.link.host t.link.host.turn_reason)) (has_its_panel app said)
+  answers_sized said = by_open (is_asking app t.link.host) refl (has_its_panel app said)
     where
       act : Act
       act = act_by app t.link.host said said.panel
 
-      by_open : (may : Bool) → may_act_now ≡ may → (asks there : Bool) → sends_so (if (may && asks) && there then Some (done app t.link.host act) else None)
-      by_open true may true true = act_sized act may
-      by_open true may true false = z
-      by_open true may false there = z
-      by_open false may asks there = z
+      by_open : (asked : Bool) → is_asking app t.link.host ≡ asked → (there : Bool) → sends_so (if asked && there then Some (done app t.link.host act) else None)
+      by_open true open_now true = act_sized act (asking_parts app t.link.host open_now).0
+      by_open true open_now false = z
+      by_open false open_now there = z
 
   notes_sized : (text : List ℕ) → sends_so (noted text t.link.host)
   notes_sized text = by_may (may_note t.link.host.turn t.link.host.pending (is_agreed t.link.host.talk.state)) refl

@@ -8,6 +8,7 @@ use Rattle.world3270.proofs.StandsSizes.{is_narrow}
 use Rattle.world3270.proofs.Down.{shape_of_model}
 use Rattle.codes3270.specs.declared.size.Model.{Model}
 use Rattle.std.specs.Prelude.{All, ◌&&◌}
+use Rattle.std.specs.Option.{option_and_then}
 use Rattle.std.proofs.lemmas.Bool.{and_parts, ltb-true}
 use Rattle.std.proofs.lemmas.List.{length-set, set-get_or}
 use Rattle.std.proofs.lemmas.List.Elements.{All-head, All-nil, All-tail}
@@ -293,7 +294,7 @@ only_if : (b : Bool) (one sending : Sent) → (if b then Some one else None) ≡
 only_if true one sending is = cc
 only_if false one sending is = absurd (cc)
 
-decided_sent : (app : Application) (conn : Conn) (b : Bool) (decision : Decision) (sending : Sent) → (if b then decided app conn decision else None) ≡ Some sending
+decided_sent : (app : Application) (conn : Conn) (b : Bool) (decision : Decision) (sending : Sent) → option_and_then (decided app conn) (if b then Some decision else None) ≡ Some sending
     → (act : Act) × (sending ≡ done_act app conn act)
 decided_sent app conn true (Decision.Do act) sending is = (act, cc)
 decided_sent app conn true Decision.Asks sending is = absurd (cc)

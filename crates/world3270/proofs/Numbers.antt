@@ -1,6 +1,7 @@
 -- Numbers of commands and responses have 15 bits, after every event.
 use Rattle.std.proofs.Common.{◌≡◌, ◌⊎◌, inl, inr, nat_lt, ◌+◌, ℕ, Bool, true, false, Option, None, Some, List, [], ◌∷◌, arith, refl, sym, subst, IfSome, if◌then◌else◌}
 use Rattle.std.specs.Prelude.{⊤, ◌&&◌}
+use Rattle.std.specs.Option.{option_and_then}
 use Rattle.std.specs.List.{All}
 use Rattle.std.proofs.lemmas.Bool.{ltb-true}
 use Rattle.std.proofs.lemmas.List.Elements.{All-nil, All-cons, All-head, All-tail, All-append, All-map}
@@ -115,7 +116,7 @@ sends link (Some sending) n fits = record {
   up = n.up;
 }
 
-acts_if : (app : Application) (link : Link) (decision : Decision) (b : Bool) → AreNumbered link → IfSome (if b then decided app link.host decision else None) SendingFits
+acts_if : (app : Application) (link : Link) (decision : Decision) (b : Bool) → AreNumbered link → IfSome (option_and_then (decided app link.host) (if b then Some decision else None)) SendingFits
 acts_if app link (Decision.Do act) true n = done_fits app link.host act (record { next = n.next; pending = n.pending })
 acts_if app link Decision.Asks true n = tt
 acts_if app link decision false n = tt

@@ -1,6 +1,7 @@
 -- A paint finds the screen that the terminal had when the host decided: first over messages, then over bytes.
 use Rattle.std.proofs.Common.{◌≡◌, ◌==◌, ◌&&◌, ℕ, Bool, true, false, Option, None, Some, List, [], ◌∷◌, ◌++◌, Result, map, refl, ap, sym, subst, ◌∙◌, if◌then◌else◌}
 use Rattle.std.specs.Prelude.{is_some, ⊤}
+use Rattle.std.specs.Option.{option_and_then}
 use Rattle.std.proofs.lemmas.Bool.{and_parts, eqb-true}
 use Rattle.std.proofs.lemmas.List.{append-nil}
 use Rattle.codes3270.specs.declared.size.Model.{Model}
@@ -22,7 +23,7 @@ use Rattle.host_core.specs.Application.{Application, IsApplication, application_
 use Rattle.host_core.specs.Laws.{PanelsAreShown}
 use Rattle.host_core.specs.Messages.{ToTerminal, ToHost}
 use Rattle.host_core.specs.Notes.{may_note, noted, noted_as}
-use Rattle.host_core.specs.Questions.{act_by, answered_by, is_ask, answered_on, has_its_panel, is_asking, is_ticket, ticket_of}
+use Rattle.host_core.specs.Questions.{act_by, answered_by, answered_on, has_its_panel, is_asking, is_ticket, ticket_of}
 use Rattle.host_core.specs.Rejections.{lu_asked}
 use Rattle.host_core.specs.Session.{Conn, Pending, is_agreed}
 use Rattle.host_core.specs.State.{Service, service_at, session_at}
@@ -52,6 +53,7 @@ use Rattle.world3270.specs.World.{Event, World, new_world, with_at}
 use Rattle.world3270.specs.declared.event.Event.{Event as ByteEvent}
 use Rattle.world3270.specs.declared.event.Event.TheVariants as event
 use Rattle.world3270.specs.declared.event.Stepped.TheVariants as stepped
+use Rattle.world3270.proofs.Acting.{asking_parts, may_act_when}
 use Rattle.world3270.proofs.Headline.{terminal_attached}
 use Rattle.world3270.proofs.HostSteps.{just_talks}
 use Rattle.world3270.proofs.Known.{after_more}
@@ -348,18 +350,11 @@ record IsSent (app : Application) (conn : Conn) (sending : Sent) : Type 0 where
   turns : conn.turn ≡ whose.Host
   pends : conn.pending ≡ Pending.Nothing
 
-may_act_when : (turn : Turn) (pending : Pending) (agreed : Bool) → may_act turn pending agreed ≡ true → (turn ≡ whose.Host) × (pending ≡ Pending.Nothing)
-may_act_when whose.Host Pending.Nothing agreed may = (refl, refl)
-may_act_when whose.Host (Pending.Writing number command) agreed may = absurd (cc)
-may_act_when whose.Host (Pending.Reading number) agreed may = absurd (cc)
-may_act_when whose.Host (Pending.Noting number command) agreed may = absurd (cc)
-may_act_when whose.Terminal pending agreed may = absurd (cc)
-
 acts_in_turn : (app : Application) (conn : Conn) → is_some (acted app conn) ≡ true → (sending : Sent) × (acted app conn ≡ Some sending) × IsSent app conn sending
 acts_in_turn app conn some = by_test (may_act conn.turn conn.pending (is_agreed conn.talk.state)) (decision_on app conn conn.turn_reason) refl some
   where
-    by_test : (b : Bool) (decision : Decision) → may_act conn.turn conn.pending (is_agreed conn.talk.state) ≡ b → is_some (if b then decided app conn decision else None) ≡ true
-        → (sending : Sent) × ((if b then decided app conn decision else None) ≡ Some sending) × IsSent app conn sending
+    by_test : (b : Bool) (decision : Decision) → may_act conn.turn conn.pending (is_agreed conn.talk.state) ≡ b → is_some (option_and_then (decided app conn) (if b then Some decision else None)) ≡ true
+        → (sending : Sent) × (option_and_then (decided app conn) (if b then Some decision else None) ≡ Some sending) × IsSent app conn sending
     by_test true (Decision.Do act) may some =
         let turns = may_act_when conn.turn conn.pending (is_agreed conn.talk.state) may in
         (done_act app conn act, refl, record { act = act; is = refl; turns = turns.0; pends = turns.1 })
@@ -372,7 +367,7 @@ answered_in_turn app conn said some = by_test (is_asking app conn && has_its_pan
     by_test : (b : Bool) → (is_asking app conn && has_its_panel app said) ≡ b → is_some (if b then Some (done_act app conn (act_by app conn said said.panel)) else None) ≡ true
         → (sending : Sent) × ((if b then Some (done_act app conn (act_by app conn said said.panel)) else None) ≡ Some sending) × IsSent app conn sending
     by_test true asks some =
-        let may = (and_parts (may_act conn.turn conn.pending (is_agreed conn.talk.state)) (is_ask (decision_on app conn conn.turn_reason)) (and_parts (is_asking app conn) (has_its_panel app said) asks).0).0 in
+        let may = (asking_parts app conn (and_parts (is_asking app conn) (has_its_panel app said) asks).0).0 in
         let turns = may_act_when conn.turn conn.pending (is_agreed conn.talk.state) may in
         (done_act app conn (act_by app conn said said.panel), refl, record { act = act_by app conn said said.panel; is = refl; turns = turns.0; pends = turns.1 })
     by_test false asks some = absurd (cc)

@@ -1,6 +1,6 @@
 -- Screens keep their shape and can be sent, what is painted is a screen, and values are characters, after every event.
 use Rattle.std.proofs.Common.{◌≡◌, ◌<◌, ◌≤◌, ◌==◌, ◌&&◌, ◌++◌, ◌-◌, ◌+◌, not, ℕ, zero, suc, arith, Bool, true, false, Option, None, Some, List, [], ◌∷◌, length, replicate, refl, ap, sym, subst, ◌∙◌, IfSome, IsTrue, if◌then◌else◌, inl}
-use Rattle.host_core.specs.Questions.{act_by, answered_on, has_its_panel, is_ask}
+use Rattle.host_core.specs.Questions.{act_by, answered_on, has_its_panel, is_asking}
 use Rattle.host_core.specs.declared.question.Answer.{Answer as Said}
 use Rattle.std.specs.Map.{remove_entry, values_of}
 use Rattle.std.specs.BTreeMap.{insert_entry, is_at}
@@ -74,6 +74,7 @@ use Rattle.world3270.specs.View.{View, view_of}
 use Rattle.lu_pool.specs.Pool.{IsPool}
 use Rattle.lu_pool.specs.declared.entry.Entry.{Entry}
 use Rattle.world3270.specs.World.{Place, World, Event, IsEvent, AreEvents, new_world, display_at}
+use Rattle.world3270.proofs.Acting.{asking_parts, may_act_when}
 use Rattle.world3270.proofs.Down.{painted-length, shape_of_model}
 use Rattle.world3270.proofs.Everywhere.{Steps, InPlace, Everywhere, everywhere}
 use Rattle.world3270.proofs.Headline.{knows_at}
@@ -459,7 +460,7 @@ decided_texts app conn (Decision.Do act) asks texts is = done_texts app conn act
 decided_texts app conn Decision.Asks asks texts is = tt
 
 acts_by : (app : Application) → AsksForScreens app → (conn : Conn) (turn : Turn) (pending : Pending) (agreed : Bool) → AreTexts conn.values → LearnsTexts app conn
-    → conn.turn ≡ turn → conn.pending ≡ pending → IfSome (if may_act turn pending agreed then decided app conn (decision_on app conn conn.turn_reason) else None) SendsTexts
+    → conn.turn ≡ turn → conn.pending ≡ pending → IfSome (option_and_then (decided app conn) (if may_act turn pending agreed then Some (decision_on app conn conn.turn_reason) else None)) SendsTexts
 acts_by app asks conn whose.Host Pending.Nothing true values learns turns pends =
     decided_texts app conn (decision_on app conn conn.turn_reason) asks values (decision_texts app conn conn.turn_reason values (learns turns pends))
 acts_by app asks conn whose.Host Pending.Nothing false values learns turns pends = tt
@@ -471,22 +472,15 @@ acts_by app asks conn whose.Terminal pending agreed values learns turns pends = 
 pub acts_texts : (app : Application) → AsksForScreens app → (conn : Conn) → AreTexts conn.values → LearnsTexts app conn → IfSome (acted app conn) SendsTexts
 acts_texts app asks conn values learns = acts_by app asks conn conn.turn conn.pending (is_agreed conn.talk.state) values learns refl refl
 
-answers_by : (app : Application) → AsksForScreens app → (said : Said) → AreTexts said.values → (conn : Conn) (turn : Turn) (pending : Pending) (agreed asks_it has : Bool) → AreTexts conn.values → LearnsTexts app conn
-    → conn.turn ≡ turn → conn.pending ≡ pending
-    → IfSome (if (may_act turn pending agreed && asks_it) && has then Some (done app conn (act_by app conn said said.panel)) else None) SendsTexts
-answers_by app asks said are conn whose.Host Pending.Nothing true true true values learns turns pends =
-    done_texts app conn (act_by app conn said said.panel) asks values (answer_texts app conn said said.panel (learns turns pends) are)
-answers_by app asks said are conn whose.Host Pending.Nothing true true false values learns turns pends = tt
-answers_by app asks said are conn whose.Host Pending.Nothing true false has values learns turns pends = tt
-answers_by app asks said are conn whose.Host Pending.Nothing false asks_it has values learns turns pends = tt
-answers_by app asks said are conn whose.Host (Pending.Writing number command) agreed asks_it has values learns turns pends = tt
-answers_by app asks said are conn whose.Host (Pending.Reading number) agreed asks_it has values learns turns pends = tt
-answers_by app asks said are conn whose.Host (Pending.Noting number command) agreed asks_it has values learns turns pends = tt
-answers_by app asks said are conn whose.Terminal pending agreed asks_it has values learns turns pends = tt
-
 pub answers_texts : (app : Application) → AsksForScreens app → (said : Said) → AreTexts said.values → (conn : Conn) → AreTexts conn.values → LearnsTexts app conn → IfSome (answered_on app conn said) SendsTexts
-answers_texts app asks said are conn values learns =
-    answers_by app asks said are conn conn.turn conn.pending (is_agreed conn.talk.state) (is_ask (decision_on app conn conn.turn_reason)) (has_its_panel app said) values learns refl refl
+answers_texts app asks said are conn values learns = by_open (is_asking app conn) refl (has_its_panel app said)
+  where
+    by_open : (asked : Bool) → is_asking app conn ≡ asked → (has : Bool) → IfSome (if asked && has then Some (done app conn (act_by app conn said said.panel)) else None) SendsTexts
+    by_open true open_now true =
+        let when = may_act_when conn.turn conn.pending (is_agreed conn.talk.state) (asking_parts app conn open_now).0 in
+        done_texts app conn (act_by app conn said said.panel) asks values (answer_texts app conn said said.panel (learns when.0 when.1) are)
+    by_open true open_now false = tt
+    by_open false open_now has = tt
 
 pub notes_texts : Given → (text : List ℕ) (conn : Conn) → IsShape conn.shape → IsNoteText text → AreTexts conn.values → IfSome (noted text conn) SendsTexts
 notes_texts given text conn is note values = by_test (may_note conn.turn conn.pending (is_agreed conn.talk.state))

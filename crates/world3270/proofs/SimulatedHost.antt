@@ -1,5 +1,6 @@
 -- What the host hears, and what it sends: it can't tell the terminal from the waiting one.
 use Rattle.std.proofs.Common.{◌≡◌, ◌⊎◌, inl, inr, ◌&&◌, Bool, true, false, ℕ, Option, None, Some, List, [], ◌∷◌, ◌++◌, refl, ap, sym, subst, ◌∙◌, if◌then◌else◌}
+use Rattle.std.specs.Option.{option_and_then}
 use Rattle.tn3270e_msg.specs.declared.cause.Cause.{Cause}
 use Rattle.lu_pool.specs.Asking.{answer_to}
 use Rattle.lu_pool.specs.HolderLaws.{IsSound}
@@ -8,7 +9,7 @@ use Rattle.host_core.specs.Acts.{Act, Decision, Sent, acted, decided, decision_o
 use Rattle.host_core.specs.Application.{Application, IsApplication}
 use Rattle.host_core.specs.Messages.{ToHost, ToTerminal}
 use Rattle.host_core.specs.Notes.{IsNoteText, may_note, note_command, noted, noted_as}
-use Rattle.host_core.specs.Questions.{act_by, answered_on, has_its_panel, is_ask}
+use Rattle.host_core.specs.Questions.{act_by, answered_on, has_its_panel, is_asking}
 use Rattle.host_core.specs.Session.{Conn, Pending, is_agreed}
 use Rattle.host_core.specs.Takes.{Answers, HostStep, dropping, may_have_changed, took as host_took}
 use Rattle.host_core.specs.declared.question.Answer.{Answer as Said}
@@ -22,7 +23,7 @@ use Rattle.world3270.specs.Link.{Link, cut, host_left_if, host_sent, host_steppe
 use Rattle.world3270.specs.Moments.{IsAt, Moment, Serving, Talking, UnderWay, pending_at, turn_at}
 use Rattle.world3270.specs.Stages.{Kept}
 use Rattle.world3270.specs.View.{view_of}
-use Rattle.world3270.proofs.Acting.{acts, answers_are_shown, loses}
+use Rattle.world3270.proofs.Acting.{acts, answers_are_shown, asking_parts, loses, may_act_when}
 use Rattle.world3270.proofs.Noting.{notes}
 use Rattle.world3270.proofs.HeardTurns.{goes_on}
 use Rattle.world3270.proofs.HostSteps.{just_talks}
@@ -136,13 +137,6 @@ act_talk : (app : Application) (conn : Conn) (act : Act) → (done app conn act)
 act_talk app conn Act.Read = refl
 act_talk app conn (Act.Show panel message keep values) = refl
 
-pub may_act_when : (turn : Turn) (pending : Pending) (agreed : Bool) → may_act turn pending agreed ≡ true → (turn ≡ whose.Host) × (pending ≡ Pending.Nothing)
-may_act_when whose.Host Pending.Nothing agreed may = (refl, refl)
-may_act_when whose.Host (Pending.Writing number command) agreed may = absurd (cc)
-may_act_when whose.Host (Pending.Reading number) agreed may = absurd (cc)
-may_act_when whose.Host (Pending.Noting number command) agreed may = absurd (cc)
-may_act_when whose.Terminal pending agreed may = absurd (cc)
-
 pub may_note_when : (turn : Turn) (pending : Pending) (agreed : Bool) → may_note turn pending agreed ≡ true → (turn ≡ whose.Terminal) × (pending ≡ Pending.Nothing)
 may_note_when whose.Terminal Pending.Nothing agreed may = (refl, refl)
 may_note_when whose.Terminal (Pending.Writing number command) agreed may = absurd (cc)
@@ -184,7 +178,7 @@ module _ (given : Given) (app : Application) (is : IsApplication app) (lu : List
       (by_may may_act_now refl (decision_on app end.host end.host.turn_reason) (acts given app is end s.kept))
     where
       by_may : (may : Bool) → may_act_now ≡ may → (decision : Decision)
-          → Kept app (view_of (host_sent (if may then decided app end.host decision else None) end)) → Simulated app lu (sends_so (if may then decided app end.host decision else None))
+          → Kept app (view_of (host_sent (option_and_then (decided app end.host) (if may then Some decision else None)) end)) → Simulated app lu (sends_so (option_and_then (decided app end.host) (if may then Some decision else None)))
       by_may true may (Decision.Do act) kept = both_act act may kept
       by_may true may Decision.Asks kept = s
       by_may false may decision kept = s
@@ -192,17 +186,16 @@ module _ (given : Given) (app : Application) (is : IsApplication app) (lu : List
   pub answers_still : (said : Said) → Simulated app lu (sends_so (answered_on app t.link.host said))
   answers_still said =
       subst (λ (conn : Conn). Simulated app lu (sends_so (answered_on app conn said))) (sym s.simulates.host)
-      (by_open may_act_now refl (is_ask (decision_on app end.host end.host.turn_reason)) (has_its_panel app said) (answers_are_shown given app is end s.kept said))
+      (by_open (is_asking app end.host) refl (has_its_panel app said) (answers_are_shown given app is end s.kept said))
     where
       act : Act
       act = act_by app end.host said said.panel
 
-      by_open : (may : Bool) → may_act_now ≡ may → (asks there : Bool) → Kept app (view_of (host_sent (if (may && asks) && there then Some (done app end.host act) else None) end))
-          → Simulated app lu (sends_so (if (may && asks) && there then Some (done app end.host act) else None))
-      by_open true may true true kept = both_act act may kept
-      by_open true may true false kept = s
-      by_open true may false there kept = s
-      by_open false may asks there kept = s
+      by_open : (asked : Bool) → is_asking app end.host ≡ asked → (there : Bool) → Kept app (view_of (host_sent (if asked && there then Some (done app end.host act) else None) end))
+          → Simulated app lu (sends_so (if asked && there then Some (done app end.host act) else None))
+      by_open true open_now true kept = both_act act (asking_parts app end.host open_now).0 kept
+      by_open true open_now false kept = s
+      by_open false open_now there kept = s
 
   pub notes_still : (text : List ℕ) → IsNoteText text → Simulated app lu (sends_so (noted text t.link.host))
   notes_still text is_text =

@@ -2,6 +2,7 @@
 use Rattle.std.proofs.Common.{◌≡◌, ◌<◌, ◌==◌, ◌&&◌, ◌++◌, ℕ, Bool, true, false, Option, None, Some, List, [], ◌∷◌, arith, replicate, refl, ap, sym, subst, ◌∙◌, if◌then◌else◌, inl}
 use Rattle.codes3270.specs.declared.size.Model.{Model}
 use Rattle.std.specs.Prelude.{filter_map, ◌&&◌}
+use Rattle.std.specs.Option.{option_and_then}
 use Rattle.std.specs.List.{list_any}
 use Rattle.std.proofs.lemmas.Bool.{and_parts}
 use Rattle.std.proofs.lemmas.List.{length-replicate}
@@ -127,7 +128,7 @@ record SameEnd (old new : Link) : Type 0 where
   claims : claim new.host ≡ claim old.host
   here : new.host_here ≡ old.host_here
 
-decided_same : (app : Application) (link : Link) (decision : Decision) (b : Bool) → SameEnd link (host_sent (if b then decided app link.host decision else None) link)
+decided_same : (app : Application) (link : Link) (decision : Decision) (b : Bool) → SameEnd link (host_sent (option_and_then (decided app link.host) (if b then Some decision else None)) link)
 decided_same app link (Decision.Do act) true = record { claims = act_claims app link.host act; here = refl }
 decided_same app link Decision.Asks true = record { claims = refl; here = refl }
 decided_same app link decision false = record { claims = refl; here = refl }

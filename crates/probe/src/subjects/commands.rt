@@ -1,166 +1,119 @@
-//! Data streams of datastream: commands, read and written, and inbound data.
+//! Data streams of datastream. The size is the alternate one of MODEL.
 //!
 //! ```text
-//! read NOW ALTERNATE BYTES    a command for a screen of model NOW's alternate size, whose own model is ALTERNATE: its
-//!                             code, size, write control character and orders, one by one and with runs of characters
-//! inbound FORM MODEL BYTES    data of a form (modified, all, buffer) from a screen of a model's alternate size: form, size,
-//!                             AID, cursor, the text before any field, fields, parts, and each part as a cell; of a
-//!                             buffer the cells, one by one and with runs of characters
+//! read NOW ALTERNATE BYTES    a command for a screen of the size of NOW, whose own model is ALTERNATE
+//! inbound FORM MODEL BYTES    data of a form (modified, all, buffer)
 //! begin CODE WCC; sba ADDR; sf BYTE; chars BYTES; ra ADDR BYTE; ic    a writer appends it
 //! ```
 use crate::subjects::Subject;
-use crate::subjects::cells::{are_storable, at, character, form};
-use crate::talk::{Fault, Talk, put_hex};
+use crate::subjects::cells::{FORMS, are_storable, at, character};
+use crate::talk::{Answer, Done, Fault, Put, Words, put_hex};
 use codes3270::{Attr, Size, Wcc, aid_byte};
 use datastream::{
     Cells, Command, CommandCode, CommandWriter, Form, Inbound, read_command, read_inbound,
 };
-use std::alloc::AllocError;
 use std::fmt::Debug;
 
 #[derive(Drop)]
 pub(crate) struct Commands;
 
-static CODES: [(&str, CommandCode); 7] = [
-    ("Write", CommandCode::Write),
-    ("EraseWrite", CommandCode::EraseWrite),
-    ("EraseWriteAlternate", CommandCode::EraseWriteAlternate),
-    ("ReadBuffer", CommandCode::ReadBuffer),
-    ("ReadModified", CommandCode::ReadModified),
-    ("ReadModifiedAll", CommandCode::ReadModifiedAll),
-    ("EraseAllUnprotected", CommandCode::EraseAllUnprotected),
+static CODES: [CommandCode; 7] = [
+    CommandCode::Write,
+    CommandCode::EraseWrite,
+    CommandCode::EraseWriteAlternate,
+    CommandCode::ReadBuffer,
+    CommandCode::ReadModified,
+    CommandCode::ReadModifiedAll,
+    CommandCode::EraseAllUnprotected,
 ];
 
-fn code_named(name: &str) -> Result<CommandCode, Fault> {
-    match CODES.iter().find(|code| code.0 == name) {
-        Some(code) => Ok(code.1),
-        None => Err(Fault::Needs("a command's name")),
+fn put_run<T: Debug + Drop>(text: &mut String, run: &[u8], item: Option<T>) -> Result<bool, Fault> {
+    put_hex(text, run)?;
+    match &item {
+        Some(item) => write!(text, " {item:?} ")?,
+        None => text.push('\n')?,
     }
+    Ok(item.is_some())
 }
 
-fn put_size(talk: &mut Talk<'_>, size: Size) -> Result<(), AllocError> {
-    writeln!(talk.answer, "size {} {}", size.rows(), size.cols())
-}
-
-/// Puts a run of characters, and the item after it. Whether there is one.
-fn put_run<T: Debug + Drop>(
-    talk: &mut Talk<'_>,
-    run: &[u8],
-    item: Option<T>,
-) -> Result<bool, AllocError> {
-    put_hex(talk.answer, run)?;
-    match item {
-        Some(item) => write!(talk.answer, " {item:?} ")?,
-        None => {
-            talk.answer.push('\n')?;
-            return Ok(false);
-        }
-    }
-    Ok(true)
-}
-
-fn put_command(talk: &mut Talk<'_>, command: &Command<'_>) -> Result<(), AllocError> {
+fn put_command(answer: &mut Answer, command: &Command<'_>) -> Done {
     let code = command.code();
-    writeln!(talk.answer, "{code:?} has-orders {}", code.has_orders())?;
-    put_size(talk, command.size())?;
-    writeln!(talk.answer, "wcc {:?}", command.wcc())?;
-    talk.each("orders", command.orders())?;
-    talk.answer.push_str("runs ")?;
+    answer.line(&(code, code.has_orders(), command.size(), command.wcc()))?;
+    answer.each("orders", command.orders())?;
+    answer.text.push_str("runs ")?;
     let mut orders = command.orders();
     for _ in 0..u64::MAX {
-        if !put_run(talk, orders.characters(), orders.next())? {
+        if !put_run(&mut answer.text, orders.characters(), orders.next())? {
             break;
         }
     }
     Ok(())
 }
 
-fn put_cells(talk: &mut Talk<'_>, cells: Cells<'_>) -> Result<(), AllocError> {
+fn put_cells(answer: &mut Answer, cells: Cells<'_>) -> Done {
     let mut others = cells.copy();
-    talk.each("cells", cells)?;
-    talk.answer.push_str("runs ")?;
+    answer.each("cells", cells)?;
+    answer.text.push_str("runs ")?;
     for _ in 0..u64::MAX {
-        if !put_run(talk, others.characters(), others.next())? {
+        if !put_run(&mut answer.text, others.characters(), others.next())? {
             break;
         }
     }
     Ok(())
 }
 
-fn put_parts(talk: &mut Talk<'_>, inbound: &Inbound<'_>) -> Result<(), AllocError> {
-    talk.line(&inbound.form())?;
-    put_size(talk, inbound.size())?;
-    writeln!(talk.answer, "aid {:02X}", aid_byte(inbound.aid()))?;
-    writeln!(talk.answer, "cursor {:?}", inbound.cursor())?;
-    talk.name("leading", inbound.leading_text())?;
-    talk.each("fields", inbound.returned())?;
-    talk.each("parts", inbound.parts())?;
-    talk.each("as-cells", inbound.parts().map(|part| part.cell()))
-}
-
-fn put_inbound(talk: &mut Talk<'_>, inbound: &Inbound<'_>) -> Result<(), AllocError> {
-    put_parts(talk, inbound)?;
-    if inbound.form() == Form::Buffer {
-        put_cells(talk, inbound.cells())?;
+fn put_inbound(answer: &mut Answer, inbound: &Inbound<'_>) -> Done {
+    let (form, aid) = (inbound.form(), [aid_byte(inbound.aid())]);
+    let text = inbound.leading_text();
+    answer.line(&(form, inbound.size(), aid, inbound.cursor(), text))?;
+    answer.each("fields", inbound.returned())?;
+    answer.each("parts", inbound.parts())?;
+    answer.each("as-cells", inbound.parts().map(|part| part.cell()))?;
+    match form {
+        Form::Buffer => put_cells(answer, inbound.cells()),
+        _ => Ok(()),
     }
-    Ok(())
 }
 
-/// Appends by a writer.
-fn write(talk: &mut Talk<'_>, word: &str) -> Result<(), Fault> {
-    let called = match word {
-        "begin" => {
-            let code = code_named(talk.word()?)?;
-            let wcc = Wcc::from_byte(talk.byte()?);
-            CommandWriter::new(talk.out).begin(code, wcc)
-        }
-        "sba" => {
-            let to = at(talk.number()?, Size::base());
-            CommandWriter::new(talk.out).sba(to)
-        }
-        "sf" => {
-            let attr = Attr::from_code(talk.byte()?);
-            CommandWriter::new(talk.out).sf(attr)
-        }
-        "ra" => {
-            let stop = at(talk.number()?, Size::base());
-            let code = character(talk.word()?)?;
-            CommandWriter::new(talk.out).ra(stop, code)
-        }
-        "ic" => CommandWriter::new(talk.out).ic(),
+fn write(words: &mut Words<'_>, mut to: CommandWriter<'_>, word: &str) -> Result<Put, Fault> {
+    Ok(match word {
+        "begin" => to.begin(words.named(&CODES)?, Wcc::from_byte(words.byte()?)),
+        "sba" => to.sba(at(words.number()?, Size::base())),
+        "sf" => to.sf(Attr::from_code(words.byte()?)),
+        "ra" => to.ra(at(words.number()?, Size::base()), character(words.word()?)?),
+        "ic" => to.ic(),
         "chars" => {
-            let text = talk.bytes()?;
+            let text = words.bytes()?;
             if !are_storable(text.as_slice()) {
-                return Err(Fault::Needs("characters"));
+                return Err(Fault::Line);
             }
-            CommandWriter::new(talk.out).chars(text.as_slice())
+            to.chars(text.as_slice())
         }
-        _ => return Err(Fault::Needs("a command of this subject")),
-    };
-    Ok(talk.done(called)?)
+        _ => return Err(Fault::Line),
+    })
 }
 
 impl Subject for Commands {
-    fn take(&mut self, talk: &mut Talk<'_>) -> Result<(), Fault> {
-        match talk.word()? {
+    fn take(&mut self, words: &mut Words<'_>, answer: &mut Answer) -> Done {
+        match words.word()? {
             "read" => {
-                let (now, alternate) = (talk.model()?.alternate(), talk.model()?.alternate());
-                let bytes = talk.all_bytes()?;
+                let (now, alternate, bytes) = (words.size()?, words.size()?, words.bytes()?);
                 match read_command(bytes.as_slice(), now, alternate) {
-                    Ok(command) => put_command(talk, &command)?,
-                    Err(fault) => writeln!(talk.answer, "fault {fault:?}: {fault}")?,
+                    Ok(command) => put_command(answer, &command),
+                    Err(fault) => Ok(writeln!(answer.text, "fault {fault:?}: {fault}")?),
                 }
             }
             "inbound" => {
-                let (form, size) = (form(talk)?, talk.model()?.alternate());
-                let bytes = talk.all_bytes()?;
+                let (form, size, bytes) = (words.named(&FORMS)?, words.size()?, words.bytes()?);
                 match read_inbound(bytes.as_slice(), form, size) {
-                    Ok(inbound) => put_inbound(talk, &inbound)?,
-                    Err(fault) => writeln!(talk.answer, "fault {fault:?}: {fault}")?,
+                    Ok(inbound) => put_inbound(answer, &inbound),
+                    Err(fault) => Ok(writeln!(answer.text, "fault {fault:?}: {fault}")?),
                 }
             }
-            word => write(talk, word)?,
+            word => {
+                let called = write(words, CommandWriter::new(&mut answer.out), word)?;
+                answer.done(called)
+            }
         }
-        Ok(())
     }
 }

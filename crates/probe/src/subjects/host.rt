@@ -1,105 +1,79 @@
-//! A host: host_core's `Host`, and `serve_turn`. C is a connection's number, 0 to 63. What calls answer is printed by Debug.
+//! A host: host_core's `Host`, and `serve_turn`, by Debug. C is a connection's number, 0 to 63.
 //!
 //! ```text
-//! new TERMINALS TEXT   a host that serves the panels of a text (`made`)
-//! restart
-//! open C               done, or memory
-//! feed C BYTES
-//! act C; note C BYTES
-//! out C; sent C N; closed C
-//! rejected C; dropped C    the oldest rejection, or dropped key, that wasn't reported
-//! broken C             the rule that the terminal broke, and the cell
-//! question C           none, memory, or the question's parts
 //! answer C SESSION TURN MESSAGE [FIELD BYTES]    a message, and a field's value
-//! state C              phase, model, turn, and the command that waits for its answer
-//! see C                all of this, what there is to send, and the belief
-//! turn C TAKES GIVES   a turn of serving, its connection (`links`): how often that was read and written, and what it heard
+//! see C                all that is to be seen
+//! turn C TAKES GIVES   a turn of serving, its connection (`links`): how often that was read and written, what it heard
 //! ```
-ghost use Rattle.std.specs.Prelude.{◌<◌, IfOk};
+ghost use Rattle.std.specs.Prelude.{◌<◌};
 ghost use Rattle.host_core.specs.State.{most_connections};
 
+use crate::subjects::Made;
 use crate::subjects::cells::put_belief;
 use crate::subjects::links::Link;
-use crate::subjects::made::{Made, read_service};
 use crate::subjects::panel::set_value;
-use crate::talk::{Fault, Talk};
+use crate::talk::{Answer, Done, Fault, Words, bytes_of, named, text_of};
+use applications::application_of;
 use codes3270::aid_byte;
 use host_core::{
-    Answer, Host, MOST_CONNECTIONS, MessageText, Phase, Question, Rejection, Ticket, Values,
-    serve_turn,
+    Answer as Reply, Host, MOST_CONNECTIONS, MessageText, PanelSet, Phase, Pool, Question,
+    Terminals, Ticket, Values, serve_turn,
 };
 use std::alloc::AllocError;
 use world3270::NoteText;
 
-/// A connection's number.
-pub(crate) fn read_conn(talk: &mut Talk<'_>) -> Result<usize, Fault>
-    ensures { IfOk result (λ conn. conn < most_connections) }
-{
-    let conn = talk.number::<usize>()?;
-    if conn < MOST_CONNECTIONS {
-        Ok(conn)
-    } else {
-        Err(Fault::Needs("a connection's number"))
+static TERMINALS: [Terminals; 3] = [Terminals::Waiting, Terminals::Any, Terminals::Verified];
+
+/// What a host serves: which terminals, and the panels of a text, one word of bytes.
+pub(crate) fn read_service(words: &mut Words<'_>) -> Result<(Terminals, PanelSet, Pool), Fault> {
+    let (name, text) = (words.word()?, words.bytes()?);
+    let terminals = named(words.alloc, &TERMINALS, name)?;
+    match application_of(words.alloc, text_of(text.as_slice())?) {
+        Ok((panels, pool)) => Ok((terminals, panels, pool)),
+        Err(job_streams::Fault::NoMemory) => Err(Fault::NoMemory(AllocError)),
+        Err(_) => Err(Fault::Line),
     }
 }
 
-/// Puts how far a host is with the client of a connection.
-pub(crate) fn put_state(talk: &mut Talk<'_>, host: &Host, conn: usize) -> Result<(), AllocError>
+pub(crate) fn put_state(answer: &mut Answer, host: &Host, conn: usize) -> Done
     requires { conn < most_connections }
 {
-    match host.phase(conn) {
-        Phase::Bound(lu) => writeln!(talk.answer, "phase Bound {lu}")?,
-        phase => writeln!(talk.answer, "phase {phase:?}")?,
-    }
-    let (model, turn) = (host.model(conn), host.turn(conn));
-    writeln!(talk.answer, "model {model:?}\nturn {turn:?}")?;
-    writeln!(talk.answer, "pending {:?}", host.pending(conn))
+    let (phase, model) = (host.phase(conn), host.model(conn));
+    writeln!(answer.text, "phase {phase:?}\nmodel {model:?}")?;
+    let (turn, pending) = (host.turn(conn), host.pending(conn));
+    Ok(writeln!(answer.text, "turn {turn:?}\npending {pending:?}")?)
 }
 
-/// Puts all that is to be seen of a connection.
-pub(crate) fn put_all(talk: &mut Talk<'_>, host: &Host, conn: usize) -> Result<(), AllocError>
+pub(crate) fn put_all(answer: &mut Answer, host: &Host, conn: usize) -> Done
     requires { conn < most_connections }
 {
-    put_state(talk, host, conn)?;
-    talk.name("out", host.out(conn))?;
-    put_belief(talk.answer, host.shadow(conn))
+    put_state(answer, host, conn)?;
+    answer.name("out", host.out(conn))?;
+    put_belief(answer, host.shadow(conn))
 }
 
-fn put_rejection(talk: &mut Talk<'_>, rejection: Option<Rejection>) -> Result<(), AllocError> {
-    match rejection {
-        None => talk.none(),
-        Some(it) => match it.lu {
-            Some(lu) => writeln!(talk.answer, "{lu} {}", it.reason),
-            None => writeln!(talk.answer, "{}", it.reason),
-        },
-    }
-}
-
-/// Puts a question's parts, and the text of each field of its panel.
-fn put_question(talk: &mut Talk<'_>, host: &Host, question: &Question) -> Result<(), AllocError> {
+fn put_question(answer: &mut Answer, host: &Host, question: &Question) -> Done {
     let Ticket { session, turn } = question.ticket;
-    let (cursor, aid) = (question.cursor.get(), aid_byte(question.aid));
-    writeln!(talk.answer, "ticket {session} {turn}\nlu {}", question.lu)?;
-    writeln!(talk.answer, "panel {}\ncursor {cursor}", question.panel)?;
-    writeln!(talk.answer, "aid {aid:02X}")?;
+    writeln!(answer.text, "ticket {session} {turn}\nlu {}", question.lu)?;
+    let (panel, cursor, aid) = (question.panel, question.cursor, [aid_byte(question.aid)]);
+    answer.line(&(panel, cursor, aid))?;
     if let Some(panel) = host.panels().panel(question.panel) {
         for field in panel.fields() {
             if let Some(value) = question.values.get(field.number) {
-                talk.name(field.name.as_str(), value)?;
+                answer.name(field.name.as_str(), value)?;
             }
         }
     }
     Ok(())
 }
 
-/// What an application answers: a message, and a value for a field, if one.
-fn read_answer(talk: &mut Talk<'_>) -> Result<Answer, Fault> {
-    let message = MessageText::new(talk.bytes()?.as_slice());
-    let mut values = Values::new(talk.alloc);
-    if !talk.is_empty() {
-        set_value(talk, &mut values)??;
+fn read_reply(words: &mut Words<'_>) -> Result<Reply, Fault> {
+    let message = MessageText::new(bytes_of(words.alloc, words.word()?)?.as_slice());
+    let mut values = Values::new(words.alloc);
+    if !words.rest.is_empty() {
+        set_value(words, &mut values)??;
     }
-    Ok(Answer {
+    Ok(Reply {
         panel: None,
         values,
         message,
@@ -107,77 +81,78 @@ fn read_answer(talk: &mut Talk<'_>) -> Result<Answer, Fault> {
     })
 }
 
-/// Does what a line says on a connection.
-fn take_on(host: &mut Host, conn: usize, word: &str, talk: &mut Talk<'_>) -> Result<(), Fault>
+fn take_on(
+    host: &mut Host,
+    conn: usize,
+    word: &str,
+    words: &mut Words<'_>,
+    answer: &mut Answer,
+) -> Done
     requires { conn < most_connections }
 {
     match word {
-        "open" if host.phase(conn) == Phase::Free => talk.done(host.open(conn))?,
-        "feed" => {
-            let bytes = talk.all_bytes()?;
-            talk.line(&host.feed(conn, bytes.as_slice()))?;
-        }
-        "act" => talk.line(&host.act(conn))?,
-        "note" => match NoteText::new(talk.bytes()?.as_slice()) {
-            Some(note) => talk.line(&host.note(conn, note.text()))?,
-            None => return Err(Fault::Needs("a text for a note")),
+        "open" if host.phase(conn) == Phase::Free => answer.done(host.open(conn)),
+        "feed" => answer.line(&host.feed(conn, words.bytes()?.as_slice())),
+        "act" => answer.line(&host.act(conn)),
+        "note" => match NoteText::new(words.bytes()?.as_slice()) {
+            Some(note) => answer.line(&host.note(conn, note.text())),
+            None => Err(Fault::Line),
         },
         "answer" => {
-            let (session, turn) = (talk.number()?, talk.number()?);
-            let answer = read_answer(talk)?;
-            talk.line(&host.answer(conn, Ticket { session, turn }, &answer))?;
+            let (session, turn) = (words.number()?, words.number()?);
+            let ticket = Ticket { session, turn };
+            answer.line(&host.answer(conn, ticket, &read_reply(words)?))
         }
         "turn" => {
-            let mut link = Link::read_from(talk)?;
-            talk.line(&serve_turn(host, &mut link, conn))?;
-            writeln!(talk.answer, "{} {}", link.reads, link.writes)?;
-            talk.name("heard", link.heard.as_slice())?;
+            let mut link = Link::read_from(words)?;
+            answer.line(&serve_turn(host, &mut link, conn))?;
+            writeln!(answer.text, "{} {}", link.reads, link.writes)?;
+            answer.name("heard", link.heard.as_slice())
         }
-        "out" => talk.name("out", host.out(conn))?,
-        "sent" => host.sent(conn, talk.number::<usize>()?.min(host.out(conn).len())),
-        "closed" => talk.name("unsent", host.closed(conn).as_slice())?,
-        _ => return look(host, conn, word, talk),
+        "sent" => Ok(host.sent(conn, words.number::<usize>()?.min(host.out(conn).len()))),
+        "closed" => answer.name("unsent", host.closed(conn).as_slice()),
+        _ => look(host, conn, word, answer),
     }
-    Ok(())
 }
 
-/// Puts what a line asks for of a connection.
-fn look(host: &mut Host, conn: usize, word: &str, talk: &mut Talk<'_>) -> Result<(), Fault>
+fn put_dropped(answer: &mut Answer, host: &mut Host, conn: usize) -> Done
+    requires { conn < most_connections }
+{
+    match host.next_dropped_key(conn) {
+        Some(key) => answer.line(&Some(aid_byte(key.aid))),
+        None => answer.said(&"None"),
+    }
+}
+
+fn look(host: &mut Host, conn: usize, word: &str, answer: &mut Answer) -> Done
     requires { conn < most_connections }
 {
     match word {
-        "rejected" => put_rejection(talk, host.next_rejection(conn))?,
-        "dropped" => match host.next_dropped_key(conn) {
-            Some(key) => writeln!(talk.answer, "{:02X}", aid_byte(key.aid))?,
-            None => talk.none()?,
-        },
-        "broken" => match host.rule_break(conn) {
-            Some(broken) => writeln!(talk.answer, "{:?} {}", broken.rule, broken.cell)?,
-            None => talk.none()?,
-        },
+        "rejected" => answer.line(&host.next_rejection(conn).map(|it| (it.lu, it.reason))),
+        "dropped" => put_dropped(answer, host, conn),
+        "broken" => answer.line(&host.rule_break(conn)),
         "question" => match host.question(conn) {
-            Ok(Some(question)) => put_question(talk, host, &question)?,
-            Ok(None) => talk.none()?,
-            Err(fault) => talk.done(Err(fault))?,
+            Ok(Some(question)) => put_question(answer, host, &question),
+            Ok(None) => Ok(()),
+            Err(fault) => answer.done(Err(fault)),
         },
-        "state" => put_state(talk, host, conn)?,
-        "see" => put_all(talk, host, conn)?,
-        _ => return Err(Fault::Needs("a command for a host")),
+        "out" => answer.name("out", host.out(conn)),
+        "state" => put_state(answer, host, conn),
+        "see" => put_all(answer, host, conn),
+        _ => Err(Fault::Line),
     }
-    Ok(())
 }
 
 impl Made for Host {
-    fn new(talk: &mut Talk<'_>) -> Result<Host, Fault> {
-        let (terminals, panels, pool) = read_service(talk)?;
-        Ok(Host::serving(talk.alloc, terminals, panels, pool)?)
+    fn new(words: &mut Words<'_>) -> Result<Host, Fault> {
+        let (terminals, panels, pool) = read_service(words)?;
+        Ok(Host::serving(words.alloc, terminals, panels, pool)?)
     }
 
-    fn take(&mut self, word: &str, talk: &mut Talk<'_>) -> Result<(), Fault> {
-        if word == "restart" {
-            return Ok(self.restart());
+    fn take(&mut self, word: &str, words: &mut Words<'_>, answer: &mut Answer) -> Done {
+        match word {
+            "restart" => Ok(self.restart()),
+            _ => take_on(self, words.index(MOST_CONNECTIONS)?, word, words, answer),
         }
-        let conn = read_conn(talk)?;
-        take_on(self, conn, word, talk)
     }
 }

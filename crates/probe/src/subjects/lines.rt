@@ -1,44 +1,52 @@
-//! What lines ask for. Each text is one word of bytes, in UTF-8.
+//! What lines ask for, what is wrong with panel texts, and what is printed. Each text is one word of bytes, in UTF-8.
 //!
 //! ```text
 //! words TEXT       the job of a command line, whose words are between blanks, by Debug
-//! script TEXT      the command of a line of a script
-//! terminal TEXT    the command of a line of a terminal's script
-//! typed TEXT       the text that a line types
+//! check TEXT       the report of panel_check on a panel text, and what the readers answer
+//! faults           faults of which the system gives few
 //! ```
 use crate::subjects::Subject;
-use crate::talk::{Fault, Talk, text_of};
+use crate::talk::{Answer, Done, Fault, Put, Words, text_of};
+use applications::{Absence, AnswerFault, ApplicationFault, application_of};
 use cli::words;
+use job_streams::{FileFault, LiveFault};
+use panel_check::check;
 use scripts::{ScriptCommand, typed_text};
-use std::alloc::AllocError;
+use std::alloc::Global;
+use std::io::ErrorKind;
+use std::net::{Ipv4Addr, SocketAddr};
 use terminal_lines::TerminalCommand;
+use tn3270e_msg::Cause;
 use world3270::Event;
 
 #[derive(Drop)]
 pub(crate) struct Lines;
 
-fn put_words(talk: &mut Talk<'_>, text: &str) -> Result<(), AllocError> {
-    let mut given = Vec::new(talk.alloc);
+fn put_words(alloc: Global, answer: &mut Answer, text: &str) -> Done {
+    let mut given = Vec::new(alloc);
     for word in text.split_whitespace() {
-        given.push(String::from_str(talk.alloc, word)?)?;
+        given.push(String::from_str(alloc, word)?)?;
     }
-    match words(talk.alloc, given.as_slice()) {
-        Ok(job) => talk.line(&job),
-        Err(fault) => talk.line(&fault),
+    answer.line(&words(alloc, given.as_slice()))
+}
+
+fn put_report(alloc: Global, answer: &mut Answer, text: &str) -> Done {
+    let report = check(alloc, text)?;
+    answer.line(&(report.faults(), report.agrees))?;
+    answer.page(report.page(alloc, "text"))?;
+    match application_of(alloc, text) {
+        Ok(_) => answer.said(&"readers accept"),
+        Err(fault) => Ok(writeln!(answer.text, "readers refuse {fault}")?),
     }
 }
 
-fn put_event(talk: &mut Talk<'_>, event: &Event) -> Result<(), AllocError> {
-    let answer = &mut *talk.answer;
+fn put_event(answer: &mut String, event: &Event) -> Put {
     match event {
         Event::Key(terminal, key) => writeln!(answer, "key {terminal} {key}"),
         Event::Up(conn, count) => writeln!(answer, "up {conn} {count}"),
         Event::Down(conn, count) => writeln!(answer, "down {conn} {count}"),
         Event::Act(conn) => writeln!(answer, "act {conn}"),
-        Event::Note(conn, note) => {
-            write!(answer, "note {conn} ")?;
-            talk.name("text", note.text())
-        }
+        Event::Note(conn, note) => writeln!(answer, "note {conn} {:?}", note.text()),
         Event::Lose(conn) => writeln!(answer, "lose {conn}"),
         Event::HostSees(conn) => writeln!(answer, "hostsees {conn}"),
         Event::TermSees(terminal) => writeln!(answer, "termsees {terminal}"),
@@ -50,45 +58,57 @@ fn put_event(talk: &mut Talk<'_>, event: &Event) -> Result<(), AllocError> {
     }
 }
 
-fn put_script(talk: &mut Talk<'_>, line: &str) -> Result<(), AllocError> {
+fn put_script(answer: &mut String, line: &str) -> Put {
     match ScriptCommand::read(line) {
-        None => writeln!(talk.answer, "not understood"),
-        Some(ScriptCommand::Nothing) => writeln!(talk.answer, "nothing"),
-        Some(ScriptCommand::Happen(event)) => put_event(talk, &event),
-        Some(ScriptCommand::TypeText(terminal)) => writeln!(talk.answer, "type {terminal}"),
-        Some(ScriptCommand::Answer(conn)) => writeln!(talk.answer, "answer {conn}"),
-        Some(ScriptCommand::Settle) => writeln!(talk.answer, "settle"),
-        Some(ScriptCommand::Show(terminal)) => writeln!(talk.answer, "show {terminal}"),
-        Some(ScriptCommand::Status(terminal)) => writeln!(talk.answer, "status {terminal}"),
-        Some(ScriptCommand::Question(conn)) => writeln!(talk.answer, "question {conn}"),
+        None => writeln!(answer, "not understood"),
+        Some(ScriptCommand::Nothing) => writeln!(answer, "nothing"),
+        Some(ScriptCommand::Happen(event)) => put_event(answer, &event),
+        Some(ScriptCommand::TypeText(terminal)) => writeln!(answer, "type {terminal}"),
+        Some(ScriptCommand::Answer(conn)) => writeln!(answer, "answer {conn}"),
+        Some(ScriptCommand::Settle) => writeln!(answer, "settle"),
+        Some(ScriptCommand::Show(terminal)) => writeln!(answer, "show {terminal}"),
+        Some(ScriptCommand::Status(terminal)) => writeln!(answer, "status {terminal}"),
+        Some(ScriptCommand::Question(conn)) => writeln!(answer, "question {conn}"),
     }
 }
 
-fn put_terminal(talk: &mut Talk<'_>, line: &str) -> Result<(), AllocError> {
-    let word = match TerminalCommand::read(line) {
-        None => "not understood",
-        Some(TerminalCommand::Nothing) => "nothing",
-        Some(TerminalCommand::TypeText) => "type",
-        Some(TerminalCommand::Press(key)) => return writeln!(talk.answer, "key {key}"),
-        Some(TerminalCommand::Wait) => "wait",
-        Some(TerminalCommand::Show) => "show",
-        Some(TerminalCommand::Status) => "status",
-    };
-    writeln!(talk.answer, "{word}")
+fn put_faults(alloc: Global, answer: &mut Answer) -> Done {
+    use job_streams::Fault;
+    // An address for documentation (RFC 5737).
+    let peer = SocketAddr::from((Ipv4Addr::new(192, 0, 2, 1), 3270));
+    answer.said(&Fault::SocketFailed)?;
+    answer.said(&Fault::NotRandom)?;
+    answer.said(&LiveFault::Closed(Cause::Wire))?;
+    for kind in [ErrorKind::PermissionDenied, ErrorKind::InvalidInput] {
+        answer.said(&Fault::CannotListen(peer, kind))?;
+    }
+    for kind in [ErrorKind::TimedOut, ErrorKind::PermissionDenied] {
+        answer.said(&LiveFault::CannotConnect(peer, kind))?;
+    }
+    for why in [ErrorKind::PermissionDenied, ErrorKind::InvalidFilename] {
+        answer.said(&FileFault {
+            name: "a.toml",
+            why,
+        })?;
+    }
+    let name = String::from_str(alloc, "a\"b\\c\n")?;
+    answer.said(&ApplicationFault::Answer(AnswerFault::UnknownField(name)))?;
+    answer.said(&ApplicationFault::Absent(Absence::NoMemory))?;
+    answer.said(&ApplicationFault::Answer(AnswerFault::Memory))
 }
 
 impl Subject for Lines {
-    fn take(&mut self, talk: &mut Talk<'_>) -> Result<(), Fault> {
-        let kind = talk.word()?;
-        let bytes = talk.bytes()?;
+    fn take(&mut self, words: &mut Words<'_>, answer: &mut Answer) -> Done {
+        let (kind, bytes) = (words.word()?, words.bytes()?);
         let text = text_of(bytes.as_slice())?;
         match kind {
-            "words" => put_words(talk, text)?,
-            "script" => put_script(talk, text)?,
-            "terminal" => put_terminal(talk, text)?,
-            "typed" => writeln!(talk.answer, "{}", typed_text(text))?,
-            _ => return Err(Fault::Needs("words, script, terminal or typed")),
+            "words" => put_words(words.alloc, answer, text),
+            "script" => Ok(put_script(&mut answer.text, text)?),
+            "terminal" => answer.line(&TerminalCommand::read(text)),
+            "typed" => answer.said(&typed_text(text)),
+            "check" => put_report(words.alloc, answer, text),
+            "faults" => put_faults(words.alloc, answer),
+            _ => Err(Fault::Line),
         }
-        Ok(())
     }
 }

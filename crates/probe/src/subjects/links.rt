@@ -1,12 +1,10 @@
 //! The connection of a turn, in memory: what its reads give, and what its writes take.
-ghost use Rattle.std.specs.Prelude.{◌≡◌, ◌≤◌, ⊤, length};
-ghost use Rattle.host_core.specs.Serves.{ReadCounts, WriteCounts};
-ghost use Rattle.probe.specs.Counts.{Raises, count_at};
+ghost use Rattle.std.specs.Prelude.{⊤, ◌≡◌, false, true, slice_index_or};
+ghost use Rattle.host_core.specs.Serves.{ReadCounts, Rises, WriteCounts};
 
-use crate::talk::{Fault, Talk, bytes_of};
+use crate::talk::{Fault, Words, bytes_of};
 use host_core::{LinkRead, LinkWrite, Links};
 
-/// A connection, what was written to it, and how often it was read and written; and how often the connections 0 and 1 ended and failed.
 #[derive(Drop)]
 pub(crate) struct Link {
     read: LinkRead,
@@ -21,26 +19,26 @@ pub(crate) struct Link {
 
 /// Raises the count of a connection, but at its last value. Says whether it did.
 fn raise(counts: &mut [u64; 2], conn: usize) -> bool
-    ensures { Raises conn result counts.old counts.new }
+    ensures raised { result ≡ true → Rises conn (λ it. slice_index_or counts.old it 0) (λ it. slice_index_or counts.new it 0) }
+    ensures not { result ≡ false → counts.new ≡ counts.old }
 {
-    if conn < counts.len() && counts[conn] < u64::MAX {
+    let can = conn < counts.len() && counts[conn] < u64::MAX;
+    if can {
         counts[conn] += 1;
-        true
-    } else {
-        false
     }
+    can
 }
 
 impl Link {
-    /// The connection that the words TAKES GIVES say: how many bytes a write takes, `-` for none this time, or `fails`; and the bytes
-    /// that a read gives, `-` for none this time, `ends` or `fails`.
-    pub(crate) fn read_from(talk: &mut Talk<'_>) -> Result<Link, Fault> {
-        let write = match talk.word()? {
+    /// The connection that the words TAKES GIVES say: how many bytes a write takes, `-` for none this time, or `fails`;
+    /// and the bytes that a read gives, `-` for none this time, `ends` or `fails`.
+    pub(crate) fn read_from(words: &mut Words<'_>) -> Result<Link, Fault> {
+        let write = match words.word()? {
             "fails" => LinkWrite::Failed,
             "-" => LinkWrite::NotNow,
             word => LinkWrite::Took(word.parse().unwrap_or(0)),
         };
-        let (read, said) = match talk.word()? {
+        let (read, said) = match words.word()? {
             "ends" => (LinkRead::Ended, "-"),
             "fails" => (LinkRead::Failed, "-"),
             "-" => (LinkRead::NotNow, "-"),
@@ -49,29 +47,20 @@ impl Link {
         Ok(Link {
             read,
             write,
-            said: bytes_of(talk.alloc, said)?,
-            heard: Vec::new(talk.alloc),
+            said: bytes_of(words.alloc, said)?,
+            heard: Vec::new(words.alloc),
             reads: 0,
             writes: 0,
             ends: [0; 2],
             failures: [0; 2],
         })
     }
-
-    /// Puts what was said into the buffer.
-    fn give(&self, buffer: &mut [u8]) -> usize
-        ensures { result ≤ length buffer.new }
-    {
-        let count = self.said.len().min(buffer.len());
-        buffer[..count].copy_from_slice(&self.said.as_slice()[..count]);
-        count
-    }
 }
 
 impl Links for Link {
-    ghost ends = { λ link. count_at link.ends };
+    ghost ends = { λ link conn. slice_index_or link.ends conn 0 };
 
-    ghost failures = { λ link. count_at link.failures };
+    ghost failures = { λ link conn. slice_index_or link.failures conn 0 };
 
     ghost gave = { λ before conn room bytes answer after. ⊤ };
 
@@ -80,7 +69,11 @@ impl Links for Link {
     fn read(&mut self, conn: usize, buffer: &mut [u8]) -> LinkRead {
         self.reads = self.reads.saturating_add(1);
         match self.read {
-            LinkRead::Got(_) => LinkRead::Got(self.give(buffer)),
+            LinkRead::Got(_) => {
+                let count = self.said.len().min(buffer.len());
+                buffer[..count].copy_from_slice(&self.said.as_slice()[..count]);
+                LinkRead::Got(count)
+            }
             LinkRead::Ended if raise(&mut self.ends, conn) => LinkRead::Ended,
             LinkRead::Failed if raise(&mut self.failures, conn) => LinkRead::Failed,
             _ => LinkRead::NotNow,

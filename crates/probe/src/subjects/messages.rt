@@ -1,44 +1,25 @@
-//! Calls of tn3270e_msg: those without state, and the talks of a host and a terminal.
+//! Calls of tn3270e_msg: those without state, and the talks of a host and a terminal. What they answer is printed by
+//! Debug, and faults, reasons and causes as they are printed.
 //!
 //! ```text
-//! header BYTES            `read_header`, with the bytes that `header_bytes` answers for it
-//! sub BYTES               `read_sub`, with what `put_sub_message` puts into the cleared vector for it
-//! put BYTES               it appends to the vector
-//! next NUMBER             `next_seq`
-//! lu BYTES                `Lu::read`
-//! device BYTES            `Device::read`, its text and model, and whether BYTES are its text
-//! device-of MODEL         the text of the device of a model
-//! reason BYTE             its name, and how it is printed
-//! causes                  each cause by its number and name, and how it is printed
-//! constants
-//! host                    a new host's talk, and its offer
-//! hears ITEM              it takes an item: what it sends, its reply, and its state
-//! granted BYTES           its pool grants this LU, likewise
-//! refused BYTE            its pool grants none, for this reason
-//! told                    what the talk's getters answer
-//! terminal MODEL BYTES    a new terminal's talk, which wants this LU, or any if there are no bytes
-//! takes ITEM              it takes an item, as above
-//! is                      what its getters answer
+//! host; terminal MODEL BYTES  a new talk of that end; the terminal wants this LU, or any if there are no bytes
+//! told; is                    what the getters of the host's talk answer, or of the terminal's
+//! hears ITEM; takes ITEM      the host, or the terminal, takes `record BYTES`, `sub BYTES`, `other BYTE`, `VERB BYTE`
+//! granted BYTES; refused BYTE the host's pool grants this LU, or none, for this reason
 //! ```
-//!
-//! An ITEM is `record BYTES`, `sub BYTES`, `other BYTE`, or `VERB BYTE`.
-ghost use Rattle.tn3270e_msg.specs.Header.{IsHeader};
-ghost use Rattle.tn3270e_msg.specs.Lent.{message_of};
-ghost use Rattle.tn3270e_msg.specs.Message.{IsMessage};
-
 use crate::subjects::Subject;
-use crate::subjects::wire::verb_named;
-use crate::talk::{Fault, Talk, put_hex, put_named};
+use crate::subjects::wire::VERBS;
+use crate::talk::{Answer, Done, Fault, Words, named};
 use codes3270::Model;
-use std::alloc::AllocError;
+use std::alloc::Global;
+use std::fmt::Debug;
 use telnet_wire::Item;
 use tn3270e_msg::{
-    ALWAYS_RESPONSE, Cause, Device, ERROR_RESPONSE, HEADER_LENGTH, Header, HostTalk, Lu, NEGATIVE,
-    NO_RESPONSE, POSITIVE, RECORD_LIMIT, REPLY_ROOM, Reason, Reply, SubMessage, TermTalk,
-    header_bytes, next_seq, put_reply, put_sub_message, read_header, read_sub,
+    ALWAYS_RESPONSE, Cause, Device, ERROR_RESPONSE, HEADER_LENGTH, HostTalk, Lu, NEGATIVE,
+    NO_RESPONSE, POSITIVE, RECORD_LIMIT, REPLY_ROOM, Reason, Reply, TermTalk, header_bytes,
+    next_seq, put_reply, put_sub_message, read_header, read_sub,
 };
 
-/// A talk of each end.
 #[derive(Drop)]
 pub(crate) struct Messages {
     host: HostTalk,
@@ -58,97 +39,67 @@ static CAUSES: [Cause; 10] = [
     Cause::RuleBroken,
 ];
 
-fn put_constants(answer: &mut String) -> Result<(), AllocError> {
-    writeln!(answer, "{NO_RESPONSE} {ERROR_RESPONSE} {ALWAYS_RESPONSE}")?;
-    writeln!(answer, "{POSITIVE} {NEGATIVE}")?;
-    writeln!(answer, "{HEADER_LENGTH} {RECORD_LIMIT} {REPLY_ROOM}")
+fn put_device(answer: &mut Answer, device: Option<Device>, text: &[u8]) -> Done {
+    answer.line(&device.map(|it| (it.text(), it.model(), it.has_text(text))))
 }
 
-fn put_header(talk: &mut Talk<'_>, header: &Header, body: &[u8]) -> Result<(), AllocError>
-    requires { IsHeader header.now }
-{
-    talk.line(header)?;
-    talk.name("bytes", &header_bytes(header))?;
-    talk.name("body", body)
-}
-
-fn put_sub(talk: &mut Talk<'_>, message: &SubMessage<'_>) -> Result<(), AllocError>
-    requires { IsMessage (message_of message.now) }
-{
-    talk.line(message)?;
-    talk.out.clear();
-    put_sub_message(talk.out, message)?;
-    put_named(talk.answer, "bytes", talk.out.as_slice())
-}
-
-fn put_device(talk: &mut Talk<'_>, device: Device, text: &[u8]) -> Result<(), AllocError> {
-    put_hex(talk.answer, device.text())?;
-    writeln!(
-        talk.answer,
-        " {:?} {}",
-        device.model(),
-        device.has_text(text)
-    )
-}
-
-fn item_of<'a>(word: &str, bytes: &'a [u8]) -> Result<Item<'a>, Fault> {
+fn item_of<'a>(alloc: Global, word: &str, bytes: &'a [u8]) -> Result<Item<'a>, Fault> {
     match (word, bytes) {
         ("record", _) => Ok(Item::Record(bytes)),
         ("sub", _) => Ok(Item::Sub(bytes)),
         ("other", [code]) => Ok(Item::Other(*code)),
         (_, [code]) => {
-            let verb = verb_named(word)?;
+            let verb = named(alloc, &VERBS, word)?;
             Ok(Item::Opt { verb, code: *code })
         }
-        _ => Err(Fault::Needs("one byte")),
+        _ => Err(Fault::Line),
     }
 }
 
-/// Puts what a reply sends, the reply, and the cause if it closes the connection.
-fn put_whole_reply(talk: &mut Talk<'_>, reply: &Reply) -> Result<(), AllocError> {
-    let mut out = Vec::with_capacity(talk.alloc, REPLY_ROOM)?;
+fn put_after<S: Debug>(words: &Words<'_>, answer: &mut Answer, reply: &Reply, state: &S) -> Done {
+    let mut out = Vec::with_capacity(words.alloc, REPLY_ROOM)?;
     let cause = put_reply(&mut out, reply);
-    put_hex(talk.answer, out.as_slice())?;
-    writeln!(talk.answer, "\n{reply:?}")?;
-    match cause {
-        Some(cause) => writeln!(talk.answer, "closes {cause}"),
-        None => Ok(()),
-    }
+    let sent = out.as_slice();
+    Ok(writeln!(answer.text, "({sent:?}, {reply:?}, {cause:?}, {state:?})")?)
 }
 
-/// Does a command on bytes.
-fn take_bytes(talk: &mut Talk<'_>, word: &str) -> Result<(), Fault> {
-    let bytes = talk.all_bytes()?;
-    match word {
-        "header" => match read_header(bytes.as_slice()) {
-            Ok((header, body)) => put_header(talk, &header, body)?,
-            Err(fault) => writeln!(talk.answer, "{fault}")?,
-        },
-        "sub" => match read_sub(bytes.as_slice()) {
-            Ok(message) => put_sub(talk, &message)?,
-            Err(fault) => writeln!(talk.answer, "{fault}")?,
-        },
-        "put" => match read_sub(bytes.as_slice()) {
-            Ok(message) => {
-                let called = put_sub_message(talk.out, &message);
-                talk.done(called)?;
-            }
-            Err(_) => return Err(Fault::Needs("a message")),
-        },
-        "lu" => match Lu::read(bytes.as_slice()) {
-            Some(lu) => {
-                talk.name("bytes", lu.as_bytes())?;
-                writeln!(talk.answer, "{lu}")?;
-            }
-            None => talk.none()?,
-        },
-        "device" => match Device::read(bytes.as_slice()) {
-            Some(device) => put_device(talk, device, bytes.as_slice())?,
-            None => talk.none()?,
-        },
-        _ => return Err(Fault::Needs("a command of messages")),
+fn read_lu(words: &mut Words<'_>) -> Result<Option<Lu>, Fault> {
+    let name = words.bytes()?;
+    let lu = Lu::read(name.as_slice());
+    if lu.is_none() && !name.is_empty() {
+        return Err(Fault::Line);
     }
-    Ok(())
+    Ok(lu)
+}
+
+fn take_bytes(word: &str, bytes: &[u8], answer: &mut Answer) -> Done {
+    match (word, read_sub(bytes)) {
+        ("header", _) => {
+            let read = read_header(bytes);
+            answer.called(&read)?;
+            match &read {
+                Ok((header, _)) => answer.line(&header_bytes(header)),
+                Err(_) => Ok(()),
+            }
+        }
+        ("sub", Ok(message)) => {
+            answer.line(&message)?;
+            answer.out.clear();
+            put_sub_message(&mut answer.out, &message)?;
+            Ok(writeln!(answer.text, "{:?}", answer.out.as_slice())?)
+        }
+        ("sub", Err(fault)) => answer.said(&fault),
+        ("put", Ok(message)) => {
+            let called = put_sub_message(&mut answer.out, &message);
+            answer.done(called)
+        }
+        ("lu", _) => match Lu::read(bytes) {
+            Some(lu) => Ok(writeln!(answer.text, "{lu} {:?}", lu.as_bytes())?),
+            None => Ok(()),
+        },
+        ("device", _) => put_device(answer, Device::read(bytes), bytes),
+        _ => Err(Fault::Line),
+    }
 }
 
 impl Messages {
@@ -159,118 +110,76 @@ impl Messages {
         }
     }
 
-    fn put_host_reply(&self, talk: &mut Talk<'_>, reply: &Reply) -> Result<(), AllocError> {
-        put_whole_reply(talk, reply)?;
-        writeln!(talk.answer, "{:?}", self.host.state())
-    }
-
-    fn answer_host(&mut self, talk: &mut Talk<'_>, lu: Result<Lu, Reason>) -> Result<(), Fault> {
+    fn answered(&mut self, words: &mut Words<'_>, answer: &mut Answer, is_granted: bool) -> Done {
+        let lu = match is_granted {
+            true => Ok(read_lu(words)?.ok_or(Fault::Line)?),
+            false => Err(Reason(words.byte()?)),
+        };
         if !self.host.asking() {
-            return Err(Fault::Needs("a host that asks its pool"));
+            return Err(Fault::Line);
         }
         let reply = self.host.answered(lu);
-        Ok(self.put_host_reply(talk, &reply)?)
+        put_after(words, answer, &reply, &self.host.state())
     }
 
-    fn put_host(&self, talk: &mut Talk<'_>) -> Result<(), AllocError> {
-        let host = &self.host;
-        writeln!(talk.answer, "asking {}\nlu {:?}", host.asking(), host.lu())?;
-        writeln!(
-            talk.answer,
-            "agreed {} {:?}",
-            host.is_agreed(),
-            host.agreed_lu()
-        )?;
-        writeln!(
-            talk.answer,
-            "device {:?}\nmodel {:?}",
-            host.device(),
-            host.model()
-        )
-    }
-
-    fn put_terminal(&self, talk: &mut Talk<'_>) -> Result<(), AllocError> {
-        let terminal = &self.terminal;
-        writeln!(talk.answer, "lu {:?}", terminal.lu())?;
-        writeln!(
-            talk.answer,
-            "agreed {} {:?}",
-            terminal.is_agreed(),
-            terminal.agreed_lu()
-        )?;
-        writeln!(talk.answer, "refused {:?}", terminal.reason_refused())
-    }
-
-    /// Does a command on the talks.
-    fn take_talk(&mut self, talk: &mut Talk<'_>, word: &str) -> Result<(), Fault> {
-        match word {
-            "hears" => {
-                let word = talk.word()?;
-                let bytes = talk.all_bytes()?;
-                let reply = self.host.take(&item_of(word, bytes.as_slice())?);
-                self.put_host_reply(talk, &reply)?;
-            }
-            "granted" => match Lu::read(talk.bytes()?.as_slice()) {
-                Some(lu) => self.answer_host(talk, Ok(lu))?,
-                None => return Err(Fault::Needs("the name of an LU")),
-            },
-            "refused" => {
-                let reason = Reason(talk.byte()?);
-                self.answer_host(talk, Err(reason))?;
-            }
-            "terminal" => {
-                let model = talk.model()?;
-                let name = talk.all_bytes()?;
-                let wanted = Lu::read(name.as_slice());
-                if wanted.is_none() && !name.is_empty() {
-                    return Err(Fault::Needs("the name of an LU"));
-                }
-                self.terminal = TermTalk::new(model, wanted);
-            }
-            "takes" => {
-                let word = talk.word()?;
-                let bytes = talk.all_bytes()?;
-                let reply = self.terminal.take(&item_of(word, bytes.as_slice())?);
-                put_whole_reply(talk, &reply)?;
-                writeln!(talk.answer, "{:?}", self.terminal.state())?;
-            }
-            _ => return take_bytes(talk, word),
+    fn take_item(&mut self, words: &mut Words<'_>, answer: &mut Answer, is_host: bool) -> Done {
+        let (word, bytes) = (words.word()?, words.bytes()?);
+        let item = item_of(words.alloc, word, bytes.as_slice())?;
+        if is_host {
+            let reply = self.host.take(&item);
+            return put_after(words, answer, &reply, &self.host.state());
         }
-        Ok(())
+        let reply = self.terminal.take(&item);
+        put_after(words, answer, &reply, &self.terminal.state())
+    }
+
+    fn take_talk(&mut self, word: &str, words: &mut Words<'_>, answer: &mut Answer) -> Done {
+        let (host, terminal) = (&self.host, &self.terminal);
+        match word {
+            "hears" => self.take_item(words, answer, true),
+            "takes" => self.take_item(words, answer, false),
+            "granted" => self.answered(words, answer, true),
+            "refused" => self.answered(words, answer, false),
+            "host" => {
+                self.host = HostTalk::new();
+                let mut out = Vec::new(words.alloc);
+                HostTalk::put_offer(&mut out)?;
+                answer.line(&out.as_slice())
+            }
+            "told" => {
+                let (agreed, lu) = ((host.is_agreed(), host.agreed_lu()), host.lu());
+                answer.line(&(host.asking(), lu, agreed, host.device(), host.model()))
+            }
+            "terminal" => Ok(self.terminal = TermTalk::new(words.model()?, read_lu(words)?)),
+            "is" => {
+                let agreed = (terminal.is_agreed(), terminal.agreed_lu());
+                answer.line(&(terminal.lu(), agreed, terminal.reason_refused()))
+            }
+            _ => take_bytes(word, words.bytes()?.as_slice(), answer),
+        }
     }
 }
 
 impl Subject for Messages {
-    fn take(&mut self, talk: &mut Talk<'_>) -> Result<(), Fault> {
-        match talk.word()? {
-            "next" => {
-                let next = next_seq(talk.number()?);
-                talk.line(&next)?;
-            }
+    fn take(&mut self, words: &mut Words<'_>, answer: &mut Answer) -> Done {
+        match words.word()? {
+            "next" => answer.line(&next_seq(words.number()?)),
             "device-of" => {
-                let device = Device::of(talk.model()?);
-                put_device(talk, device, device.text())?;
+                let device = Device::of(words.model()?);
+                put_device(answer, Some(device), device.text())
             }
             "reason" => {
-                let reason = Reason(talk.byte()?);
-                writeln!(talk.answer, "{} {reason}", reason.name().unwrap_or("-"))?;
+                let reason = Reason(words.byte()?);
+                Ok(writeln!(answer.text, "{} {reason}", reason.name().unwrap_or("-"))?)
             }
-            "causes" => {
-                for cause in &CAUSES {
-                    writeln!(talk.answer, "{} {} {cause}", cause.number(), cause.name())?;
-                }
+            "causes" => Ok(for cause in &CAUSES {
+                writeln!(answer.text, "{} {} {cause}", cause.number(), cause.name())?;
+            }),
+            "constants" => {
+                answer.line(&(NO_RESPONSE, ERROR_RESPONSE, ALWAYS_RESPONSE))?;
+                answer.line(&(POSITIVE, NEGATIVE, HEADER_LENGTH, RECORD_LIMIT, REPLY_ROOM))
             }
-            "constants" => put_constants(talk.answer)?,
-            "host" => {
-                self.host = HostTalk::new();
-                let mut out = Vec::new(talk.alloc);
-                HostTalk::put_offer(&mut out)?;
-                talk.name("offer", out.as_slice())?;
-            }
-            "told" => self.put_host(talk)?,
-            "is" => self.put_terminal(talk)?,
-            word => self.take_talk(talk, word)?,
+            word => self.take_talk(word, words, answer),
         }
-        Ok(())
     }
 }

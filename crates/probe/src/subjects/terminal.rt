@@ -1,99 +1,69 @@
-//! A terminal: term_core's `Terminal`. What calls answer is printed by Debug.
-//!
-//! ```text
-//! new MODEL          a terminal of this model, 2 to 5: done, or memory
-//! connected [LU]     a connection begins, on which it asks for this LU, if one
-//! feed BYTES
-//! key NAME; type TEXT    presses a key by its name, or the key of each character
-//! out; sent N; lost; restart
-//! state              phase, lock, the screen's size, cursor and AID, insert mode, and whether the last byte completed a write
-//! see                all of this, the output, and the cells
-//! text; lines        the screen as text, with and without the line below it
-//! ```
-use crate::subjects::cells::{put_cells, put_screen};
-use crate::subjects::made::Made;
-use crate::talk::{Fault, Talk};
+//! A terminal: term_core's `Terminal`. `connected` has the LU that it asks for, if one; `lines` are those of `text`
+//! without the one below the screen; `see` shows all that is to be seen; a refusal has its number and its name.
+use crate::subjects::Made;
+use crate::subjects::cells::{key, put_cells};
+use crate::talk::{Answer, Done, Fault, Words};
 use codes3270::aid_byte;
 use keyboard::{Key, Pressed};
-use std::alloc::AllocError;
 use term_core::{TermPhase, Terminal, screen_lines};
 use tn3270e_msg::Lu;
 
-fn connect(terminal: &mut Terminal, name: &str) -> Result<(), Fault> {
+fn connect(terminal: &mut Terminal, name: &str) -> Done {
     match (Lu::read(name.as_bytes()), terminal.phase()) {
-        (None, _) if !name.is_empty() => Err(Fault::Needs("an LU's name")),
+        (None, _) if !name.is_empty() => Err(Fault::Line),
         (wanted, TermPhase::Idle) => Ok(terminal.connected(wanted)),
-        _ => Err(Fault::Needs("a terminal that isn't attached")),
+        _ => Err(Fault::Line),
     }
 }
 
-fn press(talk: &mut Talk<'_>, terminal: &mut Terminal, key: Key) -> Result<(), AllocError> {
+fn press(answer: &mut Answer, terminal: &mut Terminal, key: Key) -> Done {
     match terminal.press(key) {
-        Ok(Pressed::Done) => talk.done(Ok(())),
-        Ok(Pressed::Refused(refusal)) => writeln!(talk.answer, "refused {refusal}"),
-        Ok(Pressed::Send(aid)) => writeln!(talk.answer, "sends {:02X}", aid_byte(aid)),
-        Err(fault) => talk.done(Err(fault)),
+        Ok(Pressed::Refused(it)) => Ok(writeln!(answer.text, "refused {} {it}", it.number())?),
+        Ok(Pressed::Send(aid)) => Ok(writeln!(answer.text, "sends {:02X}", aid_byte(aid))?),
+        Ok(Pressed::Done) => answer.done(Ok(())),
+        Err(fault) => answer.done(Err(fault)),
     }
 }
 
-/// Puts how far a terminal is with its host, and its screen without the cells.
-fn put_state(talk: &mut Talk<'_>, terminal: &Terminal) -> Result<(), AllocError> {
-    let (phase, lock) = (terminal.phase(), terminal.lock());
-    writeln!(talk.answer, "phase {phase}\nlock {lock}")?;
-    put_screen(talk.answer, terminal.screen())?;
-    writeln!(talk.answer, "inserting {}", terminal.keyboard().inserting())?;
-    writeln!(talk.answer, "took-write {}", terminal.took_write())
+fn put_state(answer: &mut Answer, terminal: &Terminal) -> Done {
+    let (phase, lock, screen) = (terminal.phase(), terminal.lock(), terminal.screen());
+    let size = screen.size();
+    writeln!(answer.text, "phase {phase}\nlock {lock}\nsize {size:?}")?;
+    let (cursor, aid) = (screen.cursor().get(), aid_byte(screen.aid()));
+    writeln!(answer.text, "cursor {cursor}\naid {aid:02X}")?;
+    let (inserting, took_write) = (terminal.keyboard().inserting(), terminal.took_write());
+    writeln!(answer.text, "inserting {inserting}")?;
+    Ok(writeln!(answer.text, "took-write {took_write}")?)
 }
 
-/// Puts all that is to be seen of a terminal.
-pub(crate) fn put_all(talk: &mut Talk<'_>, terminal: &Terminal) -> Result<(), AllocError> {
-    put_state(talk, terminal)?;
-    talk.name("out", terminal.out())?;
-    put_cells(talk.answer, terminal.screen())
-}
-
-/// Puts a text, if there was memory for it.
-pub(crate) fn put_page(
-    talk: &mut Talk<'_>,
-    page: Result<String, AllocError>,
-) -> Result<(), AllocError> {
-    match page {
-        Ok(text) => talk.text(text.as_str()),
-        Err(fault) => talk.done(Err(fault)),
-    }
+pub(crate) fn put_all(answer: &mut Answer, terminal: &Terminal) -> Done {
+    put_state(answer, terminal)?;
+    answer.name("out", terminal.out())?;
+    put_cells(answer, terminal.screen())
 }
 
 impl Made for Terminal {
-    fn new(talk: &mut Talk<'_>) -> Result<Terminal, Fault> {
-        Ok(Terminal::new(talk.alloc, talk.model()?)?)
+    fn new(words: &mut Words<'_>) -> Result<Terminal, Fault> {
+        Ok(Terminal::new(words.alloc, words.model()?)?)
     }
 
-    fn take(&mut self, word: &str, talk: &mut Talk<'_>) -> Result<(), Fault> {
+    fn take(&mut self, word: &str, words: &mut Words<'_>, answer: &mut Answer) -> Done {
         match word {
-            "connected" => connect(self, talk.rest())?,
-            "feed" => {
-                let bytes = talk.all_bytes()?;
-                talk.line(&self.feed(bytes.as_slice()))?;
-            }
-            "key" => match Key::named(talk.word()?) {
-                Some(key) => press(talk, self, key)?,
-                None => return Err(Fault::Needs("a key")),
-            },
-            "type" => {
-                for letter in talk.rest().chars() {
-                    press(talk, self, Key::Char(letter))?;
-                }
-            }
-            "sent" => self.sent(talk.number::<usize>()?.min(self.out().len())),
-            "lost" => talk.name("unsent", self.lost().as_slice())?,
-            "restart" => self.restart(),
-            "out" => talk.name("out", self.out())?,
-            "state" => put_state(talk, self)?,
-            "see" => put_all(talk, self)?,
-            "text" => put_page(talk, self.screen_text(talk.alloc))?,
-            "lines" => put_page(talk, screen_lines(talk.alloc, self.screen()))?,
-            _ => return Err(Fault::Needs("a command for a terminal")),
+            "connected" => connect(self, words.rest()),
+            "feed" => answer.line(&self.feed(words.bytes()?.as_slice())),
+            "key" => press(answer, self, key(words)?),
+            "type" => Ok(for letter in words.rest().chars() {
+                press(answer, self, Key::Char(letter))?;
+            }),
+            "sent" => Ok(self.sent(words.number::<usize>()?.min(self.out().len()))),
+            "lost" => answer.name("unsent", self.lost().as_slice()),
+            "restart" => Ok(self.restart()),
+            "out" => answer.name("out", self.out()),
+            "state" => put_state(answer, self),
+            "see" => put_all(answer, self),
+            "text" => answer.page(self.screen_text(words.alloc)),
+            "lines" => answer.page(screen_lines(words.alloc, self.screen())),
+            _ => Err(Fault::Line),
         }
-        Ok(())
     }
 }

@@ -1,135 +1,68 @@
 //! Calls of telnet_wire.
 //!
 //! ```text
-//! new LIMIT               a decoder for records of at most LIMIT bytes
-//! push BYTES              each byte by `push`: the place, from 1 on, of each that completes an item, or is refused
-//! feed BYTES              the same, but what `push_data` takes is taken at once
-//! data BYTES              one `push_data`: how many bytes it takes
-//! reset
-//! record BYTES; option VERB BYTE; sub BYTES; parts BYTES BYTES ..    `put_record` and so on
+//! push BYTES     each byte by `push`: the place, from 1 on, of each that completes an item, or is refused
+//! feed BYTES     the same, but what `push_data` takes is taken at once; `data` calls that alone
 //! ```
 use crate::subjects::Subject;
-use crate::talk::{Fault, Talk, bytes_of};
-use std::alloc::{AllocError, Global};
-use telnet_wire::{Decoder, Item, Step, Verb, put_option, put_record, put_sub, put_sub_parts};
+use crate::talk::{Answer, Done, Fault, Put, Words, bytes_of};
+use telnet_wire::{Decoder, Step, Verb, put_option, put_record, put_sub, put_sub_parts};
 
-#[derive(Drop)]
-pub(crate) struct Wire {
-    decoder: Decoder,
-}
+pub(crate) static VERBS: [Verb; 4] = [Verb::Will, Verb::Wont, Verb::Do, Verb::Dont];
 
-pub(crate) fn verb_named(word: &str) -> Result<Verb, Fault> {
-    match word {
-        "Will" => Ok(Verb::Will),
-        "Wont" => Ok(Verb::Wont),
-        "Do" => Ok(Verb::Do),
-        "Dont" => Ok(Verb::Dont),
-        _ => Err(Fault::Needs("Will, Wont, Do or Dont")),
+fn put_parts(words: &mut Words<'_>, out: &mut Vec<u8>) -> Result<Put, Fault> {
+    let mut owned = Vec::new(words.alloc);
+    for word in words.rest().split_whitespace() {
+        owned.push(bytes_of(words.alloc, word)?)?;
     }
-}
-
-fn put_item(talk: &mut Talk<'_>, item: Item<'_>) -> Result<(), AllocError> {
-    match item {
-        Item::Record(data) => talk.name("record", data),
-        Item::Opt { verb, code } => writeln!(talk.answer, "option {verb:?} {code:02X}"),
-        Item::Sub(bytes) => talk.name("sub", bytes),
-        Item::Other(code) => writeln!(talk.answer, "other {code:02X}"),
-    }
-}
-
-fn put_parts(talk: &mut Talk<'_>) -> Result<(), Fault> {
-    let mut owned = Vec::new(talk.alloc);
-    for word in talk.rest().split_whitespace() {
-        owned.push(bytes_of(talk.alloc, word)?)?;
-    }
-    let mut parts = Vec::new(talk.alloc);
+    let mut parts = Vec::new(words.alloc);
     for part in &owned {
         parts.push(part.as_slice())?;
     }
-    let called = put_sub_parts(talk.out, parts.as_slice());
-    Ok(talk.done(called)?)
+    Ok(put_sub_parts(out, parts.as_slice()))
 }
 
-fn append(talk: &mut Talk<'_>, word: &str) -> Result<(), Fault> {
-    let called = match word {
-        "parts" => return put_parts(talk),
-        "option" => {
-            let verb = verb_named(talk.word()?)?;
-            let code = talk.byte()?;
-            put_option(talk.out, verb, code)
+fn push_each(decoder: &mut Decoder, bytes: &[u8], is_fed: bool, answer: &mut Answer) -> Done {
+    let mut next = 0;
+    for (index, byte) in bytes.iter().enumerate() {
+        if index < next {
+            continue;
         }
-        _ => {
-            let bytes = talk.all_bytes()?;
-            match word {
-                "record" => put_record(talk.out, bytes.as_slice()),
-                "sub" => put_sub(talk.out, bytes.as_slice()),
-                _ => return Err(Fault::Needs("a command of wire")),
-            }
+        let taken = if is_fed {
+            decoder.push_data(&bytes[index..])
+        } else {
+            0
+        };
+        next = index + taken;
+        if taken > 0 {
+            continue;
         }
-    };
-    Ok(talk.done(called)?)
+        match decoder.push(*byte) {
+            Ok(Step::More) => {}
+            Ok(Step::Ready) => writeln!(answer.text, "{} {:?}", index + 1, decoder.item())?,
+            Err(fault) => writeln!(answer.text, "{} {fault}", index + 1)?,
+        }
+    }
+    Ok(())
 }
 
-impl Wire {
-    pub(crate) fn new(alloc: Global) -> Result<Wire, AllocError> {
-        match Decoder::new(alloc, 0) {
-            Ok(decoder) => Ok(Wire { decoder }),
-            Err(_) => Err(AllocError),
-        }
-    }
-
-    /// Pushes the byte at a place, and puts what it completes.
-    fn push(&mut self, talk: &mut Talk<'_>, place: usize, byte: u8) -> Result<(), AllocError> {
-        match self.decoder.push(byte) {
-            Ok(Step::More) => Ok(()),
-            Ok(Step::Ready) => {
-                write!(talk.answer, "{place} ")?;
-                put_item(talk, self.decoder.item())
-            }
-            Err(fault) => writeln!(talk.answer, "{place} {fault}"),
-        }
-    }
-
-    /// Pushes each byte, unless it is fed and `push_data` takes it.
-    fn push_each(&mut self, talk: &mut Talk<'_>, is_fed: bool) -> Result<(), Fault> {
-        let bytes = talk.all_bytes()?;
-        let mut next = 0;
-        for (index, byte) in bytes.as_slice().iter().enumerate() {
-            if index < next {
-                continue;
-            }
-            let taken = match is_fed {
-                true => self.decoder.push_data(&bytes.as_slice()[index..]),
-                false => 0,
-            };
-            next = index + taken;
-            if taken == 0 {
-                self.push(talk, index + 1, *byte)?;
-            }
-        }
-        Ok(())
-    }
-}
-
-impl Subject for Wire {
-    fn take(&mut self, talk: &mut Talk<'_>) -> Result<(), Fault> {
-        match talk.word()? {
-            "new" => match Decoder::new(talk.alloc, talk.number()?) {
-                Ok(decoder) => {
-                    self.decoder = decoder;
-                    talk.done(Ok(()))?;
-                }
-                Err(fault) => writeln!(talk.answer, "{fault}")?,
+impl Subject for Decoder {
+    fn take(&mut self, words: &mut Words<'_>, answer: &mut Answer) -> Done {
+        let called = match words.word()? {
+            "new" => match Decoder::new(words.alloc, words.number()?) {
+                Ok(decoder) => Ok(*self = decoder),
+                Err(fault) => return answer.said(&fault),
             },
-            "push" => self.push_each(talk, false)?,
-            "feed" => self.push_each(talk, true)?,
-            "data" => {
-                let bytes = talk.all_bytes()?;
-                writeln!(talk.answer, "{}", self.decoder.push_data(bytes.as_slice()))?;
-            }
-            "reset" => self.decoder.reset(),
-            word => append(talk, word)?,
-        }
-        Ok(())
+            "push" => return push_each(self, words.bytes()?.as_slice(), false, answer),
+            "feed" => return push_each(self, words.bytes()?.as_slice(), true, answer),
+            "data" => return answer.line(&self.push_data(words.bytes()?.as_slice())),
+            "reset" => return Ok(self.reset()),
+            "record" => put_record(&mut answer.out, words.bytes()?.as_slice()),
+            "option" => put_option(&mut answer.out, words.named(&VERBS)?, words.byte()?),
+            "sub" => put_sub(&mut answer.out, words.bytes()?.as_slice()),
+            "parts" => put_parts(words, &mut answer.out)?,
+            _ => return Err(Fault::Line),
+        };
+        answer.done(called)
     }
 }

@@ -1,0 +1,321 @@
+-- Exchanges with an application (our profile): the request of an open question goes to a connection of its own, and
+-- the reply is read from it. Each exchange ends once: with an answer, with a fault that is reported and of which the
+-- operator is shown a message, or because the operator left.
+use Rattle.std.specs.Prelude.{◌≡◌, ◌<◌, ℕ, ◌+◌, Bool, true, false, List, [], ◌∷◌, ◌++◌, drop, length, if◌then◌else◌, Option, Some, None, Result, Ok, Err, IfErr, IfOk, slice_index_or, slice_set, ⊤}
+use Rattle.std.specs.IoError.{error_kind}
+use Rattle.std.specs.declared.io.Error.{Error}
+use Rattle.std.specs.declared.io.ErrorKind.{ErrorKind}
+use Rattle.std.specs.declared.io.ErrorKind.TheVariants as kind
+use Rattle.application_http.specs.Readings.{GivesNothing, IsFound, IsRefused, IsRefusedBehind, Outcome, left_by}
+use Rattle.application_http.specs.declared.reply.Reply.{Reply}
+use Rattle.application_http.specs.declared.request.Request.{Request}
+use Rattle.host_core.specs.declared.acted.Acted.{Acted}
+use Rattle.host_core.specs.declared.acted.Acted.TheVariants as acted
+use Rattle.host_core.specs.declared.question.Answer.{Answer}
+use Rattle.host_core.specs.declared.question.Question.{Question}
+use Rattle.host_core.specs.declared.question.Ticket.{Ticket}
+use Rattle.job_streams.specs.declared.fault.Fault.{Fault}
+use Rattle.job_streams.specs.declared.fault.Fault.TheVariants.{NoMemory}
+use Rattle.panels.specs.Panel.{Panels}
+use Rattle.applications.specs.ApplicationRequests.{IsRequestFor}
+use Rattle.applications.specs.Applications.{IsAnswerFault, IsAnswerFor, failure_text, is_reply_late, message_for, telling}
+use Rattle.applications.specs.declared.application_fault.Absence.{Absence}
+use Rattle.applications.specs.declared.application_fault.Absence.TheVariants as absence
+use Rattle.applications.specs.declared.application_fault.ApplicationFault.{ApplicationFault}
+use Rattle.applications.specs.declared.application_fault.ApplicationFault.TheVariants as why
+use Rattle.applications.specs.declared.application_fault.FailureMessage.{FailureMessage}
+use Rattle.applications.specs.declared.application_reply.AnswerFault.{AnswerFault}
+use Rattle.applications.specs.declared.exchange.Progress.{Progress}
+use Rattle.applications.specs.declared.exchange.Progress.TheVariants.{Moved, Still, Over}
+
+-- ---- one exchange
+
+-- The stream of an exchange, its question's ticket and panel, when it began, in milliseconds, the request, how many of
+-- its bytes were sent, and the bytes that were heard; none once these ended it.
+pub record Exchange (S : Type 0) : Type 0 where
+  pub stream : S
+  pub ticket : Ticket
+  pub panel : ℕ
+  pub began : ℕ
+  pub request : List ℕ
+  pub sent : ℕ
+  pub heard : Option (List ℕ)
+
+module _ {S : Type 0} where
+  -- an exchange of a question begins: nothing is sent, and nothing heard
+  abbrev pub begun : S → Question → (request : List ℕ) → (began : ℕ) → Exchange S
+  begun stream question request began = record {
+    stream = stream;
+    ticket = question.ticket;
+    panel = question.panel;
+    began = began;
+    request = request;
+    sent = 0;
+    heard = Some [];
+  }
+
+  -- the exchange after a write that took this number of bytes, and after a read
+  abbrev pub sending : (taken : ℕ) → S → Exchange S → Exchange S
+  sending taken stream exchange = record exchange { stream = stream; sent = exchange.sent + taken }
+
+  abbrev pub hearing : Option (List ℕ) → S → Exchange S → Exchange S
+  hearing heard stream exchange = record exchange { stream = stream; heard = heard }
+
+-- ---- what errors mean
+
+-- why an exchange fails by an error; none if the call did nothing this time
+abbrev pub absence_by : ErrorKind → Option Absence
+absence_by kind.WouldBlock = None
+absence_by kind.Interrupted = None
+absence_by kind.ConnectionRefused = Some absence.Refused
+absence_by kind.OutOfMemory = Some absence.NoMemory
+absence_by _ = Some absence.Broken
+
+abbrev pub failed_by : Option Absence → Progress
+failed_by None = Still
+failed_by (Some absence) = Over (Err (why.Absent absence))
+
+-- a connection that isn't there yet takes nothing
+abbrev pub unsent_by : ErrorKind → Progress
+unsent_by kind.NotConnected = Still
+unsent_by kind = failed_by (absence_by kind)
+
+-- ---- one call of a stream
+
+-- what a read did to a stream, by its room, its bytes and its answer; and a write, by what it was given
+abbrev pub ReadCall : Type 0 → Type 1
+ReadCall S = S → ℕ → List ℕ → Result ℕ Error → S → Type 0
+
+abbrev pub WriteCall : Type 0 → Type 1
+WriteCall S = S → List ℕ → Result ℕ Error → S → Type 0
+
+-- what the answer to a write means, and how many bytes the stream took
+abbrev pub sent_as : Result ℕ Error → Progress
+sent_as (Ok count) = Moved
+sent_as (Err error) = unsent_by (error_kind error)
+
+abbrev pub taken_by : Result ℕ Error → ℕ
+taken_by (Ok count) = count
+taken_by (Err error) = 0
+
+-- The stream is handed what is left of the request, once: a write goes on where the last one ended.
+pub record Writes {S : Type 0} (took : WriteCall S) (old : Exchange S) (progress : Progress) (new : Exchange S)
+    : Type 0 where
+  pub answer : Result ℕ Error
+  pub called : took old.stream (drop old.sent old.request) answer new.stream
+  pub progress_is : progress ≡ sent_as answer
+  pub new_is : new ≡ sending (taken_by answer) new.stream old
+
+-- what an answer of the reply's reader makes of an exchange
+abbrev pub read_as : Outcome → Progress
+read_as (Ok None) = Moved
+read_as (Ok (Some reply)) = Over (Ok reply)
+read_as (Err fault) = Over (Err (why.Reply fault))
+
+-- What bytes make of an exchange that has heard others before: the reply that all of them are, or why they are none. If
+-- these ended it before, more bytes do nothing.
+pub record HearsMore (bytes : List ℕ) (heard : Option (List ℕ)) (progress : Progress) (after : Option (List ℕ))
+    : Type 0 where
+  pub outcome : Outcome
+  pub progress_is : progress ≡ read_as outcome
+  pub found : (before : List ℕ) → heard ≡ Some before → IfOk outcome (IsFound false (before ++ bytes))
+  pub refused : (before : List ℕ) → heard ≡ Some before → IfErr outcome (IsRefusedBehind before bytes)
+  pub heard_is : (before : List ℕ) → heard ≡ Some before → after ≡ left_by outcome (before ++ bytes)
+  pub nothing : heard ≡ None → (after ≡ None) × GivesNothing outcome
+
+-- what the connection's end makes of it: these are all bytes
+pub record HearsEnd (heard : Option (List ℕ)) (progress : Progress) (after : Option (List ℕ)) : Type 0 where
+  pub outcome : Outcome
+  pub progress_is : progress ≡ read_as outcome
+  pub found : (all : List ℕ) → heard ≡ Some all → IfOk outcome (IsFound true all)
+  pub refused : (all : List ℕ) → heard ≡ Some all → IfErr outcome (IsRefused true all)
+  pub nothing : heard ≡ None → GivesNothing outcome
+  pub over : after ≡ None
+
+-- a read of no bytes is the end
+abbrev pub Hears : (bytes : List ℕ) → Option (List ℕ) → Progress → Option (List ℕ) → Type 0
+Hears [] heard progress after = HearsEnd heard progress after
+Hears (byte ∷ bytes) heard progress after = HearsMore (byte ∷ bytes) heard progress after
+
+abbrev pub HearsBy : Result ℕ Error → List ℕ → Option (List ℕ) → Progress → Option (List ℕ) → Type 0
+HearsBy (Ok count) bytes heard progress after = Hears bytes heard progress after
+HearsBy (Err error) bytes heard progress after =
+    (progress ≡ failed_by (absence_by (error_kind error))) × (after ≡ heard)
+
+-- the most bytes of a read
+abbrev pub read_room : ℕ
+read_room = 8192
+
+-- the stream is read once
+pub record Reads {S : Type 0} (gave : ReadCall S) (old : Exchange S) (progress : Progress) (new : Exchange S)
+    : Type 0 where
+  pub bytes : List ℕ
+  pub answer : Result ℕ Error
+  pub called : gave old.stream read_room bytes answer new.stream
+  pub hears : HearsBy answer bytes old.heard progress new.heard
+  pub new_is : new ≡ hearing new.heard new.stream old
+
+-- ---- a turn of an exchange
+
+-- an exchange whose reply is late is over
+abbrev pub in_time : (late : Bool) → Progress → Progress
+in_time late Moved = if late then Over (Err (why.Absent absence.Late)) else Moved
+in_time late Still = if late then Over (Err (why.Absent absence.Late)) else Still
+in_time late (Over outcome) = Over outcome
+
+module _ {S : Type 0} (gave : ReadCall S) (took : WriteCall S) where
+  -- Nothing is read before the whole request is sent, and nothing written after that.
+  pub data Serves (old : Exchange S) (progress : Progress) (new : Exchange S) : Type 0 where
+    writes : old.sent < length old.request → Writes took old progress new → Serves old progress new
+    reads : old.sent ≡ length old.request → Reads gave old progress new → Serves old progress new
+
+  -- An exchange whose operator left is over, and nothing is read or written. Another is served, and is over if its
+  -- reply is late.
+  pub data GoesOn (has_operator : Bool) (now most : ℕ) (old : Exchange S) (progress : Progress) (new : Exchange S)
+      : Type 0 where
+    operator_left : has_operator ≡ false → progress ≡ Over (Err why.Left)
+        → GoesOn has_operator now most old progress new
+    goes_on : (served : Progress) → has_operator ≡ true → Serves old served new
+        → progress ≡ in_time (is_reply_late old.began now most) served
+        → GoesOn has_operator now most old progress new
+
+-- ---- what the end of an exchange asks for
+
+-- What calls of a server did, each between the server before the call and after it: which question is open on a
+-- connection, what the host did with an answer, and what was reported of a fault, and of a reply that was shown.
+abbrev pub QuestionCall : Type 0 → Type 1
+QuestionCall A = A → ℕ → Result (Option Question) Fault → Type 0
+
+abbrev pub AnswerCall : Type 0 → Type 1
+AnswerCall A = A → ℕ → Ticket → Answer → Result Acted Fault → A → Type 0
+
+abbrev pub FaultCall : Type 0 → Type 1
+FaultCall A = A → ℕ → ApplicationFault → Result Unit Fault → A → Type 0
+
+abbrev pub ReplyCall : Type 0 → Type 1
+ReplyCall A = A → ℕ → Reply → Result Unit Fault → A → Type 0
+
+-- what a turn did, unless a report breaks it off
+abbrev pub unless_failed : (did : Bool) → Result Unit Fault → Result Bool Fault
+unless_failed did (Ok done) = Ok did
+unless_failed did (Err fault) = Err fault
+
+abbrev pub IsNotShown : Result Bool Fault → Type 0
+IsNotShown (Ok true) = ⊥
+IsNotShown (Ok false) = ⊤
+IsNotShown (Err fault) = ⊤
+
+module _ {A : Type 0} (answered : AnswerCall A) (reported : FaultCall A) where
+  -- The host is handed an answer to the question with a ticket. It is dropped if that question isn't open any more, and
+  -- that is reported.
+  pub data Hands (old : A) (conn : ℕ) (ticket : Ticket) (answer : Answer) (result : Result Bool Fault) (new : A)
+      : Type 0 where
+    is_shown : answered old conn ticket answer (Ok acted.Sent) new → result ≡ Ok true
+        → Hands old conn ticket answer result new
+    is_dropped : (mid : A) (report : Result Unit Fault) → answered old conn ticket answer (Ok acted.Nothing) mid
+        → reported mid conn why.Left report new → result ≡ unless_failed false report
+        → Hands old conn ticket answer result new
+    no_memory : answered old conn ticket answer (Ok acted.Memory) new → result ≡ Err NoMemory
+        → Hands old conn ticket answer result new
+    breaks_off : (fault : Fault) → answered old conn ticket answer (Err fault) new → result ≡ Err fault
+        → Hands old conn ticket answer result new
+
+  -- A fault is reported, and the operator is shown its message; one who left is shown nothing.
+  pub data Fails (old : A) (conn : ℕ) (ticket : Ticket) (fault : ApplicationFault) (result : Result Bool Fault)
+      (new : A) : Type 0 where
+    operator_is_told : (done : Unit) (mid : A) (message : FailureMessage) → reported old conn fault (Ok done) mid
+        → message_for fault ≡ Some message → Hands mid conn ticket (telling (failure_text message)) result new
+        → Fails old conn ticket fault result new
+    nobody_is_told : (done : Unit) → reported old conn fault (Ok done) new → message_for fault ≡ None
+        → result ≡ Ok false → Fails old conn ticket fault result new
+    report_fails : (broken : Fault) → reported old conn fault (Err broken) new → result ≡ Err broken
+        → Fails old conn ticket fault result new
+
+  module _ (noted : ReplyCall A) where
+    -- The host is handed the answer that a reply says; if it is shown, what was replaced in the reply is reported.
+    pub data Shows (old : A) (conn : ℕ) (ticket : Ticket) (answer : Answer) (reply : Reply)
+        (result : Result Bool Fault) (new : A) : Type 0 where
+      notes : (mid : A) (report : Result Unit Fault) → Hands old conn ticket answer (Ok true) mid
+          → noted mid conn reply report new → result ≡ unless_failed true report
+          → Shows old conn ticket answer reply result new
+      isnt_shown : Hands old conn ticket answer result new → IsNotShown result
+          → Shows old conn ticket answer reply result new
+
+    -- What becomes of a reply, with the panel of its question; and of a fault.
+    pub data Ends (served : A → Panels → Type 0) (panel : ℕ) (old : A) (conn : ℕ) (ticket : Ticket)
+        (outcome : Result Reply ApplicationFault) (result : Result Bool Fault) (new : A) : Type 0 where
+      answers : (reply : Reply) (panels : Panels) (answer : Answer) → outcome ≡ Ok reply → served old panels
+          → IsAnswerFor panels panel reply answer → Shows old conn ticket answer reply result new
+          → Ends served panel old conn ticket outcome result new
+      refuses : (reply : Reply) (panels : Panels) (fault : AnswerFault) → outcome ≡ Ok reply → served old panels
+          → IsAnswerFault panels panel reply fault → Fails old conn ticket (why.Answer fault) result new
+          → Ends served panel old conn ticket outcome result new
+      fails : (fault : ApplicationFault) → outcome ≡ Err fault → Fails old conn ticket fault result new
+          → Ends served panel old conn ticket outcome result new
+
+-- ---- a turn of a connection
+
+-- An exchange for a question begins, on a stream of its own. `written`: how a request is written, for the application
+-- that it goes to.
+pub record BeginsFor {S : Type 0} (written : Request → List ℕ) (boot now : ℕ) (served : Panels → Type 0)
+    (question : Question) (exchange : Exchange S) : Type 0 where
+  pub panels : Panels
+  pub stream : S
+  pub request : List ℕ
+  pub are_served : served panels
+  pub asks : IsRequestFor written boot panels question (Some request)
+  pub exchange_is : exchange ≡ begun stream question request now
+
+module _ {A : Type 0} (served : A → Panels → Type 0) (answered : AnswerCall A) (reported : FaultCall A) where
+  -- An exchange for an open question begins, or fails at once.
+  pub data AsksAbout {S : Type 0} (written : Request → List ℕ) (boot now conn : ℕ) (question : Question) (old : A)
+      (result : Result Bool Fault) (new : A) (after : Option (Exchange S)) : Type 0 where
+    begins : (exchange : Exchange S) → BeginsFor written boot now (served old) question exchange
+        → after ≡ Some exchange → new ≡ old → result ≡ Ok true
+        → AsksAbout written boot now conn question old result new after
+    cannot_begin : (absence : Absence) → after ≡ None
+        → Fails answered reported old conn question.ticket (why.Absent absence) result new
+        → AsksAbout written boot now conn question old result new after
+
+  -- Where no exchange is under way, one begins if a question is open.
+  pub data Asks {S : Type 0} (asked : QuestionCall A) (written : Request → List ℕ) (boot now conn : ℕ) (old : A)
+      (result : Result Bool Fault) (new : A) (after : Option (Exchange S)) : Type 0 where
+    asks_about : (question : Question) → asked old conn (Ok (Some question))
+        → AsksAbout written boot now conn question old result new after
+        → Asks asked written boot now conn old result new after
+    no_question : asked old conn (Ok None) → after ≡ None → new ≡ old → result ≡ Ok false
+        → Asks asked written boot now conn old result new after
+    asking_fails : (fault : Fault) → asked old conn (Err fault) → after ≡ None → new ≡ old → result ≡ Err fault
+        → Asks asked written boot now conn old result new after
+
+  -- An exchange that is under way stays so, or ends; then it is gone.
+  pub data Goes {S : Type 0} (gave : ReadCall S) (took : WriteCall S) (noted : ReplyCall A) (has_operator : Bool)
+      (now most conn : ℕ) (exchange : Exchange S) (old : A) (result : Result Bool Fault) (new : A)
+      (after : Option (Exchange S)) : Type 0 where
+    moves : (next : Exchange S) → GoesOn gave took has_operator now most exchange Moved next → after ≡ Some next
+        → new ≡ old → result ≡ Ok true
+        → Goes gave took noted has_operator now most conn exchange old result new after
+    waits : (next : Exchange S) → GoesOn gave took has_operator now most exchange Still next → after ≡ Some next
+        → new ≡ old → result ≡ Ok false
+        → Goes gave took noted has_operator now most conn exchange old result new after
+    ends : (outcome : Result Reply ApplicationFault) (last : Exchange S)
+        → GoesOn gave took has_operator now most exchange (Over outcome) last → after ≡ None
+        → Ends answered reported noted served exchange.panel old conn exchange.ticket outcome result new
+        → Goes gave took noted has_operator now most conn exchange old result new after
+
+  -- by the exchange that is under way, if one is
+  abbrev pub Turns : {S : Type 0} → ReadCall S → WriteCall S → QuestionCall A → ReplyCall A
+      → (written : Request → List ℕ) → (boot now most : ℕ) → (has_operator : Bool) → (conn : ℕ) → Option (Exchange S)
+      → A → Result Bool Fault → A → Option (Exchange S) → Type 0
+  Turns gave took asked noted written boot now most has_operator conn None old result new after =
+      Asks asked written boot now conn old result new after
+  Turns gave took asked noted written boot now most has_operator conn (Some exchange) old result new after =
+      Goes gave took noted has_operator now most conn exchange old result new after
+
+-- the exchange of a connection number, and all exchanges with another there
+module _ {S : Type 0} where
+  abbrev pub slot_at : ℕ → List (Option (Exchange S)) → Option (Exchange S)
+  slot_at conn slots = slice_index_or slots conn None
+
+  abbrev pub with_slot : ℕ → Option (Exchange S) → List (Option (Exchange S)) → List (Option (Exchange S))
+  with_slot conn slot slots = slice_set slots conn slot

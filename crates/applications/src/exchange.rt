@@ -1,0 +1,228 @@
+//! An exchange with an application: the request of one question, and the reply that comes on the same connection.
+ghost use Rattle.std.specs.Prelude.{◌≡◌, drop, length, string_bytes};
+ghost use Rattle.std.specs.IoError.{error_kind};
+ghost use Rattle.applications.specs.Applications.{is_reply_late};
+ghost use Rattle.applications.specs.ExchangeTurns.{GoesOn, Hears, Reads, Serves, Writes, absence_by, begun, failed_by, hearing, in_time, read_as, unsent_by};
+
+use crate::application_fault::{Absence, ApplicationFault};
+use application_http::{Reply, ReplyFault, ReplyReader};
+use host_core::{Question, Ticket};
+use job_streams::{RawRead, RawWrite};
+use std::alloc::Global;
+use std::io::{Error, ErrorKind};
+use std::marker::Model;
+
+/// The size of the buffer of each read.
+const READ_ROOM: usize = 8_192;
+
+/// What one turn did for an exchange.
+#[derive(Drop)]
+pub enum Progress {
+    /// Bytes came or were sent.
+    Moved,
+    /// Nothing.
+    Still,
+    /// It is over, with the reply or a fault.
+    Over(Result<Reply, ApplicationFault>),
+}
+
+/// Why an exchange fails by an error of this kind. None if the error means only that the call did nothing this time.
+fn absence_by(kind: ErrorKind) -> Option<Absence>
+    ensures { result ≡ absence_by kind }
+{
+    match kind {
+        ErrorKind::WouldBlock | ErrorKind::Interrupted => None,
+        ErrorKind::ConnectionRefused => Some(Absence::Refused),
+        ErrorKind::OutOfMemory => Some(Absence::NoMemory),
+        _ => Some(Absence::Broken),
+    }
+}
+
+/// Why no exchange begins, by the error of connecting.
+pub(crate) fn absence_of(error: &Error) -> Absence {
+    absence_by(error.kind()).unwrap_or(Absence::Broken)
+}
+
+/// What an error of a read makes of an exchange.
+fn failed_by(kind: ErrorKind) -> Progress
+    ensures { result ≡ failed_by (absence_by kind) }
+{
+    match absence_by(kind) {
+        Some(absence) => Progress::Over(Err(ApplicationFault::Absent(absence))),
+        None => Progress::Still,
+    }
+}
+
+/// What an error of a write makes of an exchange. A connection that isn't there yet takes nothing.
+fn unsent_by(kind: ErrorKind) -> Progress
+    ensures { result ≡ unsent_by kind }
+{
+    match kind {
+        ErrorKind::NotConnected => Progress::Still,
+        _ => failed_by(kind),
+    }
+}
+
+/// What an answer of the reader makes of an exchange.
+fn read_as(answer: Result<Option<Reply>, ReplyFault>) -> Progress
+    ensures { result ≡ read_as answer }
+{
+    match answer {
+        Ok(Some(reply)) => Progress::Over(Ok(reply)),
+        Ok(None) => Progress::Moved,
+        Err(fault) => Progress::Over(Err(ApplicationFault::Reply(fault))),
+    }
+}
+
+/// What a turn did, if the reply may be late: then an exchange that isn't over is.
+fn in_time(is_late: bool, progress: Progress) -> Progress
+    ensures { result ≡ in_time is_late progress }
+{
+    match progress {
+        Progress::Moved | Progress::Still if is_late => {
+            Progress::Over(Err(ApplicationFault::Absent(Absence::Late)))
+        }
+        progress => progress,
+    }
+}
+
+/// Whether the reply is late, by when its request began and how long it may take, in milliseconds.
+fn is_reply_late(began: u64, now: u64, most: u64) -> bool
+    ensures { result ≡ is_reply_late began now most }
+{
+    now.saturating_sub(began) >= most
+}
+
+/// An exchange on a stream of its own. Contracts see its question's ticket and panel, the request, how much of it was
+/// sent, and what was heard.
+#[derive(Drop)]
+pub(crate) struct Exchange<S> {
+    alloc: Global,
+    stream: S,
+    ticket: Ticket,
+    /// The number of the panel on the screen.
+    panel: usize,
+    /// When it began, in milliseconds of the server's time.
+    began: u64,
+    request: String,
+    /// How many bytes of the request were sent.
+    sent: usize,
+    reader: ReplyReader,
+}
+
+impl<S> Model for Exchange<S> {
+    ghost use Rattle.std.specs.Prelude.{◌≤◌, length, string_bytes};
+    ghost use Rattle.applications.specs.ExchangeTurns.{Exchange as ExchangeValue};
+
+    ghost Value = { ExchangeValue S };
+
+    ghost view = { λ it. record {
+      stream = it.stream;
+      ticket = it.ticket;
+      panel = it.panel;
+      began = it.began;
+      request = string_bytes it.request;
+      sent = it.sent;
+      heard = it.reader;
+    } };
+
+    ghost invariant = { λ it. it.sent ≤ length (string_bytes it.request) };
+}
+
+impl<S: RawRead + RawWrite + Drop> Exchange<S> {
+    /// An exchange that begins now, on a stream that connects: nothing is sent, and nothing heard.
+    pub(crate) fn new(
+        alloc: Global,
+        stream: S,
+        question: &Question,
+        request: String,
+        began: u64,
+    ) -> Exchange<S>
+        ensures { result ≡ begun stream question.now (string_bytes request) began }
+    {
+        Exchange {
+            alloc,
+            stream,
+            ticket: question.ticket,
+            panel: question.panel,
+            began,
+            request,
+            sent: 0,
+            reader: ReplyReader::new(alloc),
+        }
+    }
+
+    /// The ticket of its question.
+    pub(crate) fn ticket(&self) -> Ticket
+        ensures { result ≡ self.now.ticket }
+    {
+        self.ticket
+    }
+
+    /// The number of its question's panel.
+    pub(crate) fn panel(&self) -> usize
+        ensures { result ≡ self.now.panel }
+    {
+        self.panel
+    }
+
+    /// Writes what is left of the request, as much as the stream takes.
+    fn write(&mut self) -> Progress
+        ensures { Writes S.write_took self.old result self.new }
+    {
+        let unsent = &self.request.as_bytes()[self.sent..];
+        match self.stream.write_once(unsent) {
+            Ok(count) => {
+                self.sent += count;
+                Progress::Moved
+            }
+            Err(error) => unsent_by(error.kind()),
+        }
+    }
+
+    /// Looks for the reply in all bytes that were heard, with these behind them. No bytes are the connection's end.
+    fn hear(&mut self, bytes: &[u8]) -> Progress
+        ensures hears { Hears bytes.now self.old.heard result self.new.heard }
+        ensures rest { self.new ≡ hearing self.new.heard self.old.stream self.old }
+    {
+        if bytes.is_empty() {
+            read_as(self.reader.end(self.alloc))
+        } else {
+            read_as(self.reader.feed(self.alloc, bytes))
+        }
+    }
+
+    /// Reads once. The end of the connection may be the reply's.
+    fn read(&mut self) -> Progress
+        ensures { Reads S.read_gave self.old result self.new }
+    {
+        let mut buffer = [0; READ_ROOM];
+        match self.stream.read_once(&mut buffer) {
+            Ok(count) => self.hear(&buffer[..count]),
+            Err(error) => failed_by(error.kind()),
+        }
+    }
+
+    /// Writes what is left of the request, or reads once.
+    fn serve(&mut self) -> Progress
+        ensures { Serves S.read_gave S.write_took self.old result self.new }
+    {
+        if self.sent < self.request.len() {
+            self.write()
+        } else {
+            self.read()
+        }
+    }
+
+    /// One turn, at this time and with so much time for the reply, in milliseconds. It is over if the operator left, or
+    /// if the reply is late.
+    pub(crate) fn go_on(&mut self, has_operator: bool, now: u64, most: u64) -> Progress
+        ensures { GoesOn S.read_gave S.write_took has_operator now most self.old result self.new }
+    {
+        if !has_operator {
+            return Progress::Over(Err(ApplicationFault::Left));
+        }
+        let is_late = is_reply_late(self.began, now, most);
+        in_time(is_late, self.serve())
+    }
+}

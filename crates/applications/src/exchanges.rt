@@ -1,0 +1,358 @@
+//! The exchanges of a server's connections with an application: at most one on each, and nothing waits for one.
+ghost use Rattle.std.specs.Prelude.{◌≡◌, ◌<◌, IfOk, None, replicate};
+ghost use Rattle.application_http.specs.Requests.{request_bytes};
+ghost use Rattle.applications.specs.ExchangeTurns.{Asks, AsksAbout, BeginsFor, Ends, Fails, Goes, Hands, Shows, Turns, slot_at, unless_failed, with_slot};
+ghost use Rattle.host_core.specs.State.{most_connections};
+
+use crate::application_fault::{Absence, ApplicationFault};
+use crate::application_reply::{answer_of, telling};
+use crate::application_request::request_of;
+use crate::exchange::{Exchange, Progress, absence_of};
+use application_http::{Endpoint, Reply};
+use host_core::{Acted, Answer, MOST_CONNECTIONS, Question, Ticket};
+use job_streams::{Fault, RawRead, RawWrite};
+use panels::PanelSet;
+use std::alloc::{AllocError, Global};
+use std::io;
+use std::marker::Model;
+
+/// A server whose host asks an application.
+///
+/// Each relation is between the server before a call, what the call was given, its answer, and the server after it.
+/// Code that is generic over servers has one only from a call. So its contract can say which calls it made, in which
+/// order, and with what.
+pub trait AskingServer {
+    ghost use Rattle.std.specs.Prelude.{◌<◌};
+    ghost use Rattle.host_core.specs.State.{most_connections};
+    ghost use Rattle.panels.specs.Panel.{Panels};
+    ghost use Rattle.applications.specs.ExchangeTurns.{AnswerCall, FaultCall, QuestionCall, ReplyCall};
+
+    /// A connection to the application.
+    type Stream: RawRead + RawWrite + Drop;
+
+    ghost served: { Self → Panels → Type 0 };
+
+    ghost asked: { QuestionCall Self };
+
+    ghost answered: { AnswerCall Self };
+
+    ghost reported: { FaultCall Self };
+
+    ghost noted: { ReplyCall Self };
+
+    /// What it serves.
+    fn panels(&self) -> &PanelSet
+        ensures { served self.now result.now };
+
+    /// The question that is open on a connection, if one is.
+    fn question(&self, conn: usize) -> Result<Option<Question>, Fault>
+        requires { conn < most_connections }
+        ensures { asked self.now conn result };
+
+    /// Begins to connect to the application.
+    fn connect(&self) -> io::Result<Self::Stream>;
+
+    /// Hands the host the answer to the question with a ticket.
+    fn answer(&mut self, conn: usize, ticket: Ticket, answer: &Answer) -> Result<Acted, Fault>
+        requires { conn < most_connections }
+        ensures { answered self.old conn ticket answer.now result self.new };
+
+    /// Reports why a connection's question has no answer.
+    fn report_unanswered(&mut self, conn: usize, fault: &ApplicationFault) -> Result<(), Fault>
+        ensures { reported self.old conn fault.now result self.new };
+
+    /// Reports what was replaced in a reply whose answer was shown, if anything was.
+    fn report_replaced(&mut self, conn: usize, reply: &Reply) -> Result<(), Fault>
+        ensures { noted self.old conn reply.now result self.new };
+}
+
+/// How an application is asked.
+#[derive(Clone, Copy)]
+pub struct Asking<'a> {
+    pub alloc: Global,
+    /// Where it listens.
+    pub endpoint: &'a Endpoint,
+    /// What the names of the host's sessions begin with.
+    pub boot: u64,
+    /// The server's time, in milliseconds.
+    pub now: u64,
+    /// How long a reply may take, in milliseconds.
+    pub most: u64,
+}
+
+/// What a turn did, unless a report fails.
+fn unless_failed(did: bool, report: Result<(), Fault>) -> Result<bool, Fault>
+    ensures { result ≡ unless_failed did report }
+{
+    match report {
+        Ok(()) => Ok(did),
+        Err(fault) => Err(fault),
+    }
+}
+
+/// Hands the host an answer. Answers whether it is shown. One to a question that isn't open any more is dropped.
+fn hand<A: AskingServer>(
+    server: &mut A,
+    conn: usize,
+    ticket: Ticket,
+    answer: &Answer,
+) -> Result<bool, Fault>
+    requires { conn < most_connections }
+    ensures { Hands A.answered A.reported server.old conn ticket answer.now result server.new }
+{
+    match server.answer(conn, ticket, answer) {
+        Ok(Acted::Sent) => Ok(true),
+        Ok(Acted::Nothing) => unless_failed(
+            false,
+            server.report_unanswered(conn, &ApplicationFault::Left),
+        ),
+        Ok(Acted::Memory) => Err(Fault::NoMemory),
+        Err(fault) => Err(fault),
+    }
+}
+
+/// Reports a fault, and shows the operator its message.
+fn fail<A: AskingServer>(
+    alloc: Global,
+    server: &mut A,
+    conn: usize,
+    ticket: Ticket,
+    fault: &ApplicationFault,
+) -> Result<bool, Fault>
+    requires { conn < most_connections }
+    ensures { Fails A.answered A.reported server.old conn ticket fault.now result server.new }
+{
+    match server.report_unanswered(conn, fault) {
+        Ok(()) => match fault.message() {
+            Some(message) => hand(server, conn, ticket, &telling(alloc, message.text())),
+            None => Ok(false),
+        },
+        Err(fault) => Err(fault),
+    }
+}
+
+/// Shows what a reply says, and reports what was replaced in it.
+fn show<A: AskingServer>(
+    server: &mut A,
+    conn: usize,
+    ticket: Ticket,
+    answer: &Answer,
+    reply: &Reply,
+) -> Result<bool, Fault>
+    requires { conn < most_connections }
+    ensures { Shows A.answered A.reported A.noted server.old conn ticket answer.now reply.now result server.new }
+{
+    match hand(server, conn, ticket, answer) {
+        Ok(is_shown) => {
+            if is_shown {
+                unless_failed(true, server.report_replaced(conn, reply))
+            } else {
+                Ok(false)
+            }
+        }
+        Err(fault) => Err(fault),
+    }
+}
+
+/// Does what the end of an exchange asks for: shows what the reply says, or the message of a fault.
+fn end<A: AskingServer>(
+    alloc: Global,
+    server: &mut A,
+    conn: usize,
+    ticket: Ticket,
+    panel: usize,
+    outcome: &Result<Reply, ApplicationFault>,
+) -> Result<bool, Fault>
+    requires { conn < most_connections }
+    ensures { Ends A.answered A.reported A.noted A.served panel server.old conn ticket outcome.now result server.new }
+{
+    match outcome {
+        Ok(reply) => match answer_of(alloc, server.panels(), panel, reply) {
+            Ok(answer) => show(server, conn, ticket, &answer, reply),
+            Err(fault) => fail(
+                alloc,
+                server,
+                conn,
+                ticket,
+                &ApplicationFault::Answer(fault),
+            ),
+        },
+        Err(fault) => fail(alloc, server, conn, ticket, fault),
+    }
+}
+
+/// An exchange for a question.
+fn begin<S: RawRead + RawWrite + Drop, A: AskingServer<Stream = S>>(
+    asking: Asking<'_>,
+    server: &A,
+    question: &Question,
+) -> Result<Exchange<S>, Absence>
+    ensures { IfOk result (BeginsFor (request_bytes asking.entry.endpoint.now) asking.entry.boot asking.entry.now
+        (A.served server.now) question.now) }
+{
+    match request_of(
+        asking.alloc,
+        asking.endpoint,
+        asking.boot,
+        server.panels(),
+        question,
+    ) {
+        Ok(Some(request)) => match server.connect() {
+            Ok(stream) => Ok(Exchange::new(asking.alloc, stream, question, request, asking.now)),
+            Err(error) => Err(absence_of(&error)),
+        },
+        _ => Err(Absence::NoMemory),
+    }
+}
+
+/// Begins an exchange for an open question in an empty slot.
+fn ask_about<S: RawRead + RawWrite + Drop, A: AskingServer<Stream = S>>(
+    slot: &mut Option<Exchange<S>>,
+    asking: Asking<'_>,
+    server: &mut A,
+    conn: usize,
+    question: &Question,
+) -> Result<bool, Fault>
+    requires empty { slot.old ≡ None }
+    requires number { conn < most_connections }
+    ensures { AsksAbout A.served A.answered A.reported (request_bytes asking.entry.endpoint.now) asking.entry.boot
+        asking.entry.now conn question.now server.old result server.new slot.new }
+{
+    match begin(asking, server, question) {
+        Ok(exchange) => {
+            *slot = Some(exchange);
+            Ok(true)
+        }
+        Err(absence) => {
+            let fault = ApplicationFault::Absent(absence);
+            fail(asking.alloc, server, conn, question.ticket, &fault)
+        }
+    }
+}
+
+/// Begins an exchange in an empty slot, if a question is open.
+fn ask<S: RawRead + RawWrite + Drop, A: AskingServer<Stream = S>>(
+    slot: &mut Option<Exchange<S>>,
+    asking: Asking<'_>,
+    server: &mut A,
+    conn: usize,
+) -> Result<bool, Fault>
+    requires empty { slot.old ≡ None }
+    requires number { conn < most_connections }
+    ensures { Asks A.served A.answered A.reported A.asked (request_bytes asking.entry.endpoint.now) asking.entry.boot
+        asking.entry.now conn server.old result server.new slot.new }
+{
+    match server.question(conn) {
+        Ok(Some(question)) => ask_about(slot, asking, server, conn, &question),
+        Ok(None) => Ok(false),
+        Err(fault) => Err(fault),
+    }
+}
+
+/// Goes on with an exchange, and puts it back into its slot, which is empty, unless it is over.
+fn go_on<S: RawRead + RawWrite + Drop, A: AskingServer<Stream = S>>(
+    slot: &mut Option<Exchange<S>>,
+    mut exchange: Exchange<S>,
+    asking: Asking<'_>,
+    server: &mut A,
+    conn: usize,
+    has_operator: bool,
+) -> Result<bool, Fault>
+    requires empty { slot.old ≡ None }
+    requires number { conn < most_connections }
+    ensures { Goes A.served A.answered A.reported S.read_gave S.write_took A.noted has_operator asking.entry.now
+        asking.entry.most conn exchange server.old result server.new slot.new }
+{
+    let (ticket, panel) = (exchange.ticket(), exchange.panel());
+    match exchange.go_on(has_operator, asking.now, asking.most) {
+        Progress::Moved => {
+            *slot = Some(exchange);
+            Ok(true)
+        }
+        Progress::Still => {
+            *slot = Some(exchange);
+            Ok(false)
+        }
+        Progress::Over(outcome) => end(asking.alloc, server, conn, ticket, panel, &outcome),
+    }
+}
+
+/// Does what there is to do on a connection with this slot.
+fn turn_of<S: RawRead + RawWrite + Drop, A: AskingServer<Stream = S>>(
+    slot: &mut Option<Exchange<S>>,
+    asking: Asking<'_>,
+    server: &mut A,
+    conn: usize,
+    has_operator: bool,
+) -> Result<bool, Fault>
+    requires { conn < most_connections }
+    ensures { Turns A.served A.answered A.reported S.read_gave S.write_took A.asked A.noted
+        (request_bytes asking.entry.endpoint.now) asking.entry.boot asking.entry.now asking.entry.most has_operator conn
+        slot.old server.old result server.new slot.new }
+{
+    match slot.take() {
+        Some(exchange) => go_on(slot, exchange, asking, server, conn, has_operator),
+        None => ask(slot, asking, server, conn),
+    }
+}
+
+/// 64 slots without an exchange.
+fn empty_slots<S: RawRead + RawWrite + Drop>(
+    alloc: Global,
+) -> Result<Vec<Option<Exchange<S>>>, AllocError>
+    ensures { IfOk result (λ slots. slots.items ≡ replicate most_connections None) }
+{
+    let mut slots = Vec::with_capacity(alloc, MOST_CONNECTIONS)?;
+    for _ in 0..MOST_CONNECTIONS {
+        slots.push(None)?;
+    }
+    Ok(slots)
+}
+
+/// The exchanges of 64 connections: at most one on each.
+#[derive(Drop)]
+pub struct Exchanges<S> {
+    slots: Vec<Option<Exchange<S>>>,
+}
+
+impl<S> Model for Exchanges<S> {
+    ghost use Rattle.std.specs.Prelude.{◌≡◌, List, Option, length};
+    ghost use Rattle.host_core.specs.State.{most_connections};
+    ghost use Rattle.applications.specs.ExchangeTurns.{Exchange as ExchangeValue};
+
+    ghost Value = { List (Option (ExchangeValue S)) };
+
+    ghost view = { λ exchanges. exchanges.slots.items };
+
+    ghost invariant = { λ exchanges. length exchanges.slots.items ≡ most_connections };
+}
+
+impl<S: RawRead + RawWrite + Drop> Exchanges<S> {
+    /// No exchanges. An error if memory is refused.
+    pub fn new(alloc: Global) -> Result<Exchanges<S>, AllocError>
+        ensures { IfOk result (λ exchanges. exchanges ≡ replicate most_connections None) }
+    {
+        Ok(Exchanges {
+            slots: empty_slots(alloc)?,
+        })
+    }
+
+    /// Does what there is to do on a connection, which has an operator or not: begins an exchange for a question that
+    /// is open, goes on with one that is under way, and ends it. Answers whether a byte was read or written, or the host
+    /// answered. NoMemory if memory is refused to the host, and any fault of the server's calls.
+    pub fn turn<A: AskingServer<Stream = S>>(
+        &mut self,
+        asking: Asking<'_>,
+        server: &mut A,
+        conn: usize,
+        has_operator: bool,
+    ) -> Result<bool, Fault>
+        requires { conn < most_connections }
+        ensures turns { Turns A.served A.answered A.reported S.read_gave S.write_took A.asked A.noted
+            (request_bytes asking.entry.endpoint.now) asking.entry.boot asking.entry.now asking.entry.most has_operator
+            conn (slot_at conn self.old) server.old result server.new (slot_at conn self.new) }
+        ensures others { self.new ≡ with_slot conn (slot_at conn self.new) self.old }
+    {
+        turn_of(&mut self.slots[conn], asking, server, conn, has_operator)
+    }
+}

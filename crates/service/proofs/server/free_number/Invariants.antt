@@ -1,5 +1,0 @@
-use Rattle.socket_links.specs.Sockets.{AreTaken}
-use Rattle.service.proofs.server.free_number.Given as goal
-
-abbrev pub invariant-loop-conn : goal.invariant-loop-conn
-invariant-loop-conn l = AreTaken l.conn l.host

@@ -1,0 +1,167 @@
+-- A turn of one connection (our profile): it is served, what happened is reported, and it is given back if it is over.
+use Rattle.std.specs.Prelude.{◌≡◌, ◌≢◌, ◌==◌, ◌&&◌, not, ℕ, Bool, false, List, [], ◌∷◌, ◌++◌, length, map, slice_index_or, slice_set, Option, Some, None, Result, Ok, Err, if◌then◌else◌}
+use Rattle.std.specs.Option.{option_map}
+use Rattle.std.specs.declared.io.Error.{Error}
+use Rattle.host_core.specs.Reports.{Reports}
+use Rattle.host_core.specs.Serves.{Serves}
+use Rattle.host_core.specs.State.{Host, connection_at, given_up, pending_of, phase_of, service_at, turn_of, with_connection}
+use Rattle.host_core.specs.declared.phase.Phase.{Phase}
+use Rattle.host_core.specs.declared.serving.Served.{Served}
+use Rattle.host_core.specs.declared.serving.Served.TheVariants as served
+use Rattle.job_streams.specs.declared.fault.Fault.{Fault}
+use Rattle.job_streams.specs.declared.fault.Fault.TheVariants as fault
+use Rattle.service_events.specs.Notices.{bound_in_turn, ending_of, is_bound, is_shown}
+use Rattle.service_events.specs.declared.notice.Client.{Client}
+use Rattle.service_events.specs.declared.notice.Ending.{Ending}
+use Rattle.service_events.specs.declared.notice.Notice.{Notice}
+use Rattle.service_events.specs.declared.notice.Notice.TheVariants as notice
+use Rattle.socket_links.specs.Sockets.{GivesAt, Sockets, TakesAt, emptied, is_connected, slot_at, with_slot, with_waiting}
+use Rattle.service.specs.Watching.{Event, FailsAmong, HearsEach, Noticed, Showed, if_any}
+use Rattle.service.specs.ConnectionInfos.{usage_of, with_turn}
+use Rattle.service.specs.declared.connection_info.ConnectionInfo.{ConnectionInfo}
+use Rattle.service.specs.declared.server_core.ServerCore.{ServerCore}
+
+-- ---- reports
+
+abbrev pub reports_at : ℕ → Host → Reports
+reports_at conn host = (connection_at conn host).reports
+
+-- the host with these reports of a connection, and all else as it was
+abbrev pub with_reports : ℕ → Reports → Host → Host
+with_reports conn reports host = with_connection conn (record (connection_at conn host) { reports = reports }) host
+
+abbrev pub without_rejections : Reports → Reports
+without_rejections reports = record reports { rejections = [] }
+
+abbrev pub without_keys : Reports → Reports
+without_keys reports = record reports { dropped_keys = [] }
+
+-- all that a connection had to report was reported; a broken rule stays
+abbrev pub all_reported : Reports → Reports
+all_reported reports = without_keys (without_rejections reports)
+
+abbrev pub reported : ℕ → Host → Host
+reported conn host = with_reports conn (all_reported (reports_at conn host)) host
+
+abbrev pub rejected : Client → Reports → List Event
+rejected client reports = map (λ rejection. Noticed (notice.Rejected client rejection)) reports.rejections
+
+abbrev pub keys_dropped : Client → Reports → List Event
+keys_dropped client reports = map (λ key. Noticed (notice.KeyDropped client key)) reports.dropped_keys
+
+abbrev pub bound : Client → (before after : Phase) → Option Notice
+bound client before after = option_map (notice.Bound client) (bound_in_turn before after)
+
+abbrev pub rule_broken : Client → Reports → Option Notice
+rule_broken client reports = option_map (notice.RuleBroken client) reports.rule_break
+
+abbrev pub screen_shown : Bool → ℕ → Host → List Event
+screen_shown shown conn host = if shown then Showed host conn ∷ [] else []
+
+-- What is reported of a turn, in this order: each rejection of an LU, the LU that the terminal was bound to, each key that the host
+-- dropped, the rule that the terminal broke, and that the host showed a screen. `before`: the phase before the turn; `host`: as it was
+-- after it.
+abbrev pub reports_of : Client → ℕ → (before : Phase) → (shown : Bool) → (host : Host) → List Event
+reports_of client conn before shown host =
+    rejected client (reports_at conn host)
+    ++ (if_any Noticed (bound client before (phase_of (service_at conn host)))
+    ++ (keys_dropped client (reports_at conn host)
+    ++ (if_any Noticed (rule_broken client (reports_at conn host))
+    ++ screen_shown shown conn (reported conn host))))
+
+-- ---- a connection that is open, and how it ends
+
+module _ {S : Type 0} where
+  -- what is known of a connection that is open: its number has a socket
+  abbrev pub open_at : ℕ → ServerCore S → Option ConnectionInfo
+  open_at conn core = if is_connected (slot_at conn core.sockets) then slice_index_or core.infos conn None else None
+
+  -- the sockets, told how many bytes wait to be sent on a connection
+  abbrev pub with_unsent : ℕ → ServerCore S → Sockets S
+  with_unsent conn core = with_slot conn (with_waiting (length (connection_at conn core.host).out) (slot_at conn core.sockets)) core.sockets
+
+  -- A connection is given back: its number and its LU are free at the host, and its socket is closed. All else is as it was.
+  abbrev pub given_back : ℕ → ServerCore S → ServerCore S
+  given_back conn core =
+      record core { host = given_up conn core.host; sockets = with_slot conn (emptied (slot_at conn core.sockets)) core.sockets }
+
+  abbrev pub given_back_if : Option Ending → ℕ → ServerCore S → ServerCore S
+  given_back_if None conn core = core
+  given_back_if (Some ending) conn core = given_back conn core
+
+  -- the watcher is told that a connection is over, why, and what it took
+  abbrev pub ended : ℕ → (bound : Bool) → ConnectionInfo → ServerCore S → Ending → Event
+  ended conn bound info core ending = Noticed (notice.Ended info.client ending (usage_of core.now bound (slot_at conn core.sockets).sent (slot_at conn core.sockets).received info))
+
+-- ---- a turn of one connection
+
+-- whether the host showed a screen, by the host before and after it served the connection
+abbrev pub shows : ℕ → (before after : Host) → Bool
+shows conn before after = is_shown (pending_of (service_at conn before)) (pending_of (service_at conn after)) (turn_of (service_at conn after))
+
+abbrev pub was_bound : ℕ → (before : Host) → Bool
+was_bound conn before = is_bound (phase_of (service_at conn before))
+
+-- a screen is counted unless it is the first
+abbrev pub info_after : ℕ → (before after : Host) → ConnectionInfo → ConnectionInfo
+info_after conn before after info = with_turn (shows conn before after && was_bound conn before) info
+
+abbrev pub reports_in_turn : ℕ → (before after : Host) → Client → List Event
+reports_in_turn conn before after client = reports_of client conn (phase_of (service_at conn before)) (shows conn before after) after
+
+-- why the connection is over after the turn, if it is
+abbrev pub ending_after : ℕ → Served → (after : Host) → Option Ending
+ending_after conn answer after = ending_of (phase_of (service_at conn after)) answer
+
+module _ {S : Type 0} where
+  -- the server once the host has served a connection, and all was reported
+  abbrev pub core_reported : ℕ → ConnectionInfo → (old : ServerCore S) → Host → Sockets S → ServerCore S
+  core_reported conn info old host sockets =
+      record old { host = reported conn host; sockets = sockets; infos = slice_set old.infos conn (Some (info_after conn old.host host info)) }
+
+  -- that the connection is over is told last
+  abbrev pub end_in_turn : ℕ → ConnectionInfo → (old : ServerCore S) → Served → Host → Sockets S → List Event
+  end_in_turn conn info old answer host sockets =
+      if_any (ended conn (was_bound conn old.host) (info_after conn old.host host info) (core_reported conn info old host sockets)) (ending_after conn answer host)
+
+module _ {S W : Type 0} (gave : S → ℕ → List ℕ → Result ℕ Error → S → Type 0) (took : S → List ℕ → Result ℕ Error → S → Type 0)
+    (noticed : W → Notice → Result Unit Fault → W → Type 0) (showed : W → Host → ℕ → Result Unit Fault → W → Type 0) where
+  -- The host serves a connection, by one read, one act and one write: this is its answer, and these are host and sockets after it.
+  abbrev pub IsServed : ℕ → ServerCore S → Served → Host → Sockets S → Type 0
+  IsServed conn old answer host sockets = Serves (GivesAt gave) (TakesAt took) conn old.host (with_unsent conn old) answer host sockets
+
+  -- A connection is served once. What happened is handed to the watcher, each event once and in order. If the connection is over it is
+  -- given back, and the watcher is told so.
+  pub record ServesNumber (conn : ℕ) (info : ConnectionInfo) (old : ServerCore S) (watcher : W) (acted : Bool) (new : ServerCore S) (after : W) : Type 0 where
+    pub answer : Served
+    pub host : Host
+    pub sockets : Sockets S
+    pub serves : IsServed conn old answer host sockets
+    pub fed : answer ≢ served.Memory
+    pub acts : acted ≡ not (length (connection_at conn host).out == length (connection_at conn old.host).out)
+    pub hears : HearsEach noticed showed (reports_in_turn conn old.host host info.client ++ end_in_turn conn info old answer host sockets) watcher after
+    pub becomes : new ≡ given_back_if (ending_after conn answer host) conn (core_reported conn info old host sockets)
+
+  -- How that breaks off: memory was refused while the host served the connection, and nothing is told; or the watcher failed. What was
+  -- done before stands.
+  pub data BreaksOffAt (conn : ℕ) (info : ConnectionInfo) (old : ServerCore S) (watcher : W) (why : Fault) (new : ServerCore S) (after : W) : Type 0 where
+    starved : (host : Host) (sockets : Sockets S) → IsServed conn old served.Memory host sockets → why ≡ fault.NoMemory
+        → new ≡ record old { host = host; sockets = sockets } → after ≡ watcher → BreaksOffAt conn info old watcher why new after
+    report_failed : (answer : Served) (host : Host) (sockets : Sockets S) (reports : Reports) → IsServed conn old answer host sockets → answer ≢ served.Memory
+        → FailsAmong noticed showed (reports_in_turn conn old.host host info.client) watcher why after
+        → new ≡ record (core_reported conn info old host sockets) { host = with_reports conn reports host }
+        → BreaksOffAt conn info old watcher why new after
+    end_failed : (answer : Served) (host : Host) (sockets : Sockets S) (told : W) → IsServed conn old answer host sockets → answer ≢ served.Memory
+        → HearsEach noticed showed (reports_in_turn conn old.host host info.client) watcher told
+        → FailsAmong noticed showed (end_in_turn conn info old answer host sockets) told why after
+        → new ≡ given_back_if (ending_after conn answer host) conn (core_reported conn info old host sockets)
+        → BreaksOffAt conn info old watcher why new after
+
+  -- a number whose connection is open is served, and no other is
+  abbrev pub ServesIfOpen : Option ConnectionInfo → ℕ → ServerCore S → W → Result Bool Fault → ServerCore S → W → Type 0
+  ServesIfOpen None conn old watcher answer new after = (answer ≡ Ok false) × (new ≡ old) × (after ≡ watcher)
+  ServesIfOpen (Some info) conn old watcher (Ok acted) new after = ServesNumber conn info old watcher acted new after
+  ServesIfOpen (Some info) conn old watcher (Err why) new after = BreaksOffAt conn info old watcher why new after
+
+  abbrev pub ServesAt : ℕ → ServerCore S → W → Result Bool Fault → ServerCore S → W → Type 0
+  ServesAt conn old watcher answer new after = ServesIfOpen (open_at conn old) conn old watcher answer new after

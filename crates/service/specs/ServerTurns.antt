@@ -1,0 +1,46 @@
+-- A turn of a server (our profile): what waits is accepted, and each connection is served once.
+use Rattle.std.specs.Prelude.{◌≡◌, ◌||◌, ℕ, Bool, false, List, Option, Result, Ok, Err}
+use Rattle.std.specs.declared.io.Error.{Error}
+use Rattle.host_core.specs.State.{Host}
+use Rattle.job_streams.specs.declared.fault.Fault.{Fault}
+use Rattle.service_events.specs.declared.notice.Notice.{Notice}
+use Rattle.service.specs.Accepting.{AdmitsAll, Door, most_accepted}
+use Rattle.service.specs.NumberTurns.{ServesAt}
+use Rattle.service.specs.Visits.{VisitsEach}
+use Rattle.service.specs.declared.accepting.Accepted.{Accepted}
+use Rattle.service.specs.declared.server_core.ServerCore.{ServerCore}
+
+module _ {S W L : Type 0} (gave : S → ℕ → List ℕ → Result ℕ Error → S → Type 0) (took : S → List ℕ → Result ℕ Error → S → Type 0)
+    (noticed : W → Notice → Result Unit Fault → W → Type 0) (showed : W → Host → ℕ → Result Unit Fault → W → Type 0)
+    (accepts : L → Option (Accepted S) → L → Type 0) where
+  -- all connections that wait are accepted, one after another
+  abbrev pub Accepts : Door L S W → Result Unit Fault → Door L S W → Type 0
+  Accepts old answer new = AdmitsAll noticed showed accepts most_accepted old answer new
+
+  -- each connection that is open is served once, in the order of the numbers, and no other is
+  abbrev pub ServesEach : ServerCore S → W → Result Bool Fault → ServerCore S → W → Type 0
+  ServesEach old watcher answer new after = VisitsEach (ServesAt gave took noticed showed) old watcher answer new after
+
+  -- whether a byte was read or written is asked, and asked afresh in the next turn
+  abbrev pub not_moved : ServerCore S → ServerCore S
+  not_moved core = record core { sockets = record core.sockets { moved = false } }
+
+  pub record WholeTurn (old : Door L S W) (did : Bool) (new : Door L S W) : Type 0 where
+    pub accepted : Door L S W
+    pub served : ServerCore S
+    pub acted : Bool
+    pub accepts_all : Accepts old (Ok tt) accepted
+    pub serves_each : ServesEach accepted.core accepted.watcher (Ok acted) served new.watcher
+    pub listener_stays : new.listener ≡ accepted.listener
+    pub becomes : new.core ≡ not_moved served
+    pub did_is : did ≡ (served.sockets.moved || acted)
+
+  -- a turn ends at the first fault, and what was done before stands
+  pub data BrokenTurn (old : Door L S W) (why : Fault) (new : Door L S W) : Type 0 where
+    accepting : Accepts old (Err why) new → BrokenTurn old why new
+    serving : (accepted : Door L S W) → Accepts old (Ok tt) accepted → ServesEach accepted.core accepted.watcher (Err why) new.core new.watcher
+        → new.listener ≡ accepted.listener → BrokenTurn old why new
+
+  abbrev pub TakesTurn : Door L S W → Result Bool Fault → Door L S W → Type 0
+  TakesTurn old (Ok did) new = WholeTurn old did new
+  TakesTurn old (Err why) new = BrokenTurn old why new

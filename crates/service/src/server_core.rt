@@ -1,0 +1,381 @@
+//! A server without its listener and its poll: the host, its connections, and the server's time.
+ghost use Rattle.std.specs.Prelude.{◌≡◌, ◌<◌, ◌∷◌, [], IfNone, IfSome};
+ghost use Rattle.host_core.specs.State.{most_connections};
+ghost use Rattle.service_events.specs.Notices.{is_bound, is_new, is_shown};
+ghost use Rattle.socket_links.specs.Sockets.{AreTaken};
+ghost use Rattle.service.specs.Accepting.{Admits, AdmitsAll, IsLeastFree, door, most_accepted};
+ghost use Rattle.service.specs.NumberTurns.{ServesAt, ServesIfOpen, ended, given_back, open_at};
+ghost use Rattle.service.specs.ServerTurns.{TakesTurn};
+ghost use Rattle.service.specs.TimeTurns.{AppliesAt, AppliesIfOpen, KeepsTime, nop_sent, sends_nop};
+ghost use Rattle.service.specs.Visits.{VisitsEach};
+ghost use Rattle.service.specs.Watching.{Told};
+
+use crate::accepting::{Accepted, Listener};
+use crate::connection_info::{ConnectionInfo, ConnectionInfos};
+use crate::reporting::report;
+use crate::watcher::Watcher;
+use applications::SessionName;
+use host_core::{Acted, Answer, Host, MOST_CONNECTIONS, Phase, Served, Ticket, Turn, serve_turn};
+use job_streams::{Fault, RawRead, RawWrite};
+use jobs::TimeLimits;
+use service_events::{Client, Due, Ending, Notice, Usage, are_applied, awaited_on, ending_of};
+use socket_links::Sockets;
+use std::alloc::{AllocError, Global};
+
+/// The most connections that one turn accepts: more than the system queues.
+const MOST_ACCEPTED: usize = 65_536;
+
+/// A host, the sockets of its connections, and what is known of each. It opens no socket and reads no clock.
+#[derive(Drop)]
+pub struct ServerCore<S> {
+    pub(crate) host: Host,
+    pub(crate) sockets: Sockets<S>,
+    /// What is known of each number's last connection.
+    pub(crate) infos: ConnectionInfos,
+    /// The name of the next session. The host counts its sessions likewise, in the tickets of questions.
+    pub(crate) next_session: SessionName,
+    /// The server's time, in milliseconds.
+    pub(crate) now: u64,
+    /// When the time limits were applied last, in milliseconds of that time.
+    pub(crate) applied: u64,
+}
+
+/// The least free connection number. None only if no number is free.
+fn free_number(host: &Host) -> Option<usize>
+    ensures least { IfSome result (λ conn. IsLeastFree conn host.now) }
+    ensures none { IfNone result (AreTaken most_connections host.now) }
+{
+    for conn in 0..MOST_CONNECTIONS {
+        if let Phase::Free = host.phase(conn) {
+            return Some(conn);
+        }
+    }
+    None
+}
+
+/// Whether a command waits for its answer that didn't before, by the numbers of both commands.
+fn is_new(before: Option<u16>, after: Option<u16>) -> bool
+    ensures { result ≡ is_new before after }
+{
+    match after {
+        Some(number) => match before {
+            Some(earlier) => number != earlier,
+            None => true,
+        },
+        None => false,
+    }
+}
+
+/// Whether the host showed a screen in a turn of serving, by the numbers of the commands that waited for their answers before and
+/// after it, and by who has the turn after it.
+pub(crate) fn is_shown(before: Option<u16>, after: Option<u16>, turn: Turn) -> bool
+    ensures { result ≡ is_shown before after turn }
+{
+    match turn {
+        Turn::Terminal => is_new(before, after),
+        Turn::Host => false,
+    }
+}
+
+/// Whether a terminal is bound to an LU.
+pub(crate) fn is_bound(phase: &Phase) -> bool
+    ensures { result ≡ is_bound phase.now }
+{
+    matches!(phase, Phase::Bound(_))
+}
+
+impl<S: RawRead + RawWrite + Drop> ServerCore<S> {
+    /// A server of a new host. `boot`: the first part of the names of its sessions. An error if memory is refused.
+    pub(crate) fn new(alloc: Global, host: Host, boot: u64) -> Result<ServerCore<S>, AllocError> {
+        Ok(ServerCore {
+            host,
+            sockets: Sockets::new(alloc)?,
+            infos: ConnectionInfos::new(alloc)?,
+            next_session: SessionName { boot, number: 0 },
+            now: 0,
+            applied: 0,
+        })
+    }
+
+    /// Begins a connection on the least free number. If no number is free, drops the socket. NoMemory if memory is refused, and any
+    /// fault of the watcher.
+    fn admit<W: Watcher>(&mut self, accepted: Accepted<S>, watcher: &mut W) -> Result<(), Fault>
+        ensures { Admits W.noticed W.showed accepted self.old watcher.old result self.new watcher.new }
+    {
+        let Accepted { socket, peer } = accepted;
+        let Some(conn) = free_number(&self.host) else {
+            return watcher.notice(&Notice::TurnedAway(peer));
+        };
+        match self.host.open(conn) {
+            Ok(()) => {}
+            Err(_) => return Err(Fault::NoMemory),
+        }
+        self.sockets.open(conn, socket);
+        let session = self.next_session;
+        self.next_session = session.next();
+        let client = Client {
+            conn,
+            session,
+            peer,
+        };
+        self.infos.set(conn, ConnectionInfo::new(client, self.now));
+        watcher.notice(&Notice::Connected(client))
+    }
+
+    /// Accepts all connections that wait. One that the listener can't accept now waits on. NoMemory if memory is refused, and any
+    /// fault of the watcher.
+    pub(crate) fn accept_all<L: Listener<S>, W: Watcher>(
+        &mut self,
+        listener: &mut L,
+        watcher: &mut W,
+    ) -> Result<(), Fault>
+        ensures { AdmitsAll W.noticed W.showed L.gave most_accepted (door listener.old self.old watcher.old) result (door listener.new self.new watcher.new) }
+    {
+        for _ in 0..MOST_ACCEPTED {
+            match listener.accept() {
+                Some(accepted) => self.admit(accepted, watcher)?,
+                None => return Ok(()),
+            }
+        }
+        Ok(())
+    }
+    /// What is known of a connection that is open.
+    pub(crate) fn open_info(&self, conn: usize) -> Option<ConnectionInfo>
+        requires { conn < most_connections }
+        ensures { result ≡ open_at conn self.entry.now }
+    {
+        if self.sockets.is_connected(conn) {
+            self.infos.at(conn)
+        } else {
+            None
+        }
+    }
+
+    /// Gives a connection back: frees its number and its LU, and closes its socket. Then tells the watcher that it is over. `bound`:
+    /// whether its terminal is bound to an LU, or was before this turn.
+    fn end<W: Watcher>(
+        &mut self,
+        conn: usize,
+        info: &ConnectionInfo,
+        bound: bool,
+        ending: Ending,
+        watcher: &mut W,
+    ) -> Result<(), Fault>
+        requires number { conn < most_connections }
+        ensures told { Told W.noticed W.showed (ended conn bound info.now self.old ending ∷ []) watcher.old result watcher.new }
+        ensures given_back { self.new ≡ given_back conn self.old }
+    {
+        let (sent, received) = (self.sockets.sent(conn), self.sockets.received(conn));
+        let usage = info.usage(self.now, bound, sent, received);
+        self.host.closed(conn);
+        self.sockets.close(conn);
+        watcher.notice(&Notice::Ended(info.client, ending, usage))
+    }
+
+    /// Serves a connection once, reports what happened, and ends it if it is over. Answers whether the number of unsent bytes changed.
+    /// NoMemory if memory is refused, and any fault of the watcher.
+    fn serve<W: Watcher>(
+        &mut self,
+        conn: usize,
+        info: &ConnectionInfo,
+        watcher: &mut W,
+    ) -> Result<bool, Fault>
+        requires number { conn < most_connections }
+        ensures { ServesIfOpen S.read_gave S.write_took W.noticed W.showed (Some info.now) conn self.old watcher.old result self.new watcher.new }
+    {
+        let before = self.host.phase(conn);
+        let pending = self.host.pending(conn);
+        let waiting = self.host.out(conn).len();
+        self.sockets.set_waiting(conn, waiting);
+        let served = serve_turn(&mut self.host, &mut self.sockets, conn);
+        if let Served::Memory = served {
+            return Err(Fault::NoMemory);
+        }
+        let acted = self.host.out(conn).len() != waiting;
+        let ending = ending_of(&self.host.phase(conn), served);
+        let shown = is_shown(pending, self.host.pending(conn), self.host.turn(conn));
+        let bound = is_bound(&before);
+        let after = info.with_turn(shown & bound);
+        self.infos.set(conn, after);
+        report(&mut self.host, conn, &info.client, &before, shown, watcher)?;
+        if let Some(ending) = ending {
+            self.end(conn, &after, bound, ending, watcher)?;
+        }
+        Ok(acted)
+    }
+
+    /// Serves a number's connection once, if it has one that is open. Answers whether the number of unsent bytes changed.
+    fn serve_if_open<W: Watcher>(&mut self, conn: usize, watcher: &mut W) -> Result<bool, Fault>
+        requires number { conn < most_connections }
+        ensures { ServesAt S.read_gave S.write_took W.noticed W.showed conn self.old watcher.old result self.new watcher.new }
+    {
+        match self.open_info(conn) {
+            Some(info) => self.serve(conn, &info, watcher),
+            None => Ok(false),
+        }
+    }
+
+    /// Serves each connection that is open once, in the order of their numbers. Answers whether the number of unsent bytes of one
+    /// changed. The first fault ends it.
+    pub(crate) fn serve_each<W: Watcher>(&mut self, watcher: &mut W) -> Result<bool, Fault>
+        ensures { VisitsEach (ServesAt S.read_gave S.write_took W.noticed W.showed) self.old watcher.old result self.new watcher.new }
+    {
+        let mut acted = false;
+        for conn in 0..MOST_CONNECTIONS {
+            acted |= self.serve_if_open(conn, watcher)?;
+        }
+        Ok(acted)
+    }
+
+    /// One turn: accepts all connections that wait, and serves each connection once. Answers whether a byte was read or written, or the
+    /// host acted. NoMemory if memory is refused, and any fault of the watcher.
+    pub(crate) fn turn<L: Listener<S>, W: Watcher>(
+        &mut self,
+        listener: &mut L,
+        watcher: &mut W,
+    ) -> Result<bool, Fault>
+        ensures { TakesTurn S.read_gave S.write_took W.noticed W.showed L.gave (door listener.old self.old watcher.old) result (door listener.new self.new watcher.new) }
+    {
+        self.accept_all(listener, watcher)?;
+        let acted = self.serve_each(watcher)?;
+        Ok(self.sockets.take_moved() | acted)
+    }
+
+    /// Hands the host the answer to a question. The watcher hears of a screen that it shows; its fault is returned.
+    pub(crate) fn answer<W: Watcher>(
+        &mut self,
+        conn: usize,
+        ticket: Ticket,
+        answer: &Answer,
+        watcher: &mut W,
+    ) -> Result<Acted, Fault>
+        requires { conn < most_connections }
+    {
+        let was_bound = is_bound(&self.host.phase(conn));
+        let pending = self.host.pending(conn);
+        let acted = self.host.answer(conn, ticket, answer);
+        if is_shown(pending, self.host.pending(conn), self.host.turn(conn)) {
+            if let Some(info) = self.infos.at(conn) {
+                self.infos.set(conn, info.with_turn(was_bound));
+            }
+            watcher.shown(&self.host, conn)?;
+        }
+        Ok(acted)
+    }
+
+    /// What an open connection took so far; None if the number has no connection.
+    pub(crate) fn usage(&self, conn: usize) -> Option<Usage>
+        requires { conn < most_connections }
+    {
+        let info = self.open_info(conn)?;
+        let bound = is_bound(&self.host.phase(conn));
+        let (sent, received) = (self.sockets.sent(conn), self.sockets.received(conn));
+        Some(info.usage(self.now, bound, sent, received))
+    }
+
+    /// Sends IAC NOP on a connection, unless output waits there. Answers whether it did.
+    fn send_nop(&mut self, conn: usize) -> bool
+        requires number { conn < most_connections }
+        ensures sends { result ≡ sends_nop conn self.old }
+        ensures sent { self.new ≡ nop_sent conn self.old }
+    {
+        matches!(self.host.keep_alive(conn), Acted::Sent)
+    }
+
+    /// Does what the time limits ask for on a connection. Answers whether it did something.
+    fn apply_limits<W: Watcher>(
+        &mut self,
+        conn: usize,
+        info: &ConnectionInfo,
+        limits: &TimeLimits,
+        watcher: &mut W,
+    ) -> Result<bool, Fault>
+        requires number { conn < most_connections }
+        ensures { AppliesIfOpen W.noticed W.showed limits.now (Some info.now) conn self.old watcher.old result self.new watcher.new }
+    {
+        let (received, sent) = (self.sockets.received(conn), self.sockets.sent(conn));
+        let phase = self.host.phase(conn);
+        let awaited = awaited_on(&phase, self.host.turn(conn), self.host.pending(conn));
+        let unanswered = info.activity.is_unanswered(received, sent);
+        let mut activity = info.activity;
+        activity.hear(received, sent, awaited, self.now);
+        match activity.due(limits, awaited, self.now) {
+            Due::Disconnect(overdue) => {
+                self.end(
+                    conn,
+                    info,
+                    is_bound(&phase),
+                    Ending::Dropped(overdue),
+                    watcher,
+                )?;
+                Ok(true)
+            }
+            Due::KeepAlive => {
+                activity.keep_alive(self.now);
+                self.infos.set(conn, ConnectionInfo { activity, ..*info });
+                Ok(self.send_nop(conn))
+            }
+            Due::Nothing => {
+                self.infos.set(conn, ConnectionInfo { activity, ..*info });
+                if unanswered {
+                    Ok(self.send_nop(conn))
+                } else {
+                    Ok(false)
+                }
+            }
+        }
+    }
+
+    /// Does what the time limits ask for on a number's connection, if it has one that is open. Answers whether it did something.
+    fn apply_if_open<W: Watcher>(
+        &mut self,
+        conn: usize,
+        limits: &TimeLimits,
+        watcher: &mut W,
+    ) -> Result<bool, Fault>
+        requires number { conn < most_connections }
+        ensures { AppliesAt W.noticed W.showed limits.now conn self.old watcher.old result self.new watcher.new }
+    {
+        match self.open_info(conn) {
+            Some(info) => self.apply_limits(conn, &info, limits, watcher),
+            None => Ok(false),
+        }
+    }
+
+    /// Does what the time limits ask for on each connection that is open, in the order of their numbers. Answers whether it did
+    /// something. The first fault ends it.
+    fn apply_each<W: Watcher>(
+        &mut self,
+        limits: &TimeLimits,
+        watcher: &mut W,
+    ) -> Result<bool, Fault>
+        ensures { VisitsEach (AppliesAt W.noticed W.showed limits.now) self.old watcher.old result self.new watcher.new }
+    {
+        let mut acted = false;
+        for conn in 0..MOST_CONNECTIONS {
+            acted |= self.apply_if_open(conn, limits, watcher)?;
+        }
+        Ok(acted)
+    }
+
+    /// Takes the time after a turn, in milliseconds. If a byte was read or written in it or the host acted (`moved`), and else ten times
+    /// a second, does what the time limits ask for: sends IAC NOP, or drops a connection. Sends IAC NOP also where bytes came and
+    /// nothing was sent in the turn, since it carries the acknowledgement that the peer's TCP waits for. Answers whether it did
+    /// something. A fault of the watcher is returned.
+    pub(crate) fn keep_time<W: Watcher>(
+        &mut self,
+        now: u64,
+        moved: bool,
+        limits: &TimeLimits,
+        watcher: &mut W,
+    ) -> Result<bool, Fault>
+        ensures { KeepsTime W.noticed W.showed limits.now now moved self.old watcher.old result self.new watcher.new }
+    {
+        self.now = now;
+        if !are_applied(moved, self.applied, now) {
+            return Ok(false);
+        }
+        self.applied = now;
+        self.apply_each(limits, watcher)
+    }
+}

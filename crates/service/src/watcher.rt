@@ -1,0 +1,72 @@
+//! Who hears what happens at a server.
+ghost use Rattle.std.specs.Prelude.{◌<◌};
+ghost use Rattle.host_core.specs.State.{most_connections};
+
+use crate::server::Server;
+use applications::{ApplicationFault, Replaced};
+use host_core::Host;
+use job_streams::Fault;
+use service_events::{Client, Notice};
+
+/// Gets the notices of a server.
+///
+/// `noticed` and `showed` relate the watcher before a call, what the call was given, its answer, and the watcher after it. Code that
+/// is generic over watchers has one only from a call. So its contract can say what the watcher heard, and in which order.
+pub trait Watcher {
+    ghost use Rattle.std.specs.Prelude.{ℕ, Result};
+    ghost use Rattle.host_core.specs.State.{Host as HostValue};
+    ghost use Rattle.job_streams.specs.declared.fault.Fault.{Fault};
+    ghost use Rattle.service_events.specs.declared.notice.Notice.{Notice};
+
+    ghost noticed: { Self → Notice → Result Unit Fault → Self → Type 0 };
+
+    ghost showed: { Self → HostValue → ℕ → Result Unit Fault → Self → Type 0 };
+
+    /// Handles one notice. A fault ends the turn.
+    fn notice(&mut self, notice: &Notice) -> Result<(), Fault>
+        ensures { noticed self.old notice.now result self.new };
+
+    /// Handles that a question to the application has no answer. A fault ends the turn.
+    fn unanswered(&mut self, client: &Client, fault: &ApplicationFault) -> Result<(), Fault>;
+
+    /// Handles that characters of the application's reply were replaced. A fault ends the turn.
+    fn replaced(&mut self, client: &Client, replaced: &Replaced<'_>) -> Result<(), Fault>;
+
+    /// Handles that the host showed a screen on a connection. A fault ends the turn.
+    fn shown(&mut self, host: &Host, conn: usize) -> Result<(), Fault>
+        requires { conn < most_connections }
+        ensures { showed self.old host.now conn result self.new };
+
+    /// Does what else is to be done after a turn, at this time in milliseconds. Answers whether it did something.
+    fn turned(&mut self, server: &Server, now: u64) -> bool;
+}
+
+/// Ignores all notices.
+#[derive(Drop)]
+pub struct Unwatched;
+
+impl Watcher for Unwatched {
+    ghost noticed = { λ _ _ _ _. Unit {0} };
+
+    ghost showed = { λ _ _ _ _ _. Unit {0} };
+
+    fn notice(&mut self, _notice: &Notice) -> Result<(), Fault> {
+        Ok(())
+    }
+
+    fn unanswered(&mut self, _client: &Client, _fault: &ApplicationFault) -> Result<(), Fault> {
+        Ok(())
+    }
+
+    fn replaced(&mut self, _client: &Client, _replaced: &Replaced<'_>) -> Result<(), Fault> {
+        Ok(())
+    }
+
+    fn shown(&mut self, _host: &Host, _conn: usize) -> Result<(), Fault> {
+        Ok(())
+    }
+
+    fn turned(&mut self, _server: &Server, _now: u64) -> bool {
+        false
+    }
+}
