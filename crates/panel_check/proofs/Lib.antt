@@ -2,3 +2,4 @@ pub mod Counting
 pub mod Exclusive
 pub mod LuNames
 pub mod Reporting
+pub mod Telling

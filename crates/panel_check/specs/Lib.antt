@@ -1,3 +1,5 @@
+pub mod Causes
+pub mod Listed
 pub mod Pages
 pub mod PanelText
 pub mod Report

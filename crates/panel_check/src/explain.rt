@@ -1,4 +1,11 @@
 //! All that is found in a panel text, in the order of its lines.
+ghost use Rattle.std.specs.Prelude.{◌≡◌, [], ◌∷◌, None, Some, IfOk};
+ghost use Rattle.toml.specs.Parse.{parse_document};
+ghost use Rattle.toml.specs.View.{table_view};
+ghost use Rattle.panel_check.specs.Causes.{IsFaultOf, TellsFaults};
+ghost use Rattle.panel_check.specs.declared.finding.Cause.TheVariants as cause;
+
+use crate::causes::causes_in;
 use crate::finding::{Cause, Finding};
 use crate::items::check_items;
 use crate::lines::Lines;
@@ -6,6 +13,7 @@ use crate::lus::check_lus;
 use crate::names::check_names;
 use crate::notes::Notes;
 use crate::rules::check_keys;
+use crate::settle::{Settled, settle};
 use crate::spot::Spot;
 use crate::survey::{PanelEntry, Survey};
 use crate::targets::check_targets;
@@ -14,17 +22,6 @@ use panels::rules::{field_rules, panel_rules, text_rules, top_rules};
 use std::alloc::{AllocError, Global};
 use toml::Table;
 use toml::de::Error;
-
-/// Notes that a text isn't TOML.
-fn note_no_toml(notes: &mut Notes, text: &str, error: &Error) -> Result<(), AllocError> {
-    let Some(span) = error.span() else {
-        return Err(AllocError);
-    };
-    let before = text.as_bytes().get(..span.start).unwrap_or(&[]);
-    let ends = before.iter().filter(|byte| **byte == b'\n').count();
-    let message = String::from_str(notes.alloc, error.message())?;
-    notes.add(Cause::NotToml, ends.saturating_add(1), "", message)
-}
 
 /// Notes the values in a panel's table of keys that are no texts.
 fn check_key_values(notes: &mut Notes, panel: &PanelEntry, index: usize) -> Result<(), AllocError> {
@@ -88,8 +85,8 @@ fn check_tree(notes: &mut Notes, top: &Table) -> Result<(), AllocError> {
     check_lus(notes, top)
 }
 
-/// All that is found in a panel text, in the order of its lines.
-pub(crate) fn explain(alloc: Global, text: &str) -> Result<Vec<Finding>, AllocError> {
+/// What is found in a tree, in the order of the text's lines.
+fn findings_in(alloc: Global, text: &str, top: &Table) -> Result<Vec<Finding>, AllocError> {
     let lines = Lines::of_text(alloc, text)?;
     let findings = Vec::new(alloc);
     let mut notes = Notes {
@@ -97,11 +94,69 @@ pub(crate) fn explain(alloc: Global, text: &str) -> Result<Vec<Finding>, AllocEr
         lines,
         findings,
     };
-    match toml::table_from_str(alloc, text) {
-        Ok(top) => check_tree(&mut notes, &top)?,
-        Err(error) => note_no_toml(&mut notes, text, &error)?,
-    }
+    check_tree(&mut notes, top)?;
     let Notes { mut findings, .. } = notes;
     findings.sort_by_key(|finding| finding.line)?;
     Ok(findings)
+}
+
+/// What is found in the tree of a text.
+fn explain_tree(alloc: Global, text: &str, top: &Table) -> Result<Settled, AllocError>
+    ensures { parse_document text.now ≡ Some (table_view top.now)
+        → IfOk result (λ settled. TellsFaults (IsFaultOf text.now) settled.findings.items) }
+{
+    let findings = findings_in(alloc, text, top)?;
+    let causes = causes_in(alloc, top)?;
+    let settled = settle(alloc, findings, &causes)?;
+    Ok(settled)
+}
+
+/// That a text isn't TOML.
+fn no_toml(alloc: Global, text: &str, error: &Error) -> Result<Finding, AllocError>
+    ensures { IfOk result (λ finding. finding.cause ≡ cause.NotToml) }
+{
+    let Some(span) = error.span() else {
+        return Err(AllocError);
+    };
+    let before = text.as_bytes().get(..span.start).unwrap_or(&[]);
+    let ends = before.iter().filter(|byte| **byte == b'\n').count();
+    Ok(Finding {
+        cause: Cause::NotToml,
+        line: ends.saturating_add(1),
+        place: String::new(alloc),
+        message: String::from_str(alloc, error.message())?,
+    })
+}
+
+/// One finding alone.
+fn only(alloc: Global, finding: Finding) -> Result<Vec<Finding>, AllocError>
+    ensures { IfOk result (λ only. only.items ≡ finding ∷ []) }
+{
+    let mut findings = Vec::new(alloc);
+    findings.push(finding)?;
+    Ok(findings)
+}
+
+/// What is found in a text that isn't TOML.
+fn explain_no_toml(alloc: Global, text: &str, error: &Error) -> Result<Settled, AllocError>
+    ensures { parse_document text.now ≡ None
+        → IfOk result (λ settled. TellsFaults (IsFaultOf text.now) settled.findings.items) }
+{
+    let finding = no_toml(alloc, text, error)?;
+    let findings = only(alloc, finding)?;
+    Ok(Settled {
+        findings,
+        agrees: true,
+    })
+}
+
+/// All that is found in a panel text, in the order of its lines.
+pub(crate) fn explain(alloc: Global, text: &str) -> Result<Settled, AllocError>
+    ensures { IfOk result (λ settled. TellsFaults (IsFaultOf text.now) settled.findings.items) }
+{
+    match toml::table_from_str(alloc, text) {
+        Ok(top) => explain_tree(alloc, text, &top),
+        Err(error) if error.is_memory() => Err(AllocError),
+        Err(error) => explain_no_toml(alloc, text, &error),
+    }
 }

@@ -1,14 +1,15 @@
 //! The report on a panel text.
-ghost use Rattle.std.specs.Prelude.{◌≡◌, ◌++◌, IfOk, IsTrue, OnOk, string_bytes};
+ghost use Rattle.std.specs.Prelude.{◌≡◌, ◌++◌, IfOk, OnOk, string_bytes};
 ghost use Rattle.panel_check.specs.Pages.{count_text, findings_text, outcome_text, page_text, plural, sizes_text, summary_text, warnings_text};
 ghost use Rattle.panel_check.specs.PanelText.{panel_text};
-ghost use Rattle.panel_check.specs.Report.{HasCause, HasFirstCause, IsFaultlessIfAccepted, fault_count};
+ghost use Rattle.panel_check.specs.Causes.{IsFaultOf, TellsFaults};
+ghost use Rattle.panel_check.specs.Report.{HasFirstCause, IsFaultlessIfAccepted, fault_count};
 
 use crate::explain::explain;
-use crate::finding::{Cause, Finding};
+use crate::finding::Finding;
 use crate::judge::{Sizes, Verdict, judge};
 use crate::part::panel_part;
-use panels::PanelFault;
+use crate::settle::{Settled, has_cause, with_cause};
 use std::alloc::{AllocError, Global};
 
 /// What is found in a panel text, in the order of its lines.
@@ -22,28 +23,6 @@ pub struct Report {
     pub agrees: bool,
 }
 
-/// A finding that says no more than the readers do.
-fn plain(alloc: Global, cause: Cause) -> Result<Finding, AllocError>
-    ensures { IfOk result (λ finding. finding.cause ≡ cause) }
-{
-    let message = match cause {
-        Cause::Tree(fault, place) => {
-            let fault = PanelFault::Tree(fault, place);
-            format!(in alloc; "{fault}")?
-        }
-        Cause::Lus(fault) => format!(in alloc; "{fault}")?,
-        Cause::NotToml | Cause::TextWraps | Cause::FillNotNumeric | Cause::NoKeyLeads => {
-            String::from_str(alloc, "not TOML")?
-        }
-    };
-    Ok(Finding {
-        cause,
-        line: 1,
-        place: String::new(alloc),
-        message,
-    })
-}
-
 /// These findings; none of them if one is a fault.
 fn unless_faulty(alloc: Global, findings: Vec<Finding>) -> Vec<Finding>
     ensures { fault_count result.items ≡ 0 }
@@ -53,41 +32,6 @@ fn unless_faulty(alloc: Global, findings: Vec<Finding>) -> Vec<Finding>
     } else {
         Vec::new(alloc)
     }
-}
-
-/// Adds a finding for a cause, unless there is one.
-fn with_cause(
-    alloc: Global,
-    mut findings: Vec<Finding>,
-    cause: Cause,
-) -> Result<Vec<Finding>, AllocError>
-    ensures { IfOk result (λ all. HasCause cause all.items) }
-{
-    if has_cause(&findings, cause) {
-        return Ok(findings);
-    }
-    // The readers tell no line, so it comes first.
-    findings.insert(0, plain(alloc, cause)?)?;
-    Ok(findings)
-}
-
-/// Whether a finding is of a cause.
-fn is_of(finding: &Finding, cause: Cause) -> bool
-    ensures { IsTrue result → finding.now.cause ≡ cause }
-{
-    finding.cause == cause
-}
-
-/// Whether a finding of a cause is there.
-fn has_cause(findings: &[Finding], cause: Cause) -> bool
-    ensures { IsTrue result → HasCause cause findings.now }
-{
-    for finding in findings {
-        if is_of(finding, cause) {
-            return true;
-        }
-    }
-    false
 }
 
 /// How many faults there are.
@@ -100,21 +44,24 @@ fn count_faults(findings: &[Finding]) -> usize
         .count()
 }
 
-/// The report on a panel text: everything up to a line `%%`. `PanelSet::read` and `Pool::read` decide: if they accept the text, the
-/// report has only warnings; if they refuse it, the fault for which they do is among its faults.
+/// The report on a panel text: everything up to a line `%%`. It has each fault of the text's tables, and no other of a
+/// table, but for what may merely follow from another fault, or is more of a table whose keys are wrong.
+/// `PanelSet::read` and `Pool::read` decide: if they accept the text, the report has only warnings; if they refuse it,
+/// the fault for which they do is among its faults.
 ///
 /// Err only if memory is refused.
 pub fn check(alloc: Global, text: &str) -> Result<Report, AllocError>
+    ensures faults { IfOk result (λ report. TellsFaults (IsFaultOf (panel_text text.now)) report.findings.items) }
     ensures faultless { IfOk result (λ report. IsFaultlessIfAccepted (panel_text text.now) report.findings.items) }
     ensures reason { IfOk result (λ report. HasFirstCause (panel_text text.now) report.findings.items) }
 {
     // For the contract.
     panels::laws::a_text_defines_its_panels_once();
     let text = panel_part(text);
-    let findings = explain(alloc, text)?;
+    let Settled { findings, agrees } = explain(alloc, text)?;
     match judge(alloc, text)? {
         Verdict::Accepted(sizes) => {
-            let agrees = count_faults(&findings) == 0;
+            let agrees = agrees & (count_faults(&findings) == 0);
             Ok(Report {
                 findings: unless_faulty(alloc, findings),
                 sizes: Some(sizes),
@@ -122,7 +69,7 @@ pub fn check(alloc: Global, text: &str) -> Result<Report, AllocError>
             })
         }
         Verdict::Refused(cause) => {
-            let agrees = has_cause(&findings, cause);
+            let agrees = agrees & has_cause(&findings, cause);
             Ok(Report {
                 findings: with_cause(alloc, findings, cause)?,
                 sizes: None,

@@ -10,6 +10,11 @@ pub(crate) fn text_at<'a>(table: &'a Table, key: &str) -> Option<&'a str> {
     table.get(key).and_then(|value| value.as_str())
 }
 
+/// The name of a panel or a field; empty if it has none, as the panel reader takes it.
+fn name_of(table: &Table) -> &str {
+    text_at(table, "name").unwrap_or("")
+}
+
 pub(crate) fn integer_at(table: &Table, key: &str) -> Option<i64> {
     table.get(key).and_then(|value| value.as_integer())
 }
@@ -98,9 +103,7 @@ impl<'a> PanelEntry<'a> {
     }
 
     pub(crate) fn has_field_named(&self, name: &str) -> bool {
-        self.fields
-            .iter()
-            .any(|field| text_at(field.table, "name") == Some(name))
+        self.fields.iter().any(|field| name_of(field.table) == name)
     }
 }
 
@@ -245,19 +248,17 @@ impl<'a> Survey<'a> {
             ..
         } = self;
         for (index, panel) in panels.iter().enumerate() {
-            if let Some(name) = text_at(panel.table, "name") {
-                if !panel_names.contains_key(name) {
-                    panel_names.insert(String::from_str(alloc, name)?, index)?;
-                }
-                if panel.is_base() && !base_names.contains_key(name) {
-                    base_names.insert(String::from_str(alloc, name)?, index)?;
-                }
+            let name = name_of(panel.table);
+            if !panel_names.contains_key(name) {
+                panel_names.insert(String::from_str(alloc, name)?, index)?;
+            }
+            if panel.is_base() && !base_names.contains_key(name) {
+                base_names.insert(String::from_str(alloc, name)?, index)?;
             }
             for field in &panel.fields {
-                if let Some(name) = text_at(field.table, "name") {
-                    if !field_names.contains_key(name) {
-                        field_names.insert(String::from_str(alloc, name)?, field.spot)?;
-                    }
+                let name = name_of(field.table);
+                if !field_names.contains_key(name) {
+                    field_names.insert(String::from_str(alloc, name)?, field.spot)?;
                 }
             }
         }

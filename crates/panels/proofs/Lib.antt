@@ -1,6 +1,5 @@
 pub mod Trees
 pub mod Turning
-pub mod Standing
 pub mod Building
 pub mod Codes
 pub mod Indexing

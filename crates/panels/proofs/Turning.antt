@@ -1,9 +1,11 @@
 -- Turns that pass, part by part.
-use Rattle.std.proofs.Common.{◌≡◌, ◌<◌, ◌≤◌, ◌+◌, ℕ, zero, suc, true, List, [], ◌∷◌, length, get_or, Option, Some, None, IsSome, refl, ap, sym, subst, inl, inr, ◌∙◌, add-one, arith}
+use Rattle.std.proofs.Common.{◌≡◌, ◌<◌, ◌≤◌, ◌+◌, ℕ, zero, suc, true, List, [], ◌∷◌, ◌++◌, length, get_or, Option, Some, None, IsSome, refl, ap, sym, subst, inl, inr, ◌∙◌, add-one, arith}
 use Rattle.std.specs.Prelude.{◌⊎◌, ◌==◌, All, Contains, IsTrue, is_some, slice_get, if◌then◌else◌}
 use Rattle.std.specs.Option.{option_and_then}
 use Rattle.std.proofs.lemmas.Bool.{cases_Bool, false≢true}
 use Rattle.std.proofs.lemmas.Bool.Decides.{Decides-eqb}
+use Rattle.std.proofs.lemmas.List.Elements.{All-push, Contains-append_left, Contains-push}
+use Rattle.std.proofs.lemmas.List.Quantifiers.{all_pairs_push}
 use Rattle.std.proofs.lemmas.Option.{none-some, same_Some, slice_get-get_or, slice_get_cases}
 use Rattle.panels.specs.declared.fault.TreeFault.{TreeFault}
 use Rattle.panels.specs.declared.fault.TreeFault.TheVariants.{UnknownKey, Missing, BadKind, BadName, TwiceNamed, OutOfPlace, Overlap, NoCode, NoTarget, BadKey, TooMany, BadModel}
@@ -11,10 +13,12 @@ use Rattle.panels.specs.declared.fault.Part.{Part}
 use Rattle.panels.specs.declared.fault.Part.TheVariants.{Top, Panel, Text, Field, Keys}
 use Rattle.panels.specs.declared.fault.At.{At}
 use Rattle.panels.specs.Draft.{DraftPanel, DraftText}
-use Rattle.panels.specs.Faults.{IsFaulty, place_of, faults_of, is_part, item_at}
+use Rattle.panels.specs.Faults.{HasFault, IsFaulty, place_of, faults_of, is_part, item_at}
 use Rattle.panels.specs.Passes.{IsFirst, IsFaultless}
-use Rattle.panels.specs.Turns.{pass_of, panel_turn, kind_turn, item_turn, fault_turn, turn_of, IsSooner, IsClearTo, IsFirstFault}
-use Rattle.panels.specs.Walk.{turn_at, IsCleanAt, IsFirstListed}
+use Rattle.panels.specs.Turns.{pass_of, panel_turn, kind_turn, item_turn, fault_turn, turn_of, IsSooner, IsFirstFault}
+use Rattle.panels.specs.Listing.{AreFaultsOf, IsBefore}
+use Rattle.panels.specs.Walk.{turn_at, turn_in, turn_behind, AreFoundTo, IsAdded}
+use Rattle.panels.specs.declared.fault.PartFault.{PartFault}
 use Rattle.panels.proofs.Faultless.{there_in}
 
 -- ---- turns, as numbers
@@ -147,44 +151,96 @@ same_part : (part other : Part) → panel_turn part ≡ panel_turn other → kin
 same_part part other panel kind item =
     sym (has_turn part) ∙ (ap (λ n. part_from n (kind_turn part) (item_turn part)) panel ∙ (ap (λ n. part_from (panel_turn other) n (item_turn part)) kind ∙ (ap (λ n. part_from (panel_turn other) (kind_turn other) n) item ∙ has_turn other)))
 
--- ---- what is clear
+-- ---- turns that come one after another
 
-clean_there : (pass : ℕ) (part other : Part) (draft : DraftText) (fault : TreeFault) → IsCleanAt pass other draft → pass_of fault ≡ pass → part ≡ other → ¬ IsFaulty fault part draft
-clean_there pass part other draft fault clean is same stands = clean fault is (subst (λ q. IsFaulty fault q draft) same stands)
+pub sooner_through : (xs ys zs : List ℕ) → IsSooner xs ys → IsSooner ys zs → IsSooner xs zs
+sooner_through [] ys zs first second = absurd first
+sooner_through (x ∷ xs) [] zs first second = absurd first
+sooner_through (x ∷ xs) (y ∷ ys) [] first second = absurd second
+sooner_through (x ∷ xs) (y ∷ ys) (z ∷ zs) first second =
+    elim first [
+      | inl less ↦ elim second [
+        | inl more ↦ (let below : x < z = omega arith in inl below)
+        | inr same ↦ (let below : x < z = omega (arith, same.0) in inl below)
+      ]
+      | inr at_x ↦ elim second [
+        | inl more ↦ (let below : x < z = omega (arith, at_x.0) in inl below)
+        | inr at_y ↦ inr (at_x.0 ∙ at_y.0, sooner_through xs ys zs at_x.1 at_y.1)
+      ]
+    ]
 
-pub found : (pass : ℕ) (fault : TreeFault) (part : Part) (draft : DraftText) → IsClearTo (turn_at pass part) draft → pass_of fault ≡ pass
-    → ((other : TreeFault) → pass_of other ≡ pass → fault_turn other < fault_turn fault → ¬ IsFaulty other part draft) → IsFaulty fault part draft → IsFirstFault fault (place_of part) draft
-found pass fault part draft clear is before stands = record {
-  part = part;
-  at_place = refl;
-  stands = stands;
-  sooner = λ other elsewhere soon faulty.
-      elim (next_fault _ _ _ _ _ _ _ _ _ _ soon) [
-        | inl sooner ↦ clear other elsewhere (subst (λ n. IsSooner (turn_of other elsewhere) (n ∷ panel_turn part ∷ kind_turn part ∷ item_turn part ∷ 0 ∷ [])) is sooner) faulty
-        | inr (at_pass, at_panel, at_kind, at_item, less) ↦
-            before other (at_pass ∙ is) less (subst (λ q. IsFaulty other q draft) (same_part elsewhere part at_panel at_kind at_item) faulty)
-      ];
+pub not_sooner : (xs : List ℕ) → IsSooner xs xs → ⊥
+not_sooner [] soon = soon
+not_sooner (x ∷ xs) soon = elim soon [ inl less ↦ absurd (omega arith) | inr same ↦ not_sooner xs same.1 ]
+
+behind_start : (t : List ℕ) (a b c d n : ℕ) → IsSooner t (a ∷ b ∷ c ∷ d ∷ 0 ∷ []) → IsSooner t (a ∷ b ∷ c ∷ d ∷ n ∷ [])
+behind_start t a b c d zero soon = soon
+behind_start t a b c d (suc n) soon =
+    let some : 0 < suc n = omega arith in
+    sooner_through t (a ∷ b ∷ c ∷ d ∷ 0 ∷ []) (a ∷ b ∷ c ∷ d ∷ suc n ∷ []) soon (inr (refl, inr (refl, inr (refl, inr (refl, inl some)))))
+
+turn_few : (fault : TreeFault) → fault_turn fault < length (faults_of (pass_of fault))
+turn_few UnknownKey = omega arith
+turn_few Missing = omega arith
+turn_few BadKind = omega arith
+turn_few TooMany = omega arith
+turn_few BadName = omega arith
+turn_few BadKey = omega arith
+turn_few TwiceNamed = omega arith
+turn_few BadModel = omega arith
+turn_few OutOfPlace = omega arith
+turn_few NoCode = omega arith
+turn_few Overlap = omega arith
+turn_few NoTarget = omega arith
+
+-- the turns of a pass in a table are before the one behind it
+in_part : (pass : ℕ) (fault : TreeFault) (part other : Part) → pass_of fault ≡ pass → part ≡ other → IsSooner (turn_of fault part) (turn_behind pass other)
+in_part pass fault part other at_pass same =
+    let few : fault_turn fault < length (faults_of pass) = subst (λ n. fault_turn fault < length (faults_of n)) at_pass (turn_few fault) in
+    subst (λ q. IsSooner (turn_of fault part) (turn_behind pass q)) same (inr (at_pass, inr (refl, inr (refl, inr (refl, inl few)))))
+
+-- ---- what is found
+
+advance : (turn next : List ℕ) (draft : DraftText) (found : List PartFault) → IsSooner turn next
+    → ((fault : TreeFault) (part : Part) → IsSooner (turn_of fault part) next → IsFaulty fault part draft → IsSooner (turn_of fault part) turn)
+    → AreFoundTo turn draft found → AreFoundTo next draft found
+advance turn next draft found before all s = record {
+  stand = s.stand;
+  each = λ fault part soon faulty. s.each fault part (all fault part soon faulty) faulty;
+  sooner = λ k d below.
+      let at = get_or found k d in
+      sooner_through (turn_of at.fault at.part) turn next (s.sooner k d below) before;
+  in_order = s.in_order;
 }
 
-text_clear_suc : (pass p i : ℕ) (draft : DraftText) → IsClearTo (turn_at pass (Text p i)) draft → IsCleanAt pass (Text p i) draft → IsClearTo (turn_at pass (Text p (suc i))) draft
-text_clear_suc pass p i draft clear clean fault part soon faulty =
-    elim (next_item _ _ _ _ _ _ _ _ _ soon) [
-      | inl sooner ↦ clear fault part sooner faulty
-      | inr (at_pass, at_panel, at_kind, at_item) ↦ clean_there pass part (Text p i) draft fault clean at_pass (same_part part (Text p i) at_panel at_kind at_item) faulty
-    ]
+behind : (pass : ℕ) (part other : Part) (fault : TreeFault) → IsSooner (turn_of fault other) (turn_at pass part) → IsSooner (turn_of fault other) (turn_behind pass part)
+behind pass part other fault soon = behind_start (turn_of fault other) pass (panel_turn part) (kind_turn part) (item_turn part) (length (faults_of pass)) soon
 
-pub text_clear : (pass p i : ℕ) (draft : DraftText) → IsClearTo (turn_at pass (Text p i)) draft → IsCleanAt pass (Text p i) draft → IsClearTo (turn_at pass (Text p (i + 1))) draft
-text_clear pass p i draft clear clean = subst (λ n. IsClearTo (turn_at pass (Text p n)) draft) (sym (add-one i)) (text_clear_suc pass p i draft clear clean)
+text_found_suc : (pass p i : ℕ) (draft : DraftText) (found : List PartFault) → AreFoundTo (turn_behind pass (Text p i)) draft found → AreFoundTo (turn_at pass (Text p (suc i))) draft found
+text_found_suc pass p i draft found =
+    let less : i < suc i = omega arith in
+    advance (turn_behind pass (Text p i)) (turn_at pass (Text p (suc i))) draft found (inr (refl, inr (refl, inr (refl, inl less))))
+    (λ fault part soon faulty.
+        elim (next_item _ _ _ _ _ _ _ _ _ soon) [
+          | inl sooner ↦ behind pass (Text p i) part fault sooner
+          | inr (at_pass, at_panel, at_kind, at_item) ↦ in_part pass fault part (Text p i) at_pass (same_part part (Text p i) at_panel at_kind at_item)
+        ])
 
-field_clear_suc : (pass p i : ℕ) (draft : DraftText) → IsClearTo (turn_at pass (Field p i)) draft → IsCleanAt pass (Field p i) draft → IsClearTo (turn_at pass (Field p (suc i))) draft
-field_clear_suc pass p i draft clear clean fault part soon faulty =
-    elim (next_item _ _ _ _ _ _ _ _ _ soon) [
-      | inl sooner ↦ clear fault part sooner faulty
-      | inr (at_pass, at_panel, at_kind, at_item) ↦ clean_there pass part (Field p i) draft fault clean at_pass (same_part part (Field p i) at_panel at_kind at_item) faulty
-    ]
+pub text_found : (pass p i : ℕ) (draft : DraftText) (found : List PartFault) → AreFoundTo (turn_behind pass (Text p i)) draft found → AreFoundTo (turn_at pass (Text p (i + 1))) draft found
+text_found pass p i draft found s = subst (λ n. AreFoundTo (turn_at pass (Text p n)) draft found) (sym (add-one i)) (text_found_suc pass p i draft found s)
 
-pub field_clear : (pass p i : ℕ) (draft : DraftText) → IsClearTo (turn_at pass (Field p i)) draft → IsCleanAt pass (Field p i) draft → IsClearTo (turn_at pass (Field p (i + 1))) draft
-field_clear pass p i draft clear clean = subst (λ n. IsClearTo (turn_at pass (Field p n)) draft) (sym (add-one i)) (field_clear_suc pass p i draft clear clean)
+field_found_suc : (pass p i : ℕ) (draft : DraftText) (found : List PartFault) → AreFoundTo (turn_behind pass (Field p i)) draft found → AreFoundTo (turn_at pass (Field p (suc i))) draft found
+field_found_suc pass p i draft found =
+    let less : i < suc i = omega arith in
+    advance (turn_behind pass (Field p i)) (turn_at pass (Field p (suc i))) draft found (inr (refl, inr (refl, inr (refl, inl less))))
+    (λ fault part soon faulty.
+        elim (next_item _ _ _ _ _ _ _ _ _ soon) [
+          | inl sooner ↦ behind pass (Field p i) part fault sooner
+          | inr (at_pass, at_panel, at_kind, at_item) ↦ in_part pass fault part (Field p i) at_pass (same_part part (Field p i) at_panel at_kind at_item)
+        ])
+
+pub field_found : (pass p i : ℕ) (draft : DraftText) (found : List PartFault) → AreFoundTo (turn_behind pass (Field p i)) draft found → AreFoundTo (turn_at pass (Field p (i + 1))) draft found
+field_found pass p i draft found s = subst (λ n. AreFoundTo (turn_at pass (Field p n)) draft found) (sym (add-one i)) (field_found_suc pass p i draft found s)
 
 -- the part whose turn it is
 from_turns : (part : Part) (panel kind : ℕ) → panel_turn part ≡ panel → kind_turn part ≡ kind → part ≡ part_from panel kind (item_turn part)
@@ -203,19 +259,25 @@ is_keys (Keys q) p at_panel past =
     let same : q ≡ p = omega arith in
     ap Keys same
 
-pub top_clear : (pass : ℕ) (draft : DraftText) → IsClearTo (turn_at pass Top) draft → IsCleanAt pass Top draft → IsClearTo (turn_at pass (Panel 0)) draft
-top_clear pass draft clear clean fault part soon faulty =
-    elim (next_panel _ _ _ _ _ _ 0 0 soon) [
-      | inl sooner ↦ clear fault part sooner faulty
-      | inr (at_pass, at_panel, past) ↦ clean_there pass part Top draft fault clean at_pass (is_top part at_panel) faulty
-    ]
+pub top_found : (pass : ℕ) (draft : DraftText) (found : List PartFault) → AreFoundTo (turn_behind pass Top) draft found → AreFoundTo (turn_at pass (Panel 0)) draft found
+top_found pass draft found =
+    let less : 0 < 1 = omega arith in
+    advance (turn_behind pass Top) (turn_at pass (Panel 0)) draft found (inr (refl, inl less))
+    (λ fault part soon faulty.
+        elim (next_panel _ _ _ _ _ _ 0 0 soon) [
+          | inl sooner ↦ behind pass Top part fault sooner
+          | inr (at_pass, at_panel, past) ↦ in_part pass fault part Top at_pass (is_top part at_panel)
+        ])
 
-pub panel_clear : (pass p : ℕ) (draft : DraftText) → IsClearTo (turn_at pass (Panel p)) draft → IsCleanAt pass (Panel p) draft → IsClearTo (turn_at pass (Text p 0)) draft
-panel_clear pass p draft clear clean fault part soon faulty =
-    elim (next_kind _ _ _ _ _ _ _ 0 0 soon) [
-      | inl sooner ↦ clear fault part sooner faulty
-      | inr (at_pass, at_panel, at_kind, past) ↦ clean_there pass part (Panel p) draft fault clean at_pass (from_turns part (suc p) 0 at_panel at_kind) faulty
-    ]
+pub panel_found : (pass p : ℕ) (draft : DraftText) (found : List PartFault) → AreFoundTo (turn_behind pass (Panel p)) draft found → AreFoundTo (turn_at pass (Text p 0)) draft found
+panel_found pass p draft found =
+    let less : 0 < 1 = omega arith in
+    advance (turn_behind pass (Panel p)) (turn_at pass (Text p 0)) draft found (inr (refl, inr (refl, inl less)))
+    (λ fault part soon faulty.
+        elim (next_kind _ _ _ _ _ _ _ 0 0 soon) [
+          | inl sooner ↦ behind pass (Panel p) part fault sooner
+          | inr (at_pass, at_panel, at_kind, past) ↦ in_part pass fault part (Panel p) at_pass (from_turns part (suc p) 0 at_panel at_kind)
+        ])
 
 -- no part of a kind is in the text from a number on
 abbrev EndsAt : (ℕ → Part) → ℕ → DraftText → Type 0
@@ -232,13 +294,16 @@ some_part : {X Y : Type 0} (f : X → Option Y) (o : Option X) → IsSome (optio
 some_part f None is = absurd (false≢true is)
 some_part f (Some x) is = refl
 
-pub texts_clear : (pass p n : ℕ) (draft : DraftText) → EndsAt (Text p) n draft → IsClearTo (turn_at pass (Text p n)) draft → IsClearTo (turn_at pass (Field p 0)) draft
-texts_clear pass p n draft ends clear fault part soon faulty =
-    elim (next_kind _ _ _ _ _ _ _ 1 n soon) [
-      | inl sooner ↦ clear fault part sooner faulty
-      | inr (at_pass, at_panel, at_kind, past) ↦
-          ends (item_turn part) past (subst (λ q. IsTrue (is_part q draft.panels)) (from_turns part (suc p) 1 at_panel at_kind) faulty.0)
-    ]
+pub texts_found : (pass p n : ℕ) (draft : DraftText) (found : List PartFault) → EndsAt (Text p) n draft → AreFoundTo (turn_at pass (Text p n)) draft found → AreFoundTo (turn_at pass (Field p 0)) draft found
+texts_found pass p n draft found ends =
+    let less : 1 < 2 = omega arith in
+    advance (turn_at pass (Text p n)) (turn_at pass (Field p 0)) draft found (inr (refl, inr (refl, inl less)))
+    (λ fault part soon faulty.
+        elim (next_kind _ _ _ _ _ _ _ 1 n soon) [
+          | inl sooner ↦ sooner
+          | inr (at_pass, at_panel, at_kind, past) ↦
+              absurd (ends (item_turn part) past (subst (λ q. IsTrue (is_part q draft.panels)) (from_turns part (suc p) 1 at_panel at_kind) faulty.0))
+        ])
 
 pub no_text_from : (draft : DraftText) (panel : DraftPanel) (p n : ℕ) → slice_get draft.panels p ≡ Some panel → n ≡ length panel.texts → EndsAt (Text p) n draft
 no_text_from draft panel p n there all i past stands =
@@ -250,23 +315,29 @@ no_field_from draft panel p n there all i past stands =
     let below = below_end panel.fields i (subst (λ o. IsSome (option_and_then (λ panel. slice_get panel.fields i) o)) there stands) in
     omega arith
 
-pub fields_clear : (pass p n : ℕ) (draft : DraftText) → EndsAt (Field p) n draft → IsClearTo (turn_at pass (Field p n)) draft → IsClearTo (turn_at pass (Keys p)) draft
-fields_clear pass p n draft ends clear fault part soon faulty =
-    elim (next_kind _ _ _ _ _ _ _ 2 n soon) [
-      | inl sooner ↦ clear fault part sooner faulty
-      | inr (at_pass, at_panel, at_kind, past) ↦
-          ends (item_turn part) past (subst (λ q. IsTrue (is_part q draft.panels)) (from_turns part (suc p) 2 at_panel at_kind) faulty.0)
-    ]
+pub fields_found : (pass p n : ℕ) (draft : DraftText) (found : List PartFault) → EndsAt (Field p) n draft → AreFoundTo (turn_at pass (Field p n)) draft found → AreFoundTo (turn_at pass (Keys p)) draft found
+fields_found pass p n draft found ends =
+    let less : 2 < 3 = omega arith in
+    advance (turn_at pass (Field p n)) (turn_at pass (Keys p)) draft found (inr (refl, inr (refl, inl less)))
+    (λ fault part soon faulty.
+        elim (next_kind _ _ _ _ _ _ _ 2 n soon) [
+          | inl sooner ↦ sooner
+          | inr (at_pass, at_panel, at_kind, past) ↦
+              absurd (ends (item_turn part) past (subst (λ q. IsTrue (is_part q draft.panels)) (from_turns part (suc p) 2 at_panel at_kind) faulty.0))
+        ])
 
-keys_clear_suc : (pass p : ℕ) (draft : DraftText) → IsClearTo (turn_at pass (Keys p)) draft → IsCleanAt pass (Keys p) draft → IsClearTo (turn_at pass (Panel (suc p))) draft
-keys_clear_suc pass p draft clear clean fault part soon faulty =
-    elim (next_panel _ _ _ _ _ _ (suc p) 3 soon) [
-      | inl sooner ↦ clear fault part sooner faulty
-      | inr (at_pass, at_panel, past) ↦ clean_there pass part (Keys p) draft fault clean at_pass (is_keys part p at_panel past) faulty
-    ]
+keys_found_suc : (pass p : ℕ) (draft : DraftText) (found : List PartFault) → AreFoundTo (turn_behind pass (Keys p)) draft found → AreFoundTo (turn_at pass (Panel (suc p))) draft found
+keys_found_suc pass p draft found =
+    let less : suc p < suc (suc p) = omega arith in
+    advance (turn_behind pass (Keys p)) (turn_at pass (Panel (suc p))) draft found (inr (refl, inl less))
+    (λ fault part soon faulty.
+        elim (next_panel _ _ _ _ _ _ (suc p) 3 soon) [
+          | inl sooner ↦ behind pass (Keys p) part fault sooner
+          | inr (at_pass, at_panel, past) ↦ in_part pass fault part (Keys p) at_pass (is_keys part p at_panel past)
+        ])
 
-pub keys_clear : (pass p : ℕ) (draft : DraftText) → IsClearTo (turn_at pass (Keys p)) draft → IsCleanAt pass (Keys p) draft → IsClearTo (turn_at pass (Panel (p + 1))) draft
-keys_clear pass p draft clear clean = subst (λ n. IsClearTo (turn_at pass (Panel n)) draft) (sym (add-one p)) (keys_clear_suc pass p draft clear clean)
+pub keys_found : (pass p : ℕ) (draft : DraftText) (found : List PartFault) → AreFoundTo (turn_behind pass (Keys p)) draft found → AreFoundTo (turn_at pass (Panel (p + 1))) draft found
+keys_found pass p draft found s = subst (λ n. AreFoundTo (turn_at pass (Panel n)) draft found) (sym (add-one p)) (keys_found_suc pass p draft found s)
 
 -- a part is the top, or of a panel that there is
 panel_of_part : (part : Part) (panels : List DraftPanel) → IsTrue (is_part part panels) → panel_turn part ≤ length panels
@@ -284,17 +355,20 @@ panel_of_part (Keys p) panels there =
     let below = below_end panels p there in
     omega arith
 
-panels_clear_suc : (pass n : ℕ) (draft : DraftText) → n ≡ length draft.panels → IsClearTo (turn_at pass (Panel n)) draft → IsClearTo (turn_at (suc pass) Top) draft
-panels_clear_suc pass n draft all clear fault part soon faulty =
-    elim (next_pass _ _ _ _ _ _ (suc n) soon) [
-      | inl sooner ↦ clear fault part sooner faulty
-      | inr (at_pass, past) ↦
-          let within = panel_of_part part draft.panels faulty.0 in
-          absurd (omega arith)
-    ]
+panels_found_suc : (pass n : ℕ) (draft : DraftText) (found : List PartFault) → n ≡ length draft.panels → AreFoundTo (turn_at pass (Panel n)) draft found → AreFoundTo (turn_at (suc pass) Top) draft found
+panels_found_suc pass n draft found all =
+    let less : pass < suc pass = omega arith in
+    advance (turn_at pass (Panel n)) (turn_at (suc pass) Top) draft found (inl less)
+    (λ fault part soon faulty.
+        elim (next_pass _ _ _ _ _ _ (suc n) soon) [
+          | inl sooner ↦ sooner
+          | inr (at_pass, past) ↦
+              let within = panel_of_part part draft.panels faulty.0 in
+              absurd (omega arith)
+        ])
 
-pub panels_clear : (pass n : ℕ) (draft : DraftText) → n ≡ length draft.panels → IsClearTo (turn_at pass (Panel n)) draft → IsClearTo (turn_at (pass + 1) Top) draft
-panels_clear pass n draft all clear = subst (λ n. IsClearTo (turn_at n Top) draft) (sym (add-one pass)) (panels_clear_suc pass n draft all clear)
+pub panels_found : (pass n : ℕ) (draft : DraftText) (found : List PartFault) → n ≡ length draft.panels → AreFoundTo (turn_at pass (Panel n)) draft found → AreFoundTo (turn_at (pass + 1) Top) draft found
+panels_found pass n draft found all s = subst (λ m. AreFoundTo (turn_at m Top) draft found) (sym (add-one pass)) (panels_found_suc pass n draft found all s)
 
 -- there are six passes
 pass_some : (fault : TreeFault) → 1 ≤ pass_of fault
@@ -325,8 +399,8 @@ pass_below NoCode = omega arith
 pass_below Overlap = omega arith
 pass_below NoTarget = omega arith
 
-pub first_clear : (draft : DraftText) → IsClearTo (turn_at 1 Top) draft
-first_clear draft fault part soon faulty =
+first_clear : (fault : TreeFault) (part : Part) → IsSooner (turn_of fault part) (turn_at 1 Top) → ⊥
+first_clear fault part soon =
     let some = pass_some fault in
     elim soon [
       | inl less ↦ absurd (omega arith)
@@ -342,8 +416,20 @@ first_clear draft fault part soon faulty =
       ]
     ]
 
-pub all_clear : (draft : DraftText) → IsClearTo (turn_at 7 Top) draft → IsFaultless draft
-all_clear draft clear fault part faulty = clear fault part (inl (pass_below fault)) faulty
+pub none_found : (draft : DraftText) → AreFoundTo (turn_at 1 Top) draft []
+none_found draft = record {
+  stand = λ k d below. absurd (omega arith);
+  each = λ fault part soon faulty. absurd (first_clear fault part soon);
+  sooner = λ k d below. absurd (omega arith);
+  in_order = λ i j d less below. absurd (omega arith);
+}
+
+pub all_found : (draft : DraftText) (found : List PartFault) → AreFoundTo (turn_at 7 Top) draft found → AreFaultsOf draft found
+all_found draft found s = record {
+  stand = s.stand;
+  each = λ fault part faulty. s.each fault part (inl (pass_below fault)) faulty;
+  in_order = s.in_order;
+}
 
 -- ---- the passes' lists
 
@@ -408,14 +494,6 @@ first_of_pass fault place draft first = record {
       first.sooner other part (inl (subst (λ n. n < pass_of fault) (sym of_it.0) less));
 }
 
--- a pass that finds none of its faults in a table
-pub none_listed : (pass : ℕ) (part : Part) (draft : DraftText) → All (λ fault. ¬ IsFaulty fault part draft) (faults_of pass) → IsCleanAt pass part draft
-none_listed pass part draft none fault is =
-    let (k, below, at_k) = looked_for fault in
-    let fits : k < length (faults_of pass) = rw (← is) below in
-    let here : get_or (faults_of pass) k fault ≡ fault = rw (← is) at_k in
-    subst (λ f. ¬ IsFaulty f part draft) here (none k fault fits)
-
 its_turn : (fault : TreeFault) → slice_get (faults_of (pass_of fault)) (fault_turn fault) ≡ Some fault
 its_turn UnknownKey = refl
 its_turn Missing = refl
@@ -430,15 +508,107 @@ its_turn NoCode = refl
 its_turn Overlap = refl
 its_turn NoTarget = refl
 
-pub first_listed : (pass : ℕ) (part : Part) (draft : DraftText) (fault : TreeFault) → IsClearTo (turn_at pass part) draft → IsFirstListed (faults_of pass) part draft fault
-    → IsFirstFault fault (place_of part) draft
-first_listed pass part draft fault clear first =
-    let (at_pass, at_turn) = in_turn pass first.turn fault first.listed in
-    found pass fault part draft clear at_pass
-    (λ other is less. first.before (fault_turn other) other (rw (← at_turn) less) (rw (← is) (its_turn other)))
-    first.stands
+-- ---- the next fault of a pass's list
+
+turn_is : (pass k : ℕ) (fault : TreeFault) (part : Part) → pass_of fault ≡ pass → fault_turn fault ≡ k → turn_of fault part ≡ turn_in pass part k
+turn_is pass k fault part at_pass at_turn =
+    ap (λ n. n ∷ panel_turn part ∷ kind_turn part ∷ item_turn part ∷ fault_turn fault ∷ []) at_pass
+    ∙ ap (λ n. pass ∷ panel_turn part ∷ kind_turn part ∷ item_turn part ∷ n ∷ []) at_turn
+
+-- what is sooner than the next number was sooner, or is this fault of this table
+at_number : (pass k : ℕ) (fault other : TreeFault) (part elsewhere : Part) → slice_get (faults_of pass) k ≡ Some fault
+    → IsSooner (turn_of other elsewhere) (turn_in pass part (suc k)) → IsSooner (turn_of other elsewhere) (turn_in pass part k) ⊎ ((other ≡ fault) × (elsewhere ≡ part))
+at_number pass k fault other part elsewhere listed soon =
+    elim (next_fault _ _ _ _ _ _ _ _ _ _ soon) [
+      | inl sooner ↦ inl (behind_start (turn_of other elsewhere) pass (panel_turn part) (kind_turn part) (item_turn part) k sooner)
+      | inr (at_pass, at_panel, at_kind, at_item, less) ↦ elim (at_or_under _ _ less) [
+        | inl under ↦ inl (inr (at_pass, inr (at_panel, inr (at_kind, inr (at_item, inl under)))))
+        | inr same ↦
+            let here : slice_get (faults_of pass) k ≡ Some other =
+            subst (λ n. slice_get (faults_of pass) n ≡ Some other) same (subst (λ n. slice_get (faults_of n) (fault_turn other) ≡ Some other) at_pass (its_turn other)) in
+            inr (same_Some other fault (sym here ∙ listed), same_part elsewhere part at_panel at_kind at_item)
+      ]
+    ]
+
+abbrev this : TreeFault → Part → PartFault
+this fault part = record { fault = fault; part = part }
+
+fault_added : (pass k : ℕ) (fault : TreeFault) (part : Part) (draft : DraftText) (old : List PartFault) → slice_get (faults_of pass) k ≡ Some fault → IsFaulty fault part draft
+    → AreFoundTo (turn_in pass part k) draft old → AreFoundTo (turn_in pass part (suc k)) draft (old ++ this fault part ∷ [])
+fault_added pass k fault part draft old listed faulty s =
+    let (at_pass, at_turn) = in_turn pass k fault listed in
+    let its = turn_is pass k fault part at_pass at_turn in
+    let less : k < suc k = omega arith in
+    let next : IsSooner (turn_in pass part k) (turn_in pass part (suc k)) = inr (refl, inr (refl, inr (refl, inr (refl, inl less)))) in
+    record {
+      stand = All-push (λ (at : PartFault). IsFaulty at.fault at.part draft) old (this fault part) s.stand faulty;
+      each = λ other elsewhere soon stands.
+          elim (at_number pass k fault other part elsewhere listed soon) [
+            | inl sooner ↦ Contains-append_left old (this fault part ∷ []) (this other elsewhere) (s.each other elsewhere sooner stands)
+            | inr (same, there) ↦
+                subst (λ x. Contains (old ++ this fault part ∷ []) x) (ap (λ f. this f part) (sym same) ∙ ap (this other) (sym there)) (Contains-push old (this fault part))
+          ];
+      sooner = All-push (λ (at : PartFault). IsSooner (turn_of at.fault at.part) (turn_in pass part (suc k))) old (this fault part)
+          (λ j d below.
+              let at = get_or old j d in
+              sooner_through (turn_of at.fault at.part) (turn_in pass part k) (turn_in pass part (suc k)) (s.sooner j d below) next)
+          (subst (λ turn. IsSooner turn (turn_in pass part (suc k))) (sym its) next);
+      in_order = all_pairs_push IsBefore old (this fault part) s.in_order (λ j d below.
+          let at = get_or old j d in
+          subst (λ turn. IsSooner (turn_of at.fault at.part) turn) (sym its) (s.sooner j d below));
+    }
+
+fault_passed : (pass k : ℕ) (fault : TreeFault) (part : Part) (draft : DraftText) (old : List PartFault) → slice_get (faults_of pass) k ≡ Some fault → ¬ HasFault fault part draft
+    → AreFoundTo (turn_in pass part k) draft old → AreFoundTo (turn_in pass part (suc k)) draft old
+fault_passed pass k fault part draft old listed clean s =
+    let less : k < suc k = omega arith in
+    let next : IsSooner (turn_in pass part k) (turn_in pass part (suc k)) = inr (refl, inr (refl, inr (refl, inr (refl, inl less)))) in
+    advance (turn_in pass part k) (turn_in pass part (suc k)) draft old next
+    (λ other elsewhere soon stands.
+        elim (at_number pass k fault other part elsewhere listed soon) [
+          | inl sooner ↦ sooner
+          | inr (same, there) ↦ absurd (clean (subst (λ f. HasFault f part draft) same (subst (λ q. HasFault other q draft) there stands.1)))
+        ])
+    s
+
+pub fault_next : (pass k : ℕ) (fault : TreeFault) (part : Part) (draft : DraftText) (old new : List PartFault) → slice_get (faults_of pass) k ≡ Some fault → IsTrue (is_part part draft.panels)
+    → IsAdded fault part draft old new → AreFoundTo (turn_in pass part k) draft old → AreFoundTo (turn_in pass part (k + 1)) draft new
+fault_next pass k fault part draft old new listed there added s =
+    subst (λ n. AreFoundTo (turn_in pass part n) draft new) (sym (add-one k))
+    (elim added [
+      | inl (has, is) ↦ subst (AreFoundTo (turn_in pass part (suc k)) draft) (sym is) (fault_added pass k fault part draft old listed (there, has) s)
+      | inr (clean, is) ↦ subst (AreFoundTo (turn_in pass part (suc k)) draft) (sym is) (fault_passed pass k fault part draft old listed clean s)
+    ])
+
+-- ---- the first of all faults
+
+pub first_of : (draft : DraftText) (first : PartFault) (more : List PartFault) → AreFaultsOf draft (first ∷ more) → IsFirstFault first.fault (place_of first.part) draft
+first_of draft first more all = record {
+  part = first.part;
+  at_place = refl;
+  stands = all.stand 0 first (omega arith);
+  sooner = λ fault part soon faulty. later (this fault part) soon (all.each fault part faulty);
+}
+  where
+    later : (at : PartFault) → IsBefore at first → Contains (first ∷ more) at → ⊥
+    later at soon (zero, below, is) = not_sooner (turn_of first.fault first.part) (subst (λ (x : PartFault). IsBefore x first) (sym is) soon)
+    later at soon (suc k, below, is) =
+        let behind_it : IsBefore first at = subst (λ (x : PartFault). IsBefore first x) is (all.in_order 0 (suc k) at (omega arith) below) in
+        not_sooner (turn_of first.fault first.part) (sooner_through (turn_of first.fault first.part) (turn_of at.fault at.part) (turn_of first.fault first.part) behind_it soon)
+
+pub faultless_of : (draft : DraftText) → AreFaultsOf draft [] → IsFaultless draft
+faultless_of draft all fault part faulty = let (k, below, is) = all.each fault part faulty in absurd (omega (arith, below))
 
 pub field_there : (panels : List DraftPanel) (draft : DraftPanel) (p i : ℕ) → slice_get panels p ≡ Some draft → i < length draft.fields → is_some (item_at (Field p i) panels) ≡ true
 field_there panels draft p i there below =
     let (item, at_i) = there_in draft.fields i below in
     ap (λ o. is_some (option_and_then (λ (panel : DraftPanel). slice_get panel.fields i) o)) there ∙ ap is_some at_i
+
+-- the first of the list, if it has one
+pub refused : (draft : DraftText) (found : List PartFault) (first : PartFault) → AreFaultsOf draft found → slice_get found 0 ≡ Some first → IsFirstFault first.fault (place_of first.part) draft
+refused draft [] first all is = absurd (none-some first is)
+refused draft (at ∷ more) first all is = subst (λ (x : PartFault). IsFirstFault x.fault (place_of x.part) draft) (same_Some at first is) (first_of draft at more all)
+
+pub accepted : (draft : DraftText) (found : List PartFault) → AreFaultsOf draft found → slice_get found 0 ≡ None → IsFaultless draft
+accepted draft [] all none = faultless_of draft all
+accepted draft (at ∷ more) all none = absurd (none-some at (sym none))

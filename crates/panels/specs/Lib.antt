@@ -12,6 +12,7 @@ pub mod Messages
 pub mod MessageText
 pub mod Passes
 pub mod Turns
+pub mod Listing
 pub mod Walk
 pub mod Index
 pub mod Values

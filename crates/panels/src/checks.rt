@@ -1,18 +1,15 @@
 //! The faults of a draft, part by part.
-ghost use Rattle.std.specs.Prelude.{◌≡◌, ◌↔◌, ◌+◌, ◌<◌, IsTrue, MatchResult, length};
+ghost use Rattle.std.specs.Prelude.{◌≡◌, ◌↔◌, ◌+◌, ◌<◌, IfOk, IsTrue, OnOk, length};
 ghost use Rattle.panels.specs.declared.fault.Part.TheVariants as part;
 ghost use Rattle.panels.specs.Faults.{HasFault, is_part, faults_of};
-ghost use Rattle.panels.specs.Passes.{IsFaultless};
-ghost use Rattle.panels.specs.Turns.{IsClearTo, IsFirstFault};
-ghost use Rattle.panels.specs.Walk.{turn_at, IsCleanAt};
+ghost use Rattle.panels.specs.Listing.{AreFaultsOf};
+ghost use Rattle.panels.specs.Walk.{turn_at, turn_behind, AreFoundTo, IsAdded};
 
 use crate::draft::{Draft, PanelDraft};
 use crate::fault::TreeFault::*;
-use crate::fault::{At, Part, TreeFault};
+use crate::fault::{Part, PartFault, TreeFault};
 use crate::names::{is_later, is_name};
-
-/// Err has the first fault, and where it stands.
-pub(crate) type Checked = Result<(), (TreeFault, At)>;
+use std::alloc::{AllocError, Global};
 
 // The most panels of a text, and the most texts and fields of a panel.
 const MOST_PANELS: usize = 64;
@@ -68,66 +65,82 @@ impl<'a> Draft<'a> {
         }
     }
 
-    /// Looks for a pass's faults in a part.
-    fn check_part(&self, pass: usize, part: Part) -> Checked
+    /// Adds a fault, if a part has it.
+    fn add_if_faulty(
+        &self,
+        fault: TreeFault,
+        part: Part,
+        found: &mut Vec<PartFault>,
+    ) -> Result<(), AllocError>
+        ensures { OnOk result (IsAdded fault part self.now found.old.items found.new.items) }
+    {
+        if self.has_fault(fault, part) {
+            found.push(PartFault { fault, part })?;
+        }
+        Ok(())
+    }
+
+    /// Adds a pass's faults in a part.
+    fn add_of_part(
+        &self,
+        pass: usize,
+        part: Part,
+        found: &mut Vec<PartFault>,
+    ) -> Result<(), AllocError>
         requires there { IsTrue (is_part part self.now.panels) }
-        requires clear { IsClearTo (turn_at pass part) self.now }
-        ensures { MatchResult result
-            (λ _. IsCleanAt pass part self.now)
-            (λ found. IsFirstFault found.0 found.1 self.now) }
+        requires found { AreFoundTo (turn_at pass part) self.now found.old.items }
+        ensures { OnOk result (AreFoundTo (turn_behind pass part) self.now found.new.items) }
     {
         for fault in faults_in(pass) {
-            if self.has_fault(*fault, part) {
-                return Err((*fault, part.place()));
-            }
+            self.add_if_faulty(*fault, part, found)?;
         }
         Ok(())
     }
 
-    /// Looks for a pass's faults in a panel: in its own table, its texts, its fields and its keys.
-    fn check_panel(&self, pass: usize, panel: usize) -> Checked
+    /// Adds a pass's faults in a panel: in its own table, its texts, its fields and its keys.
+    fn add_of_panel(
+        &self,
+        pass: usize,
+        panel: usize,
+        found: &mut Vec<PartFault>,
+    ) -> Result<(), AllocError>
         requires there { panel < length self.now.panels }
-        requires clear { IsClearTo (turn_at pass (part.Panel panel)) self.now }
-        ensures { MatchResult result
-            (λ _. IsClearTo (turn_at pass (part.Panel (panel + 1))) self.now)
-            (λ found. IsFirstFault found.0 found.1 self.now) }
+        requires found { AreFoundTo (turn_at pass (part.Panel panel)) self.now found.old.items }
+        ensures { OnOk result (AreFoundTo (turn_at pass (part.Panel (panel + 1))) self.now found.new.items) }
     {
         let PanelDraft { texts, fields, .. } = &self.panels[panel];
-        self.check_part(pass, Part::Panel(panel))?;
+        self.add_of_part(pass, Part::Panel(panel), found)?;
         for text in 0..texts.len() {
-            self.check_part(pass, Part::Text(panel, text))?;
+            self.add_of_part(pass, Part::Text(panel, text), found)?;
         }
         for field in 0..fields.len() {
-            self.check_part(pass, Part::Field(panel, field))?;
+            self.add_of_part(pass, Part::Field(panel, field), found)?;
         }
-        self.check_part(pass, Part::Keys(panel))?;
+        self.add_of_part(pass, Part::Keys(panel), found)?;
         Ok(())
     }
 
-    /// Looks for a pass's faults in the text's own table, and panel by panel.
-    fn check_pass(&self, pass: usize) -> Checked
-        requires { IsClearTo (turn_at pass part.Top) self.now }
-        ensures { MatchResult result
-            (λ _. IsClearTo (turn_at (pass + 1) part.Top) self.now)
-            (λ found. IsFirstFault found.0 found.1 self.now) }
+    /// Adds a pass's faults in the text's own table, and panel by panel.
+    fn add_of_pass(&self, pass: usize, found: &mut Vec<PartFault>) -> Result<(), AllocError>
+        requires { AreFoundTo (turn_at pass part.Top) self.now found.old.items }
+        ensures { OnOk result (AreFoundTo (turn_at (pass + 1) part.Top) self.now found.new.items) }
     {
-        self.check_part(pass, Part::Top)?;
+        self.add_of_part(pass, Part::Top, found)?;
         for panel in 0..self.panels.len() {
-            self.check_panel(pass, panel)?;
+            self.add_of_panel(pass, panel, found)?;
         }
         Ok(())
     }
 
-    /// Looks for all faults, pass by pass.
-    pub(crate) fn check(&self) -> Checked
-        ensures { MatchResult result
-            (λ _. IsFaultless self.now)
-            (λ found. IsFirstFault found.0 found.1 self.now) }
+    /// All faults, pass by pass.
+    pub(crate) fn faults(&self, alloc: Global) -> Result<Vec<PartFault>, AllocError>
+        ensures { IfOk result (λ found. AreFaultsOf self.now found.items) }
     {
+        let mut found = Vec::new(alloc);
         for pass in 1..=6 {
-            self.check_pass(pass)?;
+            self.add_of_pass(pass, &mut found)?;
         }
-        Ok(())
+        Ok(found)
     }
 }
 

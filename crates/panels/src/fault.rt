@@ -45,7 +45,7 @@ pub enum At {
 
 /// A table of a panel text. Panels, texts and fields count from 0.
 #[derive(Clone, Copy, Debug, PartialEq, Eq)]
-pub(crate) enum Part {
+pub enum Part {
     Top,
     Panel(usize),
     /// A text of a panel.
@@ -58,7 +58,7 @@ pub(crate) enum Part {
 
 impl Part {
     /// Where a fault of the table is reported: one of the keys is the panel's.
-    pub(crate) fn place(self) -> At
+    pub fn place(self) -> At
         ensures { result ≡ place_of self }
     {
         match self {
@@ -79,6 +79,13 @@ impl Part {
             Part::Top | Part::Panel(_) | Part::Keys(_) => self,
         }
     }
+}
+
+/// A fault of a table.
+#[derive(Clone, Copy, Debug, PartialEq, Eq)]
+pub struct PartFault {
+    pub fault: TreeFault,
+    pub part: Part,
 }
 
 /// Why a text can't be read as panels.

@@ -2,6 +2,7 @@
 //! other crates use them; no program calls them, and the root doesn't export them.
 ghost use Rattle.panels.specs.Defines.{DefinesOnce};
 ghost use Rattle.panels.specs.KeptFields.{AttributesAreThere, FieldsAreKeptWhole, FieldsAreOnTheScreen, FieldsAreWritten, NothingElseIsKept};
+ghost use Rattle.panels.specs.Listing.{FaultsBeginWithTheFirst, NoFaultsAreFaultless};
 ghost use Rattle.panels.specs.MessageRow.{PanelsLeaveTheRow, TheRowIsTheMessage, TheRoomIsTheRow};
 
 /// Law: on each screen that a panel asks for the last row is a protected field with the message:
@@ -35,6 +36,13 @@ pub fn fields_are_on_the_screen()
 pub fn fields_are_written()
     ensures attributes { AttributesAreThere }
     ensures characters { FieldsAreWritten }
+{}
+
+/// Law: the first of a draft's faults is the one that is found first; a draft that has none is faultless. So `PanelSet::read` refuses a
+/// text for the first that `faults` lists.
+pub fn the_first_fault_is_at_the_head()
+    ensures first { FaultsBeginWithTheFirst }
+    ensures none { NoFaultsAreFaultless }
 {}
 
 /// Law: a text defines its panels once: what is read from it is a function of the text.

@@ -23,8 +23,8 @@
 //! }
 //! ```
 //!
-//! `specs/Panel` says what panels are, `Defines` which text defines them, `Faults`, `Passes` and `Turns` which fault is reported, and
-//! `Screen` what a panel asks for.
+//! `specs/Panel` says what panels are, `Defines` which text defines them, `Faults`, `Passes` and `Turns` which fault is reported,
+//! `Listing` what all faults of a text are, and `Screen` what a panel asks for.
 #![tactic(auto)]
 
 mod build;
@@ -53,11 +53,12 @@ mod values;
 
 pub use characters::Characters;
 pub use extent::Extent;
-pub use fault::{At, PanelFault, TreeFault};
+pub use fault::{At, PanelFault, Part, PartFault, TreeFault};
 pub use message::Message;
 pub use message_text::{MOST_MESSAGE, MessageText};
 pub use name::Name;
 pub use next::Next;
 pub use panel::{Field, Panel};
 pub use panel_set::PanelSet;
+pub use read::faults;
 pub use values::Values;

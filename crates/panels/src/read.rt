@@ -1,16 +1,40 @@
 //! Reading a panel text.
-ghost use Rattle.std.specs.Prelude.{IfOk, IfErr};
+ghost use Rattle.std.specs.Prelude.{◌≡◌, IfOk, IfErr, OnOk, slice_get};
 ghost use Rattle.toml.specs.View.{table_view};
 ghost use Rattle.panels.specs.Draft.{draft_of};
 ghost use Rattle.panels.specs.Passes.{IsFaultless, IsReasonIn, IsReason};
+ghost use Rattle.panels.specs.Listing.{AreFaultsOf};
 ghost use Rattle.panels.specs.Turns.{IsFirstIn, IsFirstOf};
 ghost use Rattle.panels.specs.Defines.{Defines, IsReadFrom};
 
 use crate::decode::decode;
-use crate::fault::PanelFault;
+use crate::draft::Draft;
+use crate::fault::{PanelFault, PartFault};
 use crate::panel_set::PanelSet;
-use std::alloc::Global;
+use std::alloc::{AllocError, Global};
 use toml::Table;
+
+/// The first of these faults.
+fn first_of(found: &[PartFault]) -> Option<PartFault>
+    ensures { result ≡ slice_get found.now 0 }
+{
+    found.first().copied()
+}
+
+/// Refuses a draft for its first fault.
+fn check(alloc: Global, draft: &Draft) -> Result<(), PanelFault>
+    ensures clean { OnOk result (IsFaultless draft.now) }
+    ensures fault { IfErr result (IsReasonIn draft.now) }
+    ensures first { IfErr result (IsFirstIn draft.now) }
+{
+    let Ok(found) = draft.faults(alloc) else {
+        return Err(PanelFault::Memory);
+    };
+    match first_of(found.as_slice()) {
+        Some(first) => Err(PanelFault::Tree(first.fault, first.part.place())),
+        None => Ok(()),
+    }
+}
 
 /// The panels that a tree defines, or the first fault in it.
 fn read_tree(alloc: Global, top: &Table) -> Result<PanelSet, PanelFault>
@@ -19,10 +43,18 @@ fn read_tree(alloc: Global, top: &Table) -> Result<PanelSet, PanelFault>
     ensures first { IfErr result (IsFirstIn (draft_of (table_view top.now))) }
 {
     let draft = decode(alloc, top).map_err(|_| PanelFault::Memory)?;
-    if let Err((fault, place)) = draft.check() {
-        return Err(PanelFault::Tree(fault, place));
-    }
+    check(alloc, &draft)?;
     draft.build(alloc).map_err(|_| PanelFault::Memory)
+}
+
+/// All faults of a panel text, each once, in the order in which `PanelSet::read` looks for them; it refuses a text for the first. What is
+/// absent, or has a value of another type, counts as 0, unset or no text, and may have faults for that, too.
+///
+/// Err only if memory is refused.
+pub fn faults(alloc: Global, top: &Table) -> Result<Vec<PartFault>, AllocError>
+    ensures { IfOk result (λ found. AreFaultsOf (draft_of (table_view top.now)) found.items) }
+{
+    decode(alloc, top)?.faults(alloc)
 }
 
 impl PanelSet {
