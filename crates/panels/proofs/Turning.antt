@@ -221,10 +221,10 @@ text_found_suc pass p i draft found =
     let less : i < suc i = omega arith in
     advance (turn_behind pass (Text p i)) (turn_at pass (Text p (suc i))) draft found (inr (refl, inr (refl, inr (refl, inl less))))
     (λ fault part soon faulty.
-        elim (next_item _ _ _ _ _ _ _ _ _ soon) [
-          | inl sooner ↦ behind pass (Text p i) part fault sooner
-          | inr (at_pass, at_panel, at_kind, at_item) ↦ in_part pass fault part (Text p i) at_pass (same_part part (Text p i) at_panel at_kind at_item)
-        ])
+    elim (next_item _ _ _ _ _ _ _ _ _ soon) [
+      | inl sooner ↦ behind pass (Text p i) part fault sooner
+      | inr (at_pass, at_panel, at_kind, at_item) ↦ in_part pass fault part (Text p i) at_pass (same_part part (Text p i) at_panel at_kind at_item)
+    ])
 
 pub text_found : (pass p i : ℕ) (draft : DraftText) (found : List PartFault) → AreFoundTo (turn_behind pass (Text p i)) draft found → AreFoundTo (turn_at pass (Text p (i + 1))) draft found
 text_found pass p i draft found s = subst (λ n. AreFoundTo (turn_at pass (Text p n)) draft found) (sym (add-one i)) (text_found_suc pass p i draft found s)
@@ -234,10 +234,10 @@ field_found_suc pass p i draft found =
     let less : i < suc i = omega arith in
     advance (turn_behind pass (Field p i)) (turn_at pass (Field p (suc i))) draft found (inr (refl, inr (refl, inr (refl, inl less))))
     (λ fault part soon faulty.
-        elim (next_item _ _ _ _ _ _ _ _ _ soon) [
-          | inl sooner ↦ behind pass (Field p i) part fault sooner
-          | inr (at_pass, at_panel, at_kind, at_item) ↦ in_part pass fault part (Field p i) at_pass (same_part part (Field p i) at_panel at_kind at_item)
-        ])
+    elim (next_item _ _ _ _ _ _ _ _ _ soon) [
+      | inl sooner ↦ behind pass (Field p i) part fault sooner
+      | inr (at_pass, at_panel, at_kind, at_item) ↦ in_part pass fault part (Field p i) at_pass (same_part part (Field p i) at_panel at_kind at_item)
+    ])
 
 pub field_found : (pass p i : ℕ) (draft : DraftText) (found : List PartFault) → AreFoundTo (turn_behind pass (Field p i)) draft found → AreFoundTo (turn_at pass (Field p (i + 1))) draft found
 field_found pass p i draft found s = subst (λ n. AreFoundTo (turn_at pass (Field p n)) draft found) (sym (add-one i)) (field_found_suc pass p i draft found s)
@@ -264,20 +264,20 @@ top_found pass draft found =
     let less : 0 < 1 = omega arith in
     advance (turn_behind pass Top) (turn_at pass (Panel 0)) draft found (inr (refl, inl less))
     (λ fault part soon faulty.
-        elim (next_panel _ _ _ _ _ _ 0 0 soon) [
-          | inl sooner ↦ behind pass Top part fault sooner
-          | inr (at_pass, at_panel, past) ↦ in_part pass fault part Top at_pass (is_top part at_panel)
-        ])
+    elim (next_panel _ _ _ _ _ _ 0 0 soon) [
+      | inl sooner ↦ behind pass Top part fault sooner
+      | inr (at_pass, at_panel, past) ↦ in_part pass fault part Top at_pass (is_top part at_panel)
+    ])
 
 pub panel_found : (pass p : ℕ) (draft : DraftText) (found : List PartFault) → AreFoundTo (turn_behind pass (Panel p)) draft found → AreFoundTo (turn_at pass (Text p 0)) draft found
 panel_found pass p draft found =
     let less : 0 < 1 = omega arith in
     advance (turn_behind pass (Panel p)) (turn_at pass (Text p 0)) draft found (inr (refl, inr (refl, inl less)))
     (λ fault part soon faulty.
-        elim (next_kind _ _ _ _ _ _ _ 0 0 soon) [
-          | inl sooner ↦ behind pass (Panel p) part fault sooner
-          | inr (at_pass, at_panel, at_kind, past) ↦ in_part pass fault part (Panel p) at_pass (from_turns part (suc p) 0 at_panel at_kind)
-        ])
+    elim (next_kind _ _ _ _ _ _ _ 0 0 soon) [
+      | inl sooner ↦ behind pass (Panel p) part fault sooner
+      | inr (at_pass, at_panel, at_kind, past) ↦ in_part pass fault part (Panel p) at_pass (from_turns part (suc p) 0 at_panel at_kind)
+    ])
 
 -- no part of a kind is in the text from a number on
 abbrev EndsAt : (ℕ → Part) → ℕ → DraftText → Type 0
@@ -299,11 +299,11 @@ texts_found pass p n draft found ends =
     let less : 1 < 2 = omega arith in
     advance (turn_at pass (Text p n)) (turn_at pass (Field p 0)) draft found (inr (refl, inr (refl, inl less)))
     (λ fault part soon faulty.
-        elim (next_kind _ _ _ _ _ _ _ 1 n soon) [
-          | inl sooner ↦ sooner
-          | inr (at_pass, at_panel, at_kind, past) ↦
-              absurd (ends (item_turn part) past (subst (λ q. IsTrue (is_part q draft.panels)) (from_turns part (suc p) 1 at_panel at_kind) faulty.0))
-        ])
+    elim (next_kind _ _ _ _ _ _ _ 1 n soon) [
+      | inl sooner ↦ sooner
+      | inr (at_pass, at_panel, at_kind, past) ↦
+          absurd (ends (item_turn part) past (subst (λ q. IsTrue (is_part q draft.panels)) (from_turns part (suc p) 1 at_panel at_kind) faulty.0))
+    ])
 
 pub no_text_from : (draft : DraftText) (panel : DraftPanel) (p n : ℕ) → slice_get draft.panels p ≡ Some panel → n ≡ length panel.texts → EndsAt (Text p) n draft
 no_text_from draft panel p n there all i past stands =
@@ -320,21 +320,21 @@ fields_found pass p n draft found ends =
     let less : 2 < 3 = omega arith in
     advance (turn_at pass (Field p n)) (turn_at pass (Keys p)) draft found (inr (refl, inr (refl, inl less)))
     (λ fault part soon faulty.
-        elim (next_kind _ _ _ _ _ _ _ 2 n soon) [
-          | inl sooner ↦ sooner
-          | inr (at_pass, at_panel, at_kind, past) ↦
-              absurd (ends (item_turn part) past (subst (λ q. IsTrue (is_part q draft.panels)) (from_turns part (suc p) 2 at_panel at_kind) faulty.0))
-        ])
+    elim (next_kind _ _ _ _ _ _ _ 2 n soon) [
+      | inl sooner ↦ sooner
+      | inr (at_pass, at_panel, at_kind, past) ↦
+          absurd (ends (item_turn part) past (subst (λ q. IsTrue (is_part q draft.panels)) (from_turns part (suc p) 2 at_panel at_kind) faulty.0))
+    ])
 
 keys_found_suc : (pass p : ℕ) (draft : DraftText) (found : List PartFault) → AreFoundTo (turn_behind pass (Keys p)) draft found → AreFoundTo (turn_at pass (Panel (suc p))) draft found
 keys_found_suc pass p draft found =
     let less : suc p < suc (suc p) = omega arith in
     advance (turn_behind pass (Keys p)) (turn_at pass (Panel (suc p))) draft found (inr (refl, inl less))
     (λ fault part soon faulty.
-        elim (next_panel _ _ _ _ _ _ (suc p) 3 soon) [
-          | inl sooner ↦ behind pass (Keys p) part fault sooner
-          | inr (at_pass, at_panel, past) ↦ in_part pass fault part (Keys p) at_pass (is_keys part p at_panel past)
-        ])
+    elim (next_panel _ _ _ _ _ _ (suc p) 3 soon) [
+      | inl sooner ↦ behind pass (Keys p) part fault sooner
+      | inr (at_pass, at_panel, past) ↦ in_part pass fault part (Keys p) at_pass (is_keys part p at_panel past)
+    ])
 
 pub keys_found : (pass p : ℕ) (draft : DraftText) (found : List PartFault) → AreFoundTo (turn_behind pass (Keys p)) draft found → AreFoundTo (turn_at pass (Panel (p + 1))) draft found
 keys_found pass p draft found s = subst (λ n. AreFoundTo (turn_at pass (Panel n)) draft found) (sym (add-one p)) (keys_found_suc pass p draft found s)
@@ -360,12 +360,12 @@ panels_found_suc pass n draft found all =
     let less : pass < suc pass = omega arith in
     advance (turn_at pass (Panel n)) (turn_at (suc pass) Top) draft found (inl less)
     (λ fault part soon faulty.
-        elim (next_pass _ _ _ _ _ _ (suc n) soon) [
-          | inl sooner ↦ sooner
-          | inr (at_pass, past) ↦
-              let within = panel_of_part part draft.panels faulty.0 in
-              absurd (omega arith)
-        ])
+    elim (next_pass _ _ _ _ _ _ (suc n) soon) [
+      | inl sooner ↦ sooner
+      | inr (at_pass, past) ↦
+          let within = panel_of_part part draft.panels faulty.0 in
+          absurd (omega arith)
+    ])
 
 pub panels_found : (pass n : ℕ) (draft : DraftText) (found : List PartFault) → n ≡ length draft.panels → AreFoundTo (turn_at pass (Panel n)) draft found → AreFoundTo (turn_at (pass + 1) Top) draft found
 panels_found pass n draft found all s = subst (λ m. AreFoundTo (turn_at m Top) draft found) (sym (add-one pass)) (panels_found_suc pass n draft found all s)
@@ -550,8 +550,8 @@ fault_added pass k fault part draft old listed faulty s =
           ];
       sooner = All-push (λ (at : PartFault). IsSooner (turn_of at.fault at.part) (turn_in pass part (suc k))) old (this fault part)
           (λ j d below.
-              let at = get_or old j d in
-              sooner_through (turn_of at.fault at.part) (turn_in pass part k) (turn_in pass part (suc k)) (s.sooner j d below) next)
+          let at = get_or old j d in
+          sooner_through (turn_of at.fault at.part) (turn_in pass part k) (turn_in pass part (suc k)) (s.sooner j d below) next)
           (subst (λ turn. IsSooner turn (turn_in pass part (suc k))) (sym its) next);
       in_order = all_pairs_push IsBefore old (this fault part) s.in_order (λ j d below.
           let at = get_or old j d in
@@ -565,10 +565,10 @@ fault_passed pass k fault part draft old listed clean s =
     let next : IsSooner (turn_in pass part k) (turn_in pass part (suc k)) = inr (refl, inr (refl, inr (refl, inr (refl, inl less)))) in
     advance (turn_in pass part k) (turn_in pass part (suc k)) draft old next
     (λ other elsewhere soon stands.
-        elim (at_number pass k fault other part elsewhere listed soon) [
-          | inl sooner ↦ sooner
-          | inr (same, there) ↦ absurd (clean (subst (λ f. HasFault f part draft) same (subst (λ q. HasFault other q draft) there stands.1)))
-        ])
+    elim (at_number pass k fault other part elsewhere listed soon) [
+      | inl sooner ↦ sooner
+      | inr (same, there) ↦ absurd (clean (subst (λ f. HasFault f part draft) same (subst (λ q. HasFault other q draft) there stands.1)))
+    ])
     s
 
 pub fault_next : (pass k : ℕ) (fault : TreeFault) (part : Part) (draft : DraftText) (old new : List PartFault) → slice_get (faults_of pass) k ≡ Some fault → IsTrue (is_part part draft.panels)
