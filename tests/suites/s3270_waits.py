@@ -1,13 +1,12 @@
-"""Sessions of s3270 behind a proxy that delays what passes, whose operator presses Reset at some
+"""Sessions of s3270 behind a proxy that holds what passes back, whose operator presses Reset at some
 point of the wait.
 
 The expected screens are what examples/bank.toml has at its rows and columns, that is those of an
-operator who waits; only in fields that are kept is what was typed in the wait. They take about a
-minute and a half."""
+operator who waits; only in fields that are kept is what was typed in the wait. Nothing depends on
+time: what comes is handed on when the operator has done what is to be done."""
 import contextlib
 import functools
 import itertools
-import queue
 import re
 import shutil
 import socket
@@ -17,23 +16,22 @@ import time
 import tomllib
 
 from harness import hosts
-from harness.case import TOP, Case, Difference, NotHere, Place, expect, of_function, relative
+from harness.case import TOP, Case, Difference, NotHere, Place, expect, relative
 
 LONG = True
-# The time from an end to the other, in seconds, while a key is answered. The first of them all is
-# that of a slow line.
-DELAY, SLOW = 0.35, 1.5
 # How many cases are run at once.
 THREADS = 8
 
 
 class Proxy:
-    """Hands on what each side of a connection sends, after a delay that can be changed, and in
-    order."""
+    """Hands on what each side of a connection sends, in order, but for a way that it holds back
+    until it is told to pass that."""
 
     def __init__(self, port):
-        self.delay, self.to = 0, port
+        self.to, self.change = port, threading.Condition()
         self.came, self.went = {"up": 0, "down": 0}, {"up": 0, "down": 0}
+        # How many bytes may go each way; None: all.
+        self.allowed = {"up": None, "down": None}
         self.listener = socket.create_server((hosts.LOCALHOST, 0))
         self.port = self.listener.getsockname()[1]
         threading.Thread(target=self.serve, daemon=True).start()
@@ -44,28 +42,43 @@ class Proxy:
             host = socket.create_connection((hosts.LOCALHOST, self.to))
             for way, one, other in (("up", terminal, host), ("down", host, terminal)):
                 other.setsockopt(socket.IPPROTO_TCP, socket.TCP_NODELAY, 1)
-                pieces = queue.Queue()
-                threading.Thread(target=self.takes, args=(way, one, pieces), daemon=True).start()
-                threading.Thread(
-                    target=self.hands_on, args=(way, other, pieces), daemon=True
-                ).start()
+                threading.Thread(target=self.hands_on, args=(way, one, other), daemon=True).start()
 
-    def takes(self, way, one, pieces):
+    def hands_on(self, way, one, other):
         piece = b"-"
-        while piece:
-            piece = b""
-            with contextlib.suppress(OSError):
-                piece = one.recv(1 << 16)
-            self.came[way] += len(piece)
-            pieces.put((time.monotonic() + self.delay, piece))
-
-    def hands_on(self, way, other, pieces):
         with contextlib.suppress(OSError):
-            while True:
-                due, piece = pieces.get()
-                time.sleep(max(0, due - time.monotonic()))
+            while piece:
+                piece = b""
+                with contextlib.suppress(OSError):
+                    piece = one.recv(1 << 16)
+                with self.change:
+                    self.came[way] += len(piece)
+                    self.change.wait_for(lambda: self.allowed[way] in (None, self.came[way]))
                 other.sendall(piece) if piece else other.shutdown(socket.SHUT_WR)
-                self.went[way] += len(piece)
+                with self.change:
+                    self.went[way] += len(piece)
+
+    def holds(self):
+        """Holds back what comes from now on, either way."""
+        with self.change:
+            self.allowed = dict(self.came)
+
+    def passes(self, way):
+        """Passes what is held back on a way, once something is, and waits until the other end has
+        answered: what it answers is held back, and so is what comes behind that."""
+        answer = {"up": "down", "down": "up"}[way]
+        hosts.until(f"something comes {way}", lambda: self.came[way] > self.went[way])
+        before = self.came[answer]
+        with self.change:
+            self.allowed[way] = self.came[way]
+            self.change.notify_all()
+        hosts.until(f"it is answered {answer}", lambda: self.came[answer] > before)
+
+    def opens(self):
+        """Holds nothing back any more."""
+        with self.change:
+            self.allowed = dict.fromkeys(self.allowed)
+            self.change.notify_all()
 
     def settles(self):
         """Waits until nothing is under way, and nothing more comes."""
@@ -211,7 +224,7 @@ IN_THE_WAIT = [(it, ()) for it in DONE_IN_THE_WAIT] + [
     ("types into an empty field", (it,)) for it in ("Enter", "PF(3)", "PA(1)")
 ]
 # The first key, which fields are empty then, and at how many points of its wait something is done:
-# at once; when the host has its record, so that what the host sends is under way; and of a key for
+# at once; when the host has its record, and what the host sends is under way; and of a key for
 # which the host reads the screen when that read is there, and when its answer is.
 KEYS = {
     "Enter": ("Enter", (), 2),
@@ -221,17 +234,7 @@ KEYS = {
 MESSAGES = {"Enter, without an amount,": "REQUIRED: amount", "PA1": "KEY NOT ACTIVE"}
 
 
-def reaches(proxy, point, before):
-    """Waits for a point of the wait: how many records have gone, up and down in turn, since the key
-    was pressed."""
-    went = dict(before)
-    for way in itertools.islice(itertools.cycle(("up", "down")), point):
-        hosts.until(f"point {point} of the wait", lambda: proxy.went[way] > went[way])
-        # What comes next is what the other end answers to this.
-        went[way] = proxy.went[way]
-
-
-def in_the_wait(model, key, point, what, second, delay=DELAY):
+def in_the_wait(model, key, point, what, second):
     """An operator who presses Reset at a point of the wait, and then changes fields and presses a
     key, sees what one who waits sees."""
     action, empty, _ = KEYS[key]
@@ -248,12 +251,13 @@ def in_the_wait(model, key, point, what, second, delay=DELAY):
         operator.fills_in("TRANSFER", texts)
         operator.does(at("TRANSFER", "reference"))
         proxy.settles()
-        proxy.delay, before = delay, dict(proxy.went)
+        proxy.holds()
         operator.does(action)
-        reaches(proxy, point, before)
+        for way in itertools.islice(itertools.cycle(("up", "down")), point):
+            proxy.passes(way)
         operator.does("Reset", *actions, *second)
+        proxy.opens()
         proxy.settles()
-        proxy.delay = 0
         if key in MESSAGES:
             sees(
                 "the same panel",
@@ -269,17 +273,10 @@ def in_the_wait(model, key, point, what, second, delay=DELAY):
         expect("keys that the log says were dropped", dropped, len(second))
 
 
-def the_fault_that_was_seen():
-    """On a slow line a transfer is filled in, Enter and Reset are pressed, and a text is typed
-    where the cursor is."""
-    in_the_wait(2, "Enter", 0, "types into an empty field", (), SLOW)
-
-
 def cases():
     """The dialogues, if s3270 is installed."""
     if not shutil.which("s3270"):
         raise NotHere("s3270 isn't installed (apt-get install s3270)")
-    yield of_function(the_fault_that_was_seen)
     for model, (key, (_, _, points)), (what, second) in itertools.product(
         SIZES, KEYS.items(), IN_THE_WAIT
     ):
