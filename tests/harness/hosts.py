@@ -276,17 +276,19 @@ class Server:
         return os.pread(self.log.fileno(), 1 << 17, 0).decode(errors="replace")
 
     def events(self):
-        """The lines of its log, plain."""
-        return [plain(it) for it in self.logged().splitlines()]
+        """The whole lines of its log, plain."""
+        return [plain(it) for it in self.logged().rpartition("\n")[0].splitlines()]
 
     def has_logged(self, *events):
         """Waits until its log has these lines behind the one that it listens, and no other."""
         wanted = [f"listening on {LOCALHOST}:{self.port}", *events]
+
+        def is_whole_or_wrong():
+            came = self.events()
+            return came == wanted or came != wanted[: len(came)]
+
         with contextlib.suppress(Difference):
-            until(
-                "its log",
-                lambda: self.events() == wanted or wanted[: len(self.events())] != self.events(),
-            )
+            until("its log", is_whole_or_wrong)
         expect("its log", self.events(), wanted)
 
     def ends(self):
