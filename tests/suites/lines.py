@@ -81,7 +81,10 @@ JOBS: dict[str, Callable[[dict], str]] = {
 
 def job(answer: list[str]) -> str:
     """A job in the words of a case."""
-    name, parts = variant(re.fullmatch(r"(?:Ok|Err)\((.*)\)", answer[0])[1])
+    outcome, value = re.fullmatch(r"(Ok|Err)\((.*)\)", answer[0]).groups()
+    name, parts = variant(value)
+    if outcome == "Err":
+        return "no memory" if name == "Memory" else "refused"
     return JOBS[name](parts) if name in JOBS else name.lower()
 
 

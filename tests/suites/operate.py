@@ -279,8 +279,13 @@ def options_are_passed_on():
     with Operator("--modle", 3, 3270) as operator:
         operator.ends(
             2,
-            "error: unexpected word '--modle' (did you mean '--model'?)",
-            "For more information, try 'panel3270 help operate'.",
+            "error: unexpected argument '--modle' found",
+            "",
+            "  tip: a similar argument exists: '--model'",
+            "",
+            "Usage: panel3270 operate --port <port> --model <model>",
+            "",
+            "For more information, try '--help'.",
         )
     with Operator("--port", 80) as operator:
         operator.ends(

@@ -1,11 +1,11 @@
 -- Commands of clap that gain a job, and what a parse by the whole command line says.
-use Rattle.std.proofs.Common.{◌≡◌, ◌∙◌, refl, sym, ap, ap₂, subst, ℕ, ◌||◌, List, [], ◌∷◌, ◌++◌, true, Bool, inl, inr, Option, Some, append-nil, append_assoc, ◌+◌, ◌<◌, ◌≤◌, length, map, drop, get_or}
+use Rattle.std.proofs.Common.{◌≡◌, ◌∙◌, ◌⊎◌, refl, sym, ap, ap₂, subst, ℕ, ◌||◌, List, [], ◌∷◌, ◌++◌, true, Bool, inl, inr, Option, Some, append-nil, append_assoc, None, Result, Ok, Err, ◌+◌, ◌<◌, ◌≤◌, length, map, drop, get_or}
 use Rattle.std.specs.Prelude.{IfOk, IfErr}
 use Rattle.std.proofs.lemmas.List.{drop_more, drop_all}
 use Rattle.clap.specs.Built.{AddsArg, AddsSubcommand}
 use Rattle.clap.specs.Simple.{App, Shape, HasMatchesOf, new_shape, app_of, with_rule, with_subcommand, is_simple, subcommand_of, subcommand_rows_of}
 use Rattle.clap.specs.Faults.{fault_of, is_simple_and_free}
-use Rattle.clap.specs.Kinds.{HasKind, IsAmong}
+use Rattle.clap.specs.Kinds.{FailsBy, HasKind}
 use Rattle.clap.specs.Values.{kind_of}
 use Rattle.clap.specs.Walk.{Rule, is_empty}
 use Rattle.clap.specs.declared.builder.arg.Arg.{Arg}
@@ -16,8 +16,8 @@ use Rattle.clap.specs.declared.error.kind.ErrorKind.TheVariants as kind
 use Rattle.clap.specs.declared.parser.matches.ArgMatches.{ArgMatches}
 use Rattle.clap.proofs.OnLiterals.{clap_on_literals}
 use Rattle.cli.specs.Topics.{name_of, operand_of, options_of, row_of}
-use Rattle.cli.specs.Words.{HasNoJob, IsJobOf, program, job_shape, job_taken, operand_rules, option_rule}
-use Rattle.cli.specs.ClapCommands.{AddsJobs, AddsArguments, IsCommand, IsJob, IsArgument, IsMatch, MayFail, job_or_fault}
+use Rattle.cli.specs.Words.{IsJobOf, program, job_by_kind, job_shape, job_taken, operand_rules, option_rule}
+use Rattle.cli.specs.ClapCommands.{AddsJobs, AddsArguments, IsCommand, IsJob, IsArgument, IsMatch, MayFail}
 use Rattle.jobs.specs.declared.job.Job.{Job}
 use Rattle.jobs.specs.declared.job.Topic.{Topic}
 use Rattle.cli.specs.declared.job_table.JobOption.{JobOption}
@@ -105,16 +105,22 @@ unfolding clap_on_literals
 is_free_program = refl
 
 module _ (command : Command) (words : List (List ℕ)) (is : app_of command ≡ program) where
-  pub is_match : (matches : ArgMatches) → HasMatchesOf (app_of command) words matches
+  is_match : (matches : ArgMatches) → HasMatchesOf (app_of command) words matches
       → (is_simple_and_free (app_of command) ≡ true → fault_of (app_of command) words ≡ []) → IsMatch words matches
   is_match matches found sound = record {
     taken = ap is_empty (sym (ap (λ (a : App). fault_of a words) is) ∙ sound (ap is_simple_and_free is ∙ is_free_program));
     rows = (found (ap is_simple is ∙ is_simple_program)).1 ∙ ap (λ (a : App). subcommand_of a words) is;
   }
 
-  pub may_fail : (error : Error) → (is_simple_and_free (app_of command) ≡ true → HasKind (fault_of (app_of command) words) error)
+  may_fail : (error : Error) → (is_simple_and_free (app_of command) ≡ true → HasKind (fault_of (app_of command) words) error)
       → MayFail words (kind_of error)
   may_fail error why = subst (λ (a : App). HasKind (fault_of a words) error) is (why (ap is_simple_and_free is ∙ is_free_program))
+
+  pub parsed : (result : Result ArgMatches Error) → IfOk result (HasMatchesOf (app_of command) words)
+      → (is_simple_and_free (app_of command) ≡ true → FailsBy (fault_of (app_of command) words) result)
+      → IfOk result (IsMatch words) × IfErr result (λ error. MayFail words (kind_of error))
+  parsed (Ok matches) found sound = (is_match matches found sound, tt)
+  parsed (Err error) found sound = (tt, may_fail error sound)
 
 -- ---- jobs
 
@@ -122,31 +128,17 @@ pub job_is : (words : List (List ℕ)) (matches : ArgMatches) → IsMatch words 
     → job ≡ job_taken words (subcommand_rows_of matches) → IsJobOf words job
 job_is words matches match job is = inl (record { taken = match.taken; job = sym (is ∙ ap (job_taken words) match.rows) })
 
--- what a kind of error asks for is the words' job, or they have none
-among_asked : (words : List (List ℕ)) (kind : ErrorKind) → IsAmong kind (fault_of program words)
-    → IfOk (job_or_fault words kind) (λ job. IsJobOf words (Some job)) × IfErr (job_or_fault words kind) (HasNoJob words)
-among_asked words kind.InvalidValue among = (tt, inr (record { kind = kind.InvalidValue; among = among; job = refl }))
-among_asked words kind.UnknownArgument among = (tt, inr (record { kind = kind.UnknownArgument; among = among; job = refl }))
-among_asked words kind.InvalidSubcommand among = (tt, inr (record { kind = kind.InvalidSubcommand; among = among; job = refl }))
-among_asked words kind.NoEquals among = (tt, inr (record { kind = kind.NoEquals; among = among; job = refl }))
-among_asked words kind.ValueValidation among = (tt, inr (record { kind = kind.ValueValidation; among = among; job = refl }))
-among_asked words kind.TooManyValues among = (tt, inr (record { kind = kind.TooManyValues; among = among; job = refl }))
-among_asked words kind.TooFewValues among = (tt, inr (record { kind = kind.TooFewValues; among = among; job = refl }))
-among_asked words kind.WrongNumberOfValues among = (tt, inr (record { kind = kind.WrongNumberOfValues; among = among; job = refl }))
-among_asked words kind.ArgumentConflict among = (tt, inr (record { kind = kind.ArgumentConflict; among = among; job = refl }))
-among_asked words kind.MissingRequiredArgument among = (tt, inr (record { kind = kind.MissingRequiredArgument; among = among; job = refl }))
-among_asked words kind.MissingSubcommand among = (tt, inr (record { kind = kind.MissingSubcommand; among = among; job = refl }))
-among_asked words kind.DisplayHelp among = (inr (record { kind = kind.DisplayHelp; among = among; job = refl }), tt)
-among_asked words kind.DisplayHelpOnMissingArgumentOrSubcommand among = (tt, inr (record { kind = kind.DisplayHelpOnMissingArgumentOrSubcommand; among = among; job = refl }))
-among_asked words kind.DisplayVersion among = (inr (record { kind = kind.DisplayVersion; among = among; job = refl }), tt)
-among_asked words kind.Io among = (tt, inr (record { kind = kind.Io; among = among; job = refl }))
-among_asked words kind.Format among = (tt, inr (record { kind = kind.Format; among = among; job = refl }))
-among_asked words kind.OutOfMemory among = (tt, tt)
+-- unless memory was refused, what a kind of error asks for is the words' job
+pub asked : (words : List (List ℕ)) (why : ErrorKind) → MayFail words why → (answer : Option Job) → answer ≡ job_by_kind words why
+    → (why ≡ kind.OutOfMemory) ⊎ IsJobOf words answer
+asked words why may answer is = elim may [
+  | inl memory ↦ inl memory
+  | inr among ↦ inr (inr (record { kind = why; among = among; job = sym is }))
+]
 
-pub asked : (words : List (List ℕ)) (kind : ErrorKind) → MayFail words kind
-    → IfOk (job_or_fault words kind) (λ job. IsJobOf words (Some job)) × IfErr (job_or_fault words kind) (HasNoJob words)
-asked words kind may = elim may [
-  | inl memory ↦ subst (λ (kind : ErrorKind). IfOk (job_or_fault words kind) (λ job. IsJobOf words (Some job)) × IfErr (job_or_fault words kind) (HasNoJob words))
-      (sym memory) (tt, tt)
-  | inr among ↦ among_asked words kind among
+-- a kind of error that asks for a job isn't that of refused memory
+pub asked_job : (words : List (List ℕ)) (why : ErrorKind) → MayFail words why → (job : Job) → Some job ≡ job_by_kind words why → IsJobOf words (Some job)
+asked_job words why may job is = elim (asked words why may (Some job) is) [
+  | inl memory ↦ absurd (let no : Some job ≡ None = is ∙ ap (job_by_kind words) memory in cc)
+  | inr is_job ↦ is_job
 ]

@@ -1,5 +1,5 @@
 -- The command line (specs/Words) as clap's values.
-use Rattle.std.specs.Prelude.{◌≡◌, ◌⊎◌, ℕ, List, [], ◌∷◌, true, false, Result, Ok, Err}
+use Rattle.std.specs.Prelude.{◌≡◌, ◌⊎◌, ℕ, List, [], ◌∷◌, true, false}
 use Rattle.clap.specs.Built.{AddsArg, AddsSubcommand}
 use Rattle.clap.specs.Faults.{fault_of}
 use Rattle.clap.specs.Kinds.{IsAmong}
@@ -9,13 +9,9 @@ use Rattle.clap.specs.declared.builder.arg.Arg.{Arg}
 use Rattle.clap.specs.declared.builder.command.Command.{Command}
 use Rattle.clap.specs.declared.builder.command.Command.TheViews.{out-Command}
 use Rattle.clap.specs.declared.error.kind.ErrorKind.{ErrorKind}
-use Rattle.clap.specs.declared.error.kind.ErrorKind.TheVariants.{DisplayHelp, DisplayVersion, OutOfMemory}
+use Rattle.clap.specs.declared.error.kind.ErrorKind.TheVariants.{OutOfMemory}
 use Rattle.clap.specs.declared.parser.matches.ArgMatches.{ArgMatches}
-use Rattle.cli.specs.Words.{program, is_taken, topic_of}
-use Rattle.jobs.specs.declared.job.Job.{Job}
-use Rattle.jobs.specs.declared.job.Job.TheVariants.{Help, Version}
-use Rattle.jobs.specs.declared.job.WordFault.{WordFault}
-use Rattle.jobs.specs.declared.job.WordFault.TheVariants.{Refused, Memory}
+use Rattle.cli.specs.Words.{program, is_taken}
 
 pub record IsArgument (rule : Rule) (argument : Arg) : Type 0 where
   pub is : rule_of argument ≡ rule
@@ -46,10 +42,3 @@ pub record IsMatch (words : List (List ℕ)) (matches : ArgMatches) : Type 0 whe
 -- a parse of the words may fail by this kind of error
 abbrev pub MayFail : List (List ℕ) → ErrorKind → Type 0
 MayFail words kind = (kind ≡ OutOfMemory) ⊎ IsAmong kind (fault_of program words)
-
--- what words whose parse fails by this kind of error ask for
-abbrev pub job_or_fault : List (List ℕ) → ErrorKind → Result Job WordFault
-job_or_fault words DisplayHelp = Ok (Help (topic_of words))
-job_or_fault words DisplayVersion = Ok Version
-job_or_fault words OutOfMemory = Err Memory
-job_or_fault words _ = Err Refused

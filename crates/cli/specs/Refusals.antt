@@ -1,5 +1,8 @@
--- The exit status for arguments that are refused (our profile).
+-- The exit status for arguments that give no job (our profile).
 use Rattle.std.specs.Prelude.{ℕ}
+use Rattle.cli.specs.declared.refusal.WordFault.{WordFault}
+use Rattle.cli.specs.declared.refusal.WordFault.TheVariants.{Memory}
 
-abbrev pub words_refused : ℕ
-words_refused = 2
+abbrev pub status_of : WordFault → ℕ
+status_of Memory = 3
+status_of _ = 2

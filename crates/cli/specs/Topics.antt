@@ -26,7 +26,7 @@ name_of topic.Version = codes "version"
 
 -- the jobs of the program
 abbrev pub jobs : List Topic
-jobs = topic.Script ∷ topic.Show ∷ topic.Selfrun ∷ topic.Check ∷ topic.Host ∷ topic.Serve ∷ topic.Term ∷ topic.Operate ∷ topic.Help
+jobs = topic.Script ∷ topic.Selfrun ∷ topic.Show ∷ topic.Check ∷ topic.Host ∷ topic.Serve ∷ topic.Term ∷ topic.Operate ∷ topic.Help
     ∷ topic.Version ∷ []
 
 -- the job with this name

@@ -1,7 +1,7 @@
 -- The job of the program's arguments (our profile). The first argument names the job. Its options follow in any order, each at most
 -- once. The crate clap says in its specs/Walk and specs/Faults how arguments spell a subcommand and its options; Topics has the
 -- subcommands and options. `--help` or `-h` in any place, and `--version` in place of a job, are those that clap adds by itself.
-use Rattle.std.specs.Prelude.{◌≡◌, ◌⊎◌, ⊤, ℕ, Bool, true, false, List, [], ◌∷◌, ◌++◌, map, Option, Some, None, codes, bytes_eq, option_map, unwrap_or, if◌then◌else◌}
+use Rattle.std.specs.Prelude.{◌≡◌, ◌⊎◌, ℕ, Bool, true, false, List, [], ◌∷◌, ◌++◌, map, Option, Some, None, codes, bytes_eq, option_map, unwrap_or, if◌then◌else◌}
 use Rattle.std.specs.Option.{option_and_then, option_map_or}
 use Rattle.std.specs.declared.net.ip_addr.IpAddr.{IpAddr}
 use Rattle.clap.specs.Kinds.{IsAmong}
@@ -22,12 +22,12 @@ use Rattle.jobs.specs.declared.job.Job.TheVariants as job
 use Rattle.jobs.specs.declared.job.LiveOptions.{LiveOptions}
 use Rattle.jobs.specs.declared.job.Topic.{Topic}
 use Rattle.jobs.specs.declared.job.Topic.TheVariants as topic
-use Rattle.jobs.specs.declared.job.WordFault.{WordFault}
-use Rattle.jobs.specs.declared.job.WordFault.TheVariants.{Refused, Memory}
 use Rattle.jobs.specs.declared.service.ApplicationChoice.{ApplicationChoice}
 use Rattle.jobs.specs.declared.service.Service.{Service}
 use Rattle.jobs.specs.declared.service.TimeLimits.{TimeLimits}
 use Rattle.jobs.specs.declared.tty_size.TtySize.{TtySize}
+use Rattle.cli.specs.declared.refusal.WordFault.{WordFault}
+use Rattle.cli.specs.declared.refusal.WordFault.TheVariants.{Memory}
 
 -- ---- the command line
 
@@ -218,7 +218,6 @@ pub record IsAskedFor (words : List (List ℕ)) (answer : Option Job) : Type 0 w
 abbrev pub IsJobOf : List (List ℕ) → Option Job → Type 0
 IsJobOf words answer = IsTakenFor words answer ⊎ IsAskedFor words answer
 
--- why the arguments give no job; a refusal of memory says nothing of them
+-- why the arguments give no job: memory was refused, or they have none
 abbrev pub HasNoJob : List (List ℕ) → WordFault → Type 0
-HasNoJob words Refused = IsJobOf words None
-HasNoJob words Memory = ⊤
+HasNoJob words fault = (fault ≡ Memory) ⊎ IsJobOf words None

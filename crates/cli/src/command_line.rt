@@ -1,22 +1,24 @@
 //! Reads the program's arguments.
 ghost use Rattle.std.specs.Prelude.{◌≡◌, [], IfOk, IfErr, Some, codes, false, map, option_map, string_bytes, true};
-ghost use Rattle.clap.specs.Walk.{first_of, rows_of};
-ghost use Rattle.clap.specs.Simple.{new_rule, subcommand_rows_of};
 ghost use Rattle.clap.specs.Matches.{found_of};
+ghost use Rattle.clap.specs.Simple.{subcommand_rows_of};
+ghost use Rattle.clap.specs.Values.{kind_of};
+ghost use Rattle.clap.specs.Walk.{first_of, rows_of};
 ghost use Rattle.jobs.specs.OptionValues.{is_same_port};
 ghost use Rattle.cli.specs.Topics.{row_of};
-ghost use Rattle.cli.specs.Words.{HasNoJob, IsJobOf, program, job_by, job_named, job_of, given_address, given_application, given_limits, given_live_options, given_lu, given_metrics, given_model, given_port, given_reply_time, given_script_terminals, given_seconds, given_service, given_service_port, given_terminals, given_topic, given_tty, given_turns, ends_by_dashes, is_given, job_shape, job_taken, operand_rules, option_rule, sound_service, topic_of, terminals_by};
-ghost use Rattle.cli.specs.ClapCommands.{AddsArguments, AddsJobs, IsArgument, IsCommand, IsJob, IsMatch, MayFail, job_or_fault};
+ghost use Rattle.cli.specs.Words.{HasNoJob, IsJobOf, program, job_by, job_by_kind, job_named, job_of, given_address, given_application, given_limits, given_live_options, given_lu, given_metrics, given_model, given_port, given_reply_time, given_script_terminals, given_seconds, given_service, given_service_port, given_terminals, given_topic, given_tty, given_turns, ends_by_dashes, is_given, job_shape, job_taken, operand_rules, option_rule, sound_service, topic_of, terminals_by};
+ghost use Rattle.cli.specs.ClapCommands.{AddsArguments, AddsJobs, IsArgument, IsCommand, IsJob, IsMatch, MayFail};
 
 use crate::help::VERSION;
-use crate::job_table::{JobOption, name_of, operand_of, options_of, topic_named};
+use crate::job_table::{JOBS, JobOption, name_of, operand_of, options_of, topic_named};
+use crate::refusal::{WordFault, not_taken, refusal_of};
 use clap::error::ErrorKind;
 use clap::{Arg, ArgAction, ArgMatches, Command};
 use codes3270::Model;
 use host_core::Terminals;
 use jobs::{
-    ApplicationChoice, FileName, Job, LiveOptions, Port, ReplyTime, Seconds, Service, ServicePort,
-    TimeLimits, Topic, TtySize, Turns, UrlText, WordFault, address_of, model_of,
+    ApplicationChoice, Job, LiveOptions, Port, ReplyTime, Seconds, Service, ServicePort,
+    TimeLimits, Topic, TtySize, Turns, WordText, address_of, model_of,
 };
 use std::alloc::{AllocError, Global};
 use std::net::{IpAddr, Ipv4Addr};
@@ -100,32 +102,20 @@ fn with_jobs<'a>(
 }
 
 /// The program without its jobs. Its own `help` is used in place of clap's.
-fn bare<'a>(alloc: Global) -> Command<'a>
-    ensures { IsCommand (record program { top = record program.top { is_leaf = true }; subs = [] }) result }
+fn bare<'a>(alloc: Global) -> Result<Command<'a>, AllocError>
+    ensures { IfOk result (IsCommand (record program { top = record program.top { is_leaf = true }; subs = [] })) }
 {
-    let named = Command::new(alloc, "panel3270").no_binary_name(true);
-    named.disable_help_subcommand(true).version(VERSION)
+    let command = Command::new(alloc, "panel3270").no_binary_name(true);
+    let own_help = command.disable_help_subcommand(true).version(VERSION);
+    own_help.bin_name("panel3270")
 }
-
-/// The jobs of the program.
-pub(crate) static JOBS: [Topic; 10] = [
-    Topic::Script,
-    Topic::Show,
-    Topic::Selfrun,
-    Topic::Check,
-    Topic::Host,
-    Topic::Serve,
-    Topic::Term,
-    Topic::Operate,
-    Topic::Help,
-    Topic::Version,
-];
 
 /// The program, with its jobs as subcommands.
 fn program<'a>(alloc: Global) -> Result<Command<'a>, AllocError>
     ensures { IfOk result (IsCommand program) }
 {
-    with_jobs(alloc, bare(alloc), &JOBS)
+    let command = bare(alloc)?;
+    with_jobs(alloc, command, &JOBS)
 }
 
 // ---- what was given
@@ -137,11 +127,11 @@ fn given<'a>(options: &ArgMatches<'a>, name: &str) -> Option<&'a str>
     options.get_str(name)
 }
 
-/// The value of an option or operand that is a file's name, if it is given.
-fn file_in<'a>(options: &ArgMatches<'a>, name: &str) -> Option<FileName<'a>>
+/// The value of an option or operand that is kept as text, if it is given.
+fn text_in<'a>(options: &ArgMatches<'a>, name: &str) -> Option<WordText<'a>>
     ensures { result ≡ first_of name.now (rows_of (found_of options.now)) }
 {
-    Some(FileName::new(given(options, name)?))
+    Some(WordText::new(given(options, name)?))
 }
 
 /// The value of `--port`, of a job for users without privileges.
@@ -157,7 +147,7 @@ fn turns_in(options: &ArgMatches<'_>) -> Option<Turns>
 {
     match given(options, "turns") {
         Some(word) => Turns::read(word),
-        None => Some(Turns::usual()),
+        None => Some(Turns::of(10_000)),
     }
 }
 
@@ -223,9 +213,9 @@ fn limits_in(options: &ArgMatches<'_>) -> Option<TimeLimits>
     ensures { result ≡ given_limits (rows_of (found_of options.now)) }
 {
     Some(TimeLimits {
-        negotiate: seconds_in(options, "negotiate", Seconds::usual_negotiate())?,
-        keepalive: seconds_in(options, "keepalive", Seconds::usual_keepalive())?,
-        idle: seconds_in(options, "idle", Seconds::usual_idle())?,
+        negotiate: seconds_in(options, "negotiate", Seconds::of(30))?,
+        keepalive: seconds_in(options, "keepalive", Seconds::of(60))?,
+        idle: seconds_in(options, "idle", Seconds::of(0))?,
     })
 }
 
@@ -240,7 +230,7 @@ fn metrics_in(options: &ArgMatches<'_>) -> Option<Option<ServicePort>>
 }
 
 /// Whether a flag is given.
-fn is_given(options: &ArgMatches<'_>, flag: &str) -> bool
+pub(crate) fn is_given(options: &ArgMatches<'_>, flag: &str) -> bool
     ensures { result ≡ is_given flag.now (rows_of (found_of options.now)) }
 {
     match given(options, flag) {
@@ -253,14 +243,12 @@ fn is_given(options: &ArgMatches<'_>, flag: &str) -> bool
 fn terminals_by(own: bool, verify: bool) -> Option<Terminals>
     ensures { result ≡ terminals_by own verify }
 {
-    if verify {
-        return if own { None } else { Some(Terminals::Verified) };
+    match (own, verify) {
+        (true, true) => None,
+        (true, false) => Some(Terminals::Waiting),
+        (false, true) => Some(Terminals::Verified),
+        (false, false) => Some(Terminals::Any),
     }
-    Some(if own {
-        Terminals::Waiting
-    } else {
-        Terminals::Any
-    })
 }
 
 /// Which terminals connect: those that wait if `--own-terminals` is given, else any, which the host verifies if `--verify` is given.
@@ -300,7 +288,7 @@ fn service_in(options: &ArgMatches<'_>) -> Option<Service>
 }
 
 /// Whether another port, if there is one, is the same.
-pub(crate) fn is_same_port(port: ServicePort, other: Option<ServicePort>) -> bool
+fn is_same_port(port: ServicePort, other: Option<ServicePort>) -> bool
     ensures { result ≡ is_same_port port other }
 {
     match other {
@@ -333,20 +321,13 @@ fn live_options_in(options: &ArgMatches<'_>) -> Option<LiveOptions>
     })
 }
 
-/// The value of `--application`, if it is given.
-fn url_in<'a>(options: &ArgMatches<'a>) -> Option<UrlText<'a>>
-    ensures { result ≡ first_of (codes "application") (rows_of (found_of options.now)) }
-{
-    Some(UrlText::new(given(options, "application")?))
-}
-
 /// The value of `--application-timeout`; the usual time if it isn't given.
 fn reply_time_in(options: &ArgMatches<'_>) -> Option<ReplyTime>
     ensures { result ≡ given_reply_time (rows_of (found_of options.now)) }
 {
     match given(options, "application-timeout") {
         Some(word) => ReplyTime::read(word),
-        None => Some(ReplyTime::usual()),
+        None => Some(ReplyTime::of(30)),
     }
 }
 
@@ -355,7 +336,7 @@ fn application_in<'a>(options: &ArgMatches<'a>) -> Option<ApplicationChoice<'a>>
     ensures { result ≡ given_application (rows_of (found_of options.now)) }
 {
     Some(ApplicationChoice {
-        url: url_in(options),
+        url: text_in(options, "application"),
         reply_time: reply_time_in(options)?,
     })
 }
@@ -371,7 +352,7 @@ fn topic_in(options: &ArgMatches<'_>) -> Option<Topic>
 }
 
 /// The topic of `--help`: the job whose option it is.
-fn topic_of(words: &[String]) -> Topic
+pub(crate) fn topic_of(words: &[String]) -> Topic
     ensures { result ≡ topic_of (map string_bytes words.now) }
 {
     match words {
@@ -396,7 +377,7 @@ fn job_of<'a>(topic: Topic, options: &ArgMatches<'a>) -> Option<Job<'a>>
             turns: turns_in(options)?,
         },
         Topic::Check => Job::Check {
-            file: file_in(options, "file"),
+            file: text_in(options, "file"),
         },
         Topic::Host => Job::Host {
             port: port_in(options)?,
@@ -404,7 +385,7 @@ fn job_of<'a>(topic: Topic, options: &ArgMatches<'a>) -> Option<Job<'a>>
         },
         Topic::Serve => Job::Serve {
             service: sound_service_in(options)?,
-            panels: file_in(options, "panels"),
+            panels: text_in(options, "panels"),
             application: application_in(options)?,
         },
         Topic::Term => Job::Term {
@@ -442,7 +423,7 @@ fn job_in<'a>(matches: &ArgMatches<'a>) -> Option<Job<'a>>
 }
 
 /// Whether the last word is the one that ends options, so that nothing follows it.
-fn ends_by_dashes(words: &[String]) -> bool
+pub(crate) fn ends_by_dashes(words: &[String]) -> bool
     ensures { result ≡ ends_by_dashes false (map string_bytes words.now) }
 {
     let mut dashes = false;
@@ -465,45 +446,42 @@ fn job_taken<'a>(words: &[String], matches: &ArgMatches<'a>) -> Option<Job<'a>>
 
 // ---- words
 
-/// What words ask for whose parse failed by this kind of error.
-fn job_or_fault<'a>(words: &'a [String], kind: ErrorKind) -> Result<Job<'a>, WordFault>
-    ensures { result ≡ job_or_fault (map string_bytes words.now) kind }
+/// The job that words ask for whose parse failed by this kind of error; None if they are refused.
+fn job_by_kind<'a>(words: &[String], kind: ErrorKind) -> Option<Job<'a>>
+    ensures { result ≡ job_by_kind (map string_bytes words.now) kind }
 {
     match kind {
-        ErrorKind::DisplayHelp => Ok(Job::Help(topic_of(words))),
-        ErrorKind::DisplayVersion => Ok(Job::Version),
-        ErrorKind::OutOfMemory => Err(WordFault::Memory),
-        _ => Err(WordFault::Refused),
+        ErrorKind::DisplayHelp => Some(Job::Help(topic_of(words))),
+        ErrorKind::DisplayVersion => Some(Job::Version),
+        _ => None,
     }
 }
 
-/// The arguments, parsed by the command line; or the kind of the parse's error.
-fn matches_of<'a>(alloc: Global, words: &'a [String]) -> Result<ArgMatches<'a>, ErrorKind>
+/// The arguments, parsed by the command line.
+fn matches_of<'a>(alloc: Global, words: &'a [String]) -> Result<ArgMatches<'a>, clap::Error>
     ensures matches { IfOk result (IsMatch (map string_bytes words.now)) }
-    ensures kind { IfErr result (MayFail (map string_bytes words.now)) }
+    ensures kind { IfErr result (λ error. MayFail (map string_bytes words.now) (kind_of error)) }
 {
-    let Ok(command) = program(alloc) else {
-        return Err(ErrorKind::OutOfMemory);
-    };
-    match command.try_get_matches_from(words) {
-        Ok(matches) => Ok(matches),
-        Err(error) => Err(error.kind()),
-    }
+    let command = program(alloc)?;
+    command.try_get_matches_from(words)
 }
 
 /// The job of the program's arguments: `script` if there are none.
 ///
-/// Refused if the command line doesn't take them, if a port, a number of turns or seconds, an address, an LU's name, a model, a size or a
+/// None if the command line doesn't take them, if a port, a number of turns or seconds, an address, an LU's name, a model, a size or a
 /// job's name isn't valid, if `--metrics` has the port of `--port`, or if the last word is `--`; Memory if memory is refused.
-pub fn words<'a>(alloc: Global, words: &'a [String]) -> Result<Job<'a>, WordFault>
+pub fn words<'a>(alloc: Global, words: &'a [String]) -> Result<Job<'a>, WordFault<'a>>
     ensures job { IfOk result (λ job. IsJobOf (map string_bytes words.now) (Some job)) }
     ensures fault { IfErr result (HasNoJob (map string_bytes words.now)) }
 {
     match matches_of(alloc, words) {
         Ok(matches) => match job_taken(words, &matches) {
             Some(job) => Ok(job),
-            None => Err(WordFault::Refused),
+            None => Err(refusal_of(words, &matches)),
         },
-        Err(kind) => job_or_fault(words, kind),
+        Err(error) => match job_by_kind(words, error.kind()) {
+            Some(job) => Ok(job),
+            None => Err(not_taken(alloc, &error)),
+        },
     }
 }

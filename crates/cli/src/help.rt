@@ -1,24 +1,21 @@
 //! `help` and `--version`: the texts that tell how the program is used.
 ghost use Rattle.cli.specs.Helps.{PrintsLine};
 
+use crate::job_table::{JOBS, JobOption, name_of, options_of};
 use job_streams::{Fault, Sink, WriteFailed, end_by};
 use jobs::Topic;
+use std::fmt;
 
-const PROGRAM: &str = "panel3270: TN3270E hosts and terminals, and 3270 screens
+/// The program's name and version.
+pub(crate) const VERSION: &str = "panel3270 1.1";
+
+const BEFORE_JOBS: &str = "panel3270: TN3270E hosts and terminals, and 3270 screens
 
 usage: panel3270 [JOB] < INPUT
 
-jobs:
-  script    serve panels to terminals, which do commands; this is the job if no word is given
-  selfrun   do the same over sockets
-  show      apply commands of the data stream, in hexadecimal, to a blank screen, and print it
-  check     print every fault of a panel text
-  host      serve panels to terminals that connect to 127.0.0.1, for a number of turns
-  serve     serve panels to terminals that connect, without end
-  term      be a terminal of the host at 127.0.0.1, and do commands
-  operate   be a terminal of the host at 127.0.0.1, for an operator at a tty
-  help      print this text, or with a job's name the help of that job
-  version   print the version
+jobs:";
+
+const BEHIND_JOBS: &str = "
 
 options:
   -h, --help      print this text, or after a job the help of that job
@@ -27,125 +24,152 @@ options:
 INPUT is UTF-8 of at most 1048576 bytes, in lines that end with LF, which the last may lack.
 status: 0 done, 1 input refused, 2 words refused, 3 no memory, 4 socket failed, 5 turns over, 6 output failed";
 
-const SCRIPT: &str = "usage: panel3270 [script] [--any-terminal] < INPUT
+/// What help says of a job.
+#[derive(Clone, Copy)]
+struct JobText {
+    /// What it does, in the list of jobs.
+    summary: &'static str,
+    /// What it does, in its own help.
+    purpose: &'static str,
+    /// What its own help ends with.
+    notes: &'static str,
+}
 
-Serve panels to four terminals, of models 2 to 5, which do commands, and print what their operators see.
-
-options:
-  --any-terminal   the host serves any terminal, as that of serve does, and so doesn't rely on these, which wait
-
-INPUT is panels in TOML, a line %%, and commands, one a line.";
-
-const SHOW: &str = "usage: panel3270 show [--model M] < INPUT
-
-Apply commands of the 3270 data stream to a blank screen, and print it.
-
-options:
-  --model M   the model of the screen, 2 to 5 [default: 2]
-
-INPUT is commands, one a line: pairs of hexadecimal digits, and blanks; no tab, CR or comment.";
-
-const SELFRUN: &str = "usage: panel3270 selfrun [--turns N] < INPUT
-
-Serve panels to four terminals, of models 2 to 5, over sockets of this machine. The terminals do commands. Print what their operators see.
-
-options:
-  --turns N   the number of turns, 1 to 1000000 [default: 10000]
-
-INPUT is panels in TOML, a line %%, and commands, one a line.";
-
-const HOST: &str = "usage: panel3270 host --port P [--turns N] < INPUT
-
-Serve panels to terminals that connect to 127.0.0.1, for a number of turns.
-
-options:
-  --port P    the port, 1024 to 65535
-  --turns N   the number of turns, 1 to 1000000 [default: 10000]
-
-INPUT is panels in TOML.";
-
-const CHECK: &str = "usage: panel3270 check [FILE]
-
-Print every fault of a panel text, and warnings, each with its line. Without FILE the text is standard input.
-
-FILE is panels in TOML. A line %% ends them.";
-
-const SERVE: &str = "usage: panel3270 serve --port P [OPTION ..] < INPUT
-
-Serve panels to terminals that connect, without end, and log each connection on standard error.
-
-options:
-  --port P              the port, 1 to 65535
-  --listen ADDRESS      the IPv4 or IPv6 address to listen on; localhost is 127.0.0.1 [default: 127.0.0.1]
-  --panels FILE         the file that has the panels [default: INPUT]
-  --negotiate SECONDS   drop a connection without a session after this time [default: 30]
-  --keepalive SECONDS   test a connection that sends nothing for this time [default: 60]
-  --idle SECONDS        drop a connection that sends nothing for this time [default: 0]
-  --application URL     the application of this machine for keys that panels ask about, as http://127.0.0.1:8080/bank
-  --application-timeout SECONDS
-                        the time that an answer may take, 1 to 3600 [default: 30]
-  --metrics P           the port of 127.0.0.1 that answers with metrics, 1 to 65535, not that of --port
-  --own-terminals       all terminals are this project's own, in which only the host ends the wait after a key
-  --verify              read the screen after each key, and drop a terminal that broke a rule; without --own-terminals
-  --quiet               log no connection
-
-Other SECONDS are 0 to 1000000; 0 is no limit.
-INPUT is panels in TOML.";
-
-const TERM: &str = "usage: panel3270 term --port P [--lu NAME] [--model M] < INPUT
-
-Be a terminal of the host at 127.0.0.1, and do commands.
-
-options:
-  --port P    the port, 1024 to 65535
-  --lu NAME   the LU to ask for: 1 to 8 of A to Z, 0 to 9, @, # and $, the first no digit [default: any LU]
-  --model M   the model of the terminal, 2 to 5 [default: 2]
-
-INPUT is commands, one a line.";
-
-const OPERATE: &str =
-    "usage: panel3270 operate --port P [--lu NAME] [--model M] [--raw ROWSxCOLUMNS]
-
-Be a terminal of the host at 127.0.0.1, for an operator at this tty. Start it by the script bin/operate [OPTION ..] PORT [LU].
-
-options:
-  --port P             the port, 1024 to 65535
-  --lu NAME            the LU to ask for: 1 to 8 of A to Z, 0 to 9, @, # and $, the first no digit [default: any LU]
-  --model M            the model of the terminal, 2 to 5 [default: 2]
-  --raw ROWSxCOLUMNS   the size of the tty, which is in raw mode: bin/operate says so
-
-The status row has the keyboard's lock, the LU and the cursor. Ctrl-] ends the program.";
-
-const HELP: &str = "usage: panel3270 help [JOB]
-
-Print the help of the program, or of a job.";
-
-const VERSION_HELP: &str = "usage: panel3270 version
-
-Print the version of the program.";
-
-/// The program's name and version.
-pub(crate) const VERSION: &str = "panel3270 1.1";
-
-/// The text about a topic, without the newline at its end.
-fn help_text(topic: Topic) -> &'static str {
+/// What help says of the job of a topic.
+fn text_of(topic: Topic) -> JobText {
     match topic {
-        Topic::Program => PROGRAM,
-        Topic::Script => SCRIPT,
-        Topic::Show => SHOW,
-        Topic::Selfrun => SELFRUN,
-        Topic::Check => CHECK,
-        Topic::Host => HOST,
-        Topic::Serve => SERVE,
-        Topic::Term => TERM,
-        Topic::Operate => OPERATE,
-        Topic::Help => HELP,
-        Topic::Version => VERSION_HELP,
+        Topic::Script => JobText {
+            summary: "serve panels to terminals, which do commands; this is the job if no word is given",
+            purpose: "Serve panels to four terminals, of models 2 to 5, which do commands, and print what their operators see.",
+            notes: "\n\nINPUT is panels in TOML, a line %%, and commands, one a line.",
+        },
+        Topic::Selfrun => JobText {
+            summary: "do the same over sockets",
+            purpose: "Serve panels to four terminals, of models 2 to 5, over sockets of this machine. The terminals do commands. Print what their operators see.",
+            notes: "\n\nINPUT is panels in TOML, a line %%, and commands, one a line.",
+        },
+        Topic::Show => JobText {
+            summary: "apply commands of the data stream, in hexadecimal, to a blank screen, and print it",
+            purpose: "Apply commands of the 3270 data stream to a blank screen, and print it.",
+            notes: "\n\nINPUT is commands, one a line: pairs of hexadecimal digits, and blanks; no tab, CR or comment.",
+        },
+        Topic::Check => JobText {
+            summary: "print every fault of a panel text",
+            purpose: "Print every fault of a panel text, and warnings, each with its line. Without FILE the text is standard input.",
+            notes: "\n\nFILE is panels in TOML. A line %% ends them.",
+        },
+        Topic::Host => JobText {
+            summary: "serve panels to terminals that connect to 127.0.0.1, for a number of turns",
+            purpose: "Serve panels to terminals that connect to 127.0.0.1, for a number of turns.",
+            notes: "\n\nINPUT is panels in TOML.",
+        },
+        Topic::Serve => JobText {
+            summary: "serve panels to terminals that connect, without end",
+            purpose: "Serve panels to terminals that connect, without end, and log each connection on standard error.",
+            notes: "\n\nOther SECONDS are 0 to 1000000; 0 is no limit.\nINPUT is panels in TOML.",
+        },
+        Topic::Term => JobText {
+            summary: "be a terminal of the host at 127.0.0.1, and do commands",
+            purpose: "Be a terminal of the host at 127.0.0.1, and do commands.",
+            notes: "\n\nINPUT is commands, one a line.",
+        },
+        Topic::Operate => JobText {
+            summary: "be a terminal of the host at 127.0.0.1, for an operator at a tty",
+            purpose: "Be a terminal of the host at 127.0.0.1, for an operator at this tty. Start it by the script bin/operate [OPTION ..] PORT [LU].",
+            notes: "\n\nThe status row has the keyboard's lock, the LU and the cursor. Ctrl-] ends the program.",
+        },
+        Topic::Program | Topic::Help => JobText {
+            summary: "print this text, or with a job's name the help of that job",
+            purpose: "Print the help of the program, or of a job.",
+            notes: "",
+        },
+        Topic::Version => JobText {
+            summary: "print the version",
+            purpose: "Print the version of the program.",
+            notes: "",
+        },
+    }
+}
+
+/// What follows the options in the usage line of a job.
+fn after_options(topic: Topic) -> &'static str {
+    match topic {
+        Topic::Check => " [FILE]",
+        Topic::Help => " [JOB]",
+        Topic::Program | Topic::Operate | Topic::Version => "",
+        _ => " < INPUT",
+    }
+}
+
+/// The most options that a usage line lists; of more it lists those that are needed.
+const MOST_LISTED: usize = 4;
+
+/// Prints as the options in a usage line.
+#[derive(Clone, Copy)]
+struct Usage<'a>(&'a [JobOption<'a>]);
+
+impl fmt::Display for Usage<'_> {
+    fn fmt<W: fmt::Write>(&self, f: &mut fmt::Formatter<W>) -> fmt::Result {
+        let lists_all = self.0.len() <= MOST_LISTED;
+        for option in self.0 {
+            let (name, value) = (option.name, option.kind.placeholder());
+            if option.required {
+                write!(f, " --{name}{value}")?;
+            } else if lists_all {
+                write!(f, " [--{name}{value}]")?;
+            }
+        }
+        f.write_str(if lists_all { "" } else { " [OPTION ..]" })
+    }
+}
+
+/// The columns of an option's name and value in a list.
+const OPTION_WIDTH: usize = 17;
+
+/// Prints as the list of a job's options, under a heading; as nothing if there are none.
+#[derive(Clone, Copy)]
+struct OptionList<'a>(&'a [JobOption<'a>]);
+
+impl fmt::Display for OptionList<'_> {
+    fn fmt<W: fmt::Write>(&self, f: &mut fmt::Formatter<W>) -> fmt::Result {
+        if !self.0.is_empty() {
+            f.write_str("\n\noptions:")?;
+        }
+        for option in self.0 {
+            let (name, value, help) = (option.name, option.kind.placeholder(), option.help);
+            let width = OPTION_WIDTH.saturating_sub(name.len());
+            write!(f, "\n  --{name}{value:<width$}   {help}")?;
+        }
+        Ok(())
+    }
+}
+
+/// Prints as the help about a topic.
+#[derive(Clone, Copy, Drop)]
+struct Help(Topic);
+
+impl fmt::Display for Help {
+    fn fmt<W: fmt::Write>(&self, f: &mut fmt::Formatter<W>) -> fmt::Result {
+        let (name, options) = (name_of(self.0), options_of(self.0));
+        if name.is_empty() {
+            f.write_str(BEFORE_JOBS)?;
+            for topic in &JOBS {
+                let (name, summary) = (name_of(*topic), text_of(*topic).summary);
+                write!(f, "\n  {name:<10}{summary}")?;
+            }
+            return f.write_str(BEHIND_JOBS);
+        }
+        let (usage, list, rest) = (Usage(options), OptionList(options), after_options(self.0));
+        let JobText { purpose, notes, .. } = text_of(self.0);
+        write!(
+            f,
+            "usage: panel3270 {name}{usage}{rest}\n\n{purpose}{list}{notes}"
+        )
     }
 }
 
 /// Prints a line, and returns the exit status: 0, or 6 if the output fails.
-fn print_line<O: Sink, E: Sink>(text: &str, out: &mut O, faults: &mut E) -> u8
+fn print_line<D: fmt::Display + Drop, O: Sink, E: Sink>(text: D, out: &mut O, faults: &mut E) -> u8
     ensures { PrintsLine (O.seen out.old) (O.seen out.new) (E.seen faults.old) (E.seen faults.new) result }
 {
     match out.write_line(text) {
@@ -158,7 +182,7 @@ fn print_line<O: Sink, E: Sink>(text: &str, out: &mut O, faults: &mut E) -> u8
 pub fn run_help<O: Sink, E: Sink>(topic: Topic, out: &mut O, faults: &mut E) -> u8
     ensures { PrintsLine (O.seen out.old) (O.seen out.new) (E.seen faults.old) (E.seen faults.new) result }
 {
-    print_line(help_text(topic), out, faults)
+    print_line(Help(topic), out, faults)
 }
 
 /// Prints the program's version, and returns the exit status: 0, or 6 if the output fails.

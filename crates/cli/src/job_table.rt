@@ -1,35 +1,23 @@
-//! The jobs' names and options.
+//! The jobs: their names, their options, and what help says of them.
 ghost use Rattle.std.specs.Prelude.{◌≡◌, map, option_map};
 ghost use Rattle.cli.specs.Topics.{name_of, operand_of, options_of, row_of, takes_value, topic_named};
 
 use jobs::Topic;
 
-/// What the value of an option is.
+/// What the value of an option is; a flag has none.
 #[derive(Clone, Copy)]
 pub(crate) enum ValueKind {
-    /// A port that needs no privilege, 1024 to 65535.
     Port,
-    /// A port of a service, 1 to 65535.
     ServicePort,
-    /// A number of turns, 1 to 1,000,000.
     Turns,
-    /// The name of an LU.
     LuName,
-    /// An IPv4 or IPv6 address.
     Address,
-    /// A time limit in seconds, 0 to 1,000,000.
     Seconds,
-    /// A time for a reply in seconds, 1 to 3,600.
     ReplyTime,
-    /// A URL.
     Url,
-    /// The number of a model, 2 to 5.
     Model,
-    /// The name of a file.
     File,
-    /// The size of a tty.
     TtySize,
-    /// None: the option is a flag.
     Flag,
 }
 
@@ -40,139 +28,83 @@ impl ValueKind {
     {
         !matches!(self, ValueKind::Flag)
     }
+
+    /// What usage lines have for the value, after a blank.
+    pub(crate) fn placeholder(self) -> &'static str {
+        match self {
+            ValueKind::Port | ValueKind::ServicePort => " P",
+            ValueKind::Turns => " N",
+            ValueKind::LuName => " NAME",
+            ValueKind::Address => " ADDRESS",
+            ValueKind::Seconds | ValueKind::ReplyTime => " SECONDS",
+            ValueKind::Model => " M",
+            ValueKind::Url => " URL",
+            ValueKind::File => " FILE",
+            ValueKind::TtySize => " ROWSxCOLUMNS",
+            ValueKind::Flag => "",
+        }
+    }
 }
 
 /// An option of a job.
 #[derive(Clone, Copy)]
 pub(crate) struct JobOption<'a> {
-    /// Its name.
+    /// Its name, which follows two dashes.
     pub(crate) name: &'a str,
-    /// The word that names it: its name after two dashes.
-    pub(crate) word: &'a str,
     /// What its value is.
     pub(crate) kind: ValueKind,
     /// Whether it must be given.
     pub(crate) required: bool,
+    /// What help says of it.
+    pub(crate) help: &'a str,
 }
 
-/// The port that a job serves at or connects to.
-const PORT: JobOption<'static> = JobOption {
-    name: "port",
-    word: "--port",
-    kind: ValueKind::Port,
-    required: true,
-};
+/// An option that a job `needs` or `takes`: its name, what its value is, and what help says of it.
+macro_rules! option {
+    (needs $name:literal: $kind:ident, $help:literal) => {
+        JobOption { name: $name, kind: ValueKind::$kind, required: true, help: $help }
+    };
+    (takes $name:literal: $kind:ident, $help:literal) => {
+        JobOption { name: $name, kind: ValueKind::$kind, required: false, help: $help }
+    };
+}
 
-/// After how many turns a job ends.
-const TURNS: JobOption<'static> = JobOption {
-    name: "turns",
-    word: "--turns",
-    kind: ValueKind::Turns,
-    required: false,
-};
+const PORT: JobOption<'static> = option!(needs "port": Port, "the port, 1024 to 65535");
 
-/// The LU that a terminal asks for.
-const LU: JobOption<'static> = JobOption {
-    name: "lu",
-    word: "--lu",
-    kind: ValueKind::LuName,
-    required: false,
-};
+const TURNS: JobOption<'static> =
+    option!(takes "turns": Turns, "the number of turns, 1 to 1000000 [default: 10000]");
 
-/// The model of a terminal or of a screen.
-const MODEL: JobOption<'static> = JobOption {
-    name: "model",
-    word: "--model",
-    kind: ValueKind::Model,
-    required: false,
-};
+const LU: JobOption<'static> =
+    option!(takes "lu": LuName, "the LU to ask for: 1 to 8 of A to Z, 0 to 9, @, # and $, the first no digit [default: any LU]");
 
-static SCRIPT: [JobOption<'static>; 1] = [JobOption {
-    name: "any-terminal",
-    word: "--any-terminal",
-    kind: ValueKind::Flag,
-    required: false,
-}];
+const MODEL: JobOption<'static> =
+    option!(takes "model": Model, "the model of the terminal, 2 to 5 [default: 2]");
 
-static SHOW: [JobOption<'static>; 1] = [MODEL];
+static SCRIPT: [JobOption<'static>; 1] = [
+    option!(takes "any-terminal": Flag, "the host serves any terminal, as that of serve does, and so doesn't rely on these, which wait"),
+];
+
+static SHOW: [JobOption<'static>; 1] = [
+    option!(takes "model": Model, "the model of the screen, 2 to 5 [default: 2]"),
+];
 
 static SELFRUN: [JobOption<'static>; 1] = [TURNS];
 
 static HOST: [JobOption<'static>; 2] = [PORT, TURNS];
 
 static SERVE: [JobOption<'static>; 12] = [
-    JobOption {
-        name: "port",
-        word: "--port",
-        kind: ValueKind::ServicePort,
-        required: true,
-    },
-    JobOption {
-        name: "listen",
-        word: "--listen",
-        kind: ValueKind::Address,
-        required: false,
-    },
-    JobOption {
-        name: "panels",
-        word: "--panels",
-        kind: ValueKind::File,
-        required: false,
-    },
-    JobOption {
-        name: "negotiate",
-        word: "--negotiate",
-        kind: ValueKind::Seconds,
-        required: false,
-    },
-    JobOption {
-        name: "keepalive",
-        word: "--keepalive",
-        kind: ValueKind::Seconds,
-        required: false,
-    },
-    JobOption {
-        name: "idle",
-        word: "--idle",
-        kind: ValueKind::Seconds,
-        required: false,
-    },
-    JobOption {
-        name: "application",
-        word: "--application",
-        kind: ValueKind::Url,
-        required: false,
-    },
-    JobOption {
-        name: "application-timeout",
-        word: "--application-timeout",
-        kind: ValueKind::ReplyTime,
-        required: false,
-    },
-    JobOption {
-        name: "metrics",
-        word: "--metrics",
-        kind: ValueKind::ServicePort,
-        required: false,
-    },
-    JobOption {
-        name: "own-terminals",
-        word: "--own-terminals",
-        kind: ValueKind::Flag,
-        required: false,
-    },
-    JobOption {
-        name: "verify",
-        word: "--verify",
-        kind: ValueKind::Flag,
-        required: false,
-    },
-    JobOption {
-        name: "quiet",
-        word: "--quiet",
-        kind: ValueKind::Flag,
-        required: false,
-    },
+    option!(needs "port": ServicePort, "the port, 1 to 65535"),
+    option!(takes "listen": Address, "the IPv4 or IPv6 address to listen on; localhost is 127.0.0.1 [default: 127.0.0.1]"),
+    option!(takes "panels": File, "the file that has the panels [default: INPUT]"),
+    option!(takes "negotiate": Seconds, "drop a connection without a session after this time [default: 30]"),
+    option!(takes "keepalive": Seconds, "test a connection that sends nothing for this time [default: 60]"),
+    option!(takes "idle": Seconds, "drop a connection that sends nothing for this time [default: 0]"),
+    option!(takes "application": Url, "the application of this machine for keys that panels ask about, as http://127.0.0.1:8080/bank"),
+    option!(takes "application-timeout": ReplyTime, "the time that an answer may take, 1 to 3600 [default: 30]"),
+    option!(takes "metrics": ServicePort, "the port of 127.0.0.1 that answers with metrics, 1 to 65535, not that of --port"),
+    option!(takes "own-terminals": Flag, "all terminals are this project's own, in which only the host ends the wait after a key"),
+    option!(takes "verify": Flag, "read the screen after each key, and drop a terminal that broke a rule; without --own-terminals"),
+    option!(takes "quiet": Flag, "log no connection"),
 ];
 
 static TERM: [JobOption<'static>; 3] = [PORT, LU, MODEL];
@@ -181,12 +113,21 @@ static OPERATE: [JobOption<'static>; 4] = [
     PORT,
     LU,
     MODEL,
-    JobOption {
-        name: "raw",
-        word: "--raw",
-        kind: ValueKind::TtySize,
-        required: false,
-    },
+    option!(takes "raw": TtySize, "the size of the tty, which is in raw mode: bin/operate says so"),
+];
+
+/// The jobs of the program.
+pub(crate) static JOBS: [Topic; 10] = [
+    Topic::Script,
+    Topic::Selfrun,
+    Topic::Show,
+    Topic::Check,
+    Topic::Host,
+    Topic::Serve,
+    Topic::Term,
+    Topic::Operate,
+    Topic::Help,
+    Topic::Version,
 ];
 
 /// The options of a job.
@@ -255,14 +196,4 @@ pub(crate) fn topic_named(name: &str) -> Option<Topic>
         "version" => Some(Topic::Version),
         _ => None,
     }
-}
-
-/// What the option that a word names takes.
-pub(crate) fn kind_named(options: &[JobOption<'_>], word: &str) -> Option<ValueKind> {
-    for option in options {
-        if word == option.word {
-            return Some(option.kind);
-        }
-    }
-    None
 }

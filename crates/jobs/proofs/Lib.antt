@@ -1,1 +1,4 @@
+pub mod Pieces
+pub mod HexWords
+pub mod LineParts
 pub mod Addresses

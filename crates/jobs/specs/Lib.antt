@@ -1,1 +1,3 @@
+pub mod HexLines
+pub mod LineParts
 pub mod OptionValues

@@ -7,16 +7,20 @@ use Rattle.std.specs.declared.net.ip_addr.IpAddr.{IpAddr}
 use Rattle.std.specs.declared.net.ip_addr.IpAddr.TheVariants as ip
 use Rattle.codes3270.specs.declared.size.Model.{Model}
 use Rattle.codes3270.specs.declared.size.Model.TheVariants.{M2, M3, M4, M5}
-use Rattle.line_words.specs.LineParts.{number_of}
+use Rattle.jobs.specs.LineParts.{number_of}
 use Rattle.jobs.specs.declared.tty_size.TtySize.{TtySize}
 
+-- a number from `low` to `high`, in decimal digits
+abbrev pub number_in_word : (low high : ℕ) → List ℕ → Option ℕ
+number_in_word low high word = option_and_then (λ number. if nat_le low number && nat_le number high then Some number else None) (number_of word)
+
 -- ports that need no privilege
-abbrev pub port_numbered : ℕ → Option ℕ
-port_numbered number = if nat_le 1024 number && nat_le number 65535 then Some number else None
+abbrev pub port_of : List ℕ → Option ℕ
+port_of word = number_in_word 1024 65535 word
 
 -- the ports of a service
-abbrev pub service_port_numbered : ℕ → Option ℕ
-service_port_numbered number = if nat_le 1 number && nat_le number 65535 then Some number else None
+abbrev pub service_port_of : List ℕ → Option ℕ
+service_port_of word = number_in_word 1 65535 word
 
 -- the other port, if there is one, is the same
 abbrev pub is_same_port : ℕ → Option ℕ → Bool
@@ -24,15 +28,15 @@ is_same_port port None = false
 is_same_port port (Some other) = port == other
 
 -- time limits in seconds; 0 is none
-abbrev pub seconds_numbered : ℕ → Option ℕ
-seconds_numbered number = if nat_le number 1000000 then Some number else None
+abbrev pub seconds_of : List ℕ → Option ℕ
+seconds_of word = number_in_word 0 1000000 word
 
 -- how long an application may take for a reply, in seconds
-abbrev pub reply_time_numbered : ℕ → Option ℕ
-reply_time_numbered number = if nat_le 1 number && nat_le number 3600 then Some number else None
+abbrev pub reply_time_of : List ℕ → Option ℕ
+reply_time_of word = number_in_word 1 3600 word
 
-abbrev pub turns_numbered : ℕ → Option ℕ
-turns_numbered number = if nat_le 1 number && nat_le number 1000000 then Some number else None
+abbrev pub turns_of : List ℕ → Option ℕ
+turns_of word = number_in_word 1 1000000 word
 
 -- the models of the 3278, by their numbers
 abbrev pub model_numbered : ℕ → Option Model
@@ -42,21 +46,6 @@ model_numbered number =
     if number == 4 then Some M4 else
     if number == 5 then Some M5 else
     None
-
-abbrev pub port_of : List ℕ → Option ℕ
-port_of word = option_and_then port_numbered (number_of word)
-
-abbrev pub service_port_of : List ℕ → Option ℕ
-service_port_of word = option_and_then service_port_numbered (number_of word)
-
-abbrev pub seconds_of : List ℕ → Option ℕ
-seconds_of word = option_and_then seconds_numbered (number_of word)
-
-abbrev pub reply_time_of : List ℕ → Option ℕ
-reply_time_of word = option_and_then reply_time_numbered (number_of word)
-
-abbrev pub turns_of : List ℕ → Option ℕ
-turns_of word = option_and_then turns_numbered (number_of word)
 
 abbrev pub model_of : List ℕ → Option Model
 model_of word = option_and_then model_numbered (number_of word)
@@ -80,11 +69,8 @@ abbrev pub is_x : ℕ → Bool
 is_x char = char == 120
 
 -- how many rows or columns a tty may have
-abbrev pub tty_side_numbered : ℕ → Option ℕ
-tty_side_numbered number = if nat_le 1 number && nat_le number 9999 then Some number else None
-
 abbrev pub tty_side_of : List ℕ → Option ℕ
-tty_side_of word = option_and_then tty_side_numbered (number_of word)
+tty_side_of word = number_in_word 1 9999 word
 
 -- the size of a tty, as `24x80`: its rows and its columns
 abbrev pub tty_size_of : List ℕ → Option TtySize

@@ -2,7 +2,8 @@
 ghost use Rattle.std.specs.Prelude.{◌≡◌};
 ghost use Rattle.jobs.specs.OptionValues.{address_of, written_address};
 
-use crate::job::{ReplyTime, Seconds, ServicePort, UrlText};
+use crate::job::WordText;
+use crate::number::{ReplyTime, Seconds, ServicePort};
 use host_core::Terminals;
 use std::net::{IpAddr, Ipv4Addr};
 
@@ -38,7 +39,7 @@ pub struct Service {
 #[derive(Debug, Drop)]
 pub struct ApplicationChoice<'a> {
     /// The application's URL, if there is an application.
-    pub url: Option<UrlText<'a>>,
+    pub url: Option<WordText<'a>>,
     /// How long it may take for a reply.
     pub reply_time: ReplyTime,
 }

@@ -1,9 +1,9 @@
 //! The size of a tty, as a word of the command line.
 ghost use Rattle.std.specs.Prelude.{◌≡◌};
 ghost use Rattle.std.specs.List.{after_first, before_first};
-ghost use Rattle.jobs.specs.OptionValues.{is_x, tty_side_numbered, tty_side_of, tty_size_of};
+ghost use Rattle.jobs.specs.OptionValues.{is_x, tty_size_of};
 
-use line_words::number_of;
+use crate::number::BoundedU16;
 
 /// The size of a tty: its rows and its columns, each 1 to 9,999.
 #[derive(Clone, Copy, Debug)]
@@ -34,23 +34,8 @@ fn behind_x(word: &str) -> &str
     }
 }
 
-/// A number of rows or columns; None unless it is 1 to 9,999.
-fn side_numbered(number: u16) -> Option<u16>
-    ensures { result ≡ tty_side_numbered number }
-{
-    match number {
-        1..=9999 => Some(number),
-        _ => None,
-    }
-}
-
-/// A number of rows or columns in decimal digits; None if the word isn't such a number.
-fn side_of(word: &str) -> Option<u16>
-    ensures { result ≡ tty_side_of word.now }
-{
-    let number = u16::try_from(number_of(word)?).ok()?;
-    side_numbered(number)
-}
+/// A number of rows or columns.
+type Side = BoundedU16<1, 9999>;
 
 impl TtySize {
     /// The size that a word names: rows and columns in decimal digits, with an `x` between them. None if the word isn't such a size.
@@ -58,8 +43,8 @@ impl TtySize {
         ensures { result ≡ tty_size_of word.now }
     {
         Some(TtySize {
-            rows: side_of(before_x(word))?,
-            columns: side_of(behind_x(word))?,
+            rows: Side::read(before_x(word))?.get(),
+            columns: Side::read(behind_x(word))?.get(),
         })
     }
 }

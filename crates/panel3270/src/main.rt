@@ -5,9 +5,9 @@
 
 ghost use Rattle.std.specs.Iterator.{IsFinite};
 
-use cli::{Refusal, refusal_of, refuse_words, run_help, run_version, similar_to, words};
+use cli::{WordFault, refuse_words, run_help, run_version, words};
 use job_streams::{CountedReader, CountedWriter, Fault, Sink, UntilClosed, end_by, refuse_file};
-use jobs::{ApplicationChoice, FileName, Job, LiveOptions, Service, WordFault};
+use jobs::{ApplicationChoice, Job, LiveOptions, Service, WordText};
 use operate::run_operate;
 use scripts::{run_check, run_script, run_show};
 use selfrun::run_selfrun;
@@ -53,7 +53,7 @@ fn serve<T: Iterator<Item = ()>>(
     rt: &HostRuntime,
     turns: T,
     service: &Service,
-    panels: Option<FileName<'_>>,
+    panels: Option<WordText<'_>>,
     application: &ApplicationChoice<'_>,
 ) -> u8
     requires can { T.can_next turns }
@@ -99,7 +99,7 @@ fn open_ended(rt: &HostRuntime) -> CountedWriter<UntilClosed<Stdout>> {
 }
 
 /// Checks the panel text of a file, or of the standard input if there is none, and returns the exit status.
-fn check(rt: &HostRuntime, file: Option<FileName<'_>>) -> u8 {
+fn check(rt: &HostRuntime, file: Option<WordText<'_>>) -> u8 {
     let alloc = rt.alloc();
     let mut out = open_ended(rt);
     let mut faults = CountedWriter::new(rt.stderr());
@@ -158,11 +158,12 @@ fn do_job<T: Iterator<Item = ()>>(rt: &HostRuntime, turns: T, job: Job<'_>) -> u
     }
 }
 
-/// Prints why words are refused, with the word that was probably meant, and returns the exit status.
-fn refuse(rt: &HostRuntime, refusal: Refusal<'_>) -> u8 {
-    // Without memory nothing is suggested.
-    let similar = similar_to(rt.alloc(), &refusal).unwrap_or(None);
-    refuse_words(refusal, similar, &mut CountedWriter::new(rt.stderr()))
+/// Why the arguments can't be read.
+fn unread(why: ErrorKind) -> WordFault<'static> {
+    match why {
+        ErrorKind::OutOfMemory => WordFault::Memory,
+        _ => WordFault::NotText,
+    }
 }
 
 /// Does what the words ask for, and returns the exit status. `serve` takes a turn for each item of `turns`.
@@ -172,17 +173,7 @@ fn run<T: Iterator<Item = ()>>(rt: &HostRuntime, turns: T, given: &[String]) -> 
 {
     match words(rt.alloc(), given) {
         Ok(job) => do_job(rt, turns, job),
-        Err(WordFault::Refused) => refuse(rt, refusal_of(given)),
-        Err(WordFault::Memory) => { end_by(Fault::NoMemory, &mut CountedWriter::new(rt.stderr())) }
-    }
-}
-
-/// The exit status if the arguments can't be read.
-fn without_words(rt: &HostRuntime, why: ErrorKind) -> u8 {
-    let mut faults = CountedWriter::new(rt.stderr());
-    match why {
-        ErrorKind::OutOfMemory => end_by(Fault::NoMemory, &mut faults),
-        _ => refuse_words(Refusal::NotText, None, &mut faults),
+        Err(fault) => refuse_words(fault, &mut CountedWriter::new(rt.stderr())),
     }
 }
 
@@ -190,7 +181,7 @@ fn main(rt: HostRuntime) -> ExitCode {
     let status = match given_words(&rt) {
         // `serve` ends by a fault alone.
         Ok(given) => run(&rt, rt.forever(), given.as_slice()),
-        Err(error) => without_words(&rt, error.kind()),
+        Err(error) => refuse_words(unread(error.kind()), &mut CountedWriter::new(rt.stderr())),
     };
     ExitCode::from(status)
 }

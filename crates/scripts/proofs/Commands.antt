@@ -3,7 +3,7 @@ use Rattle.std.proofs.Common.{◌≡◌, refl, sym, ap, subst, ◌∙◌, List, 
 use Rattle.std.proofs.lemmas.List.{append-nil}
 use Rattle.codes3270.specs.declared.size.Model.{Model}
 use Rattle.presentation.specs.Sizes.{SizedScreen}
-use Rattle.line_words.specs.HexLines.{bytes_of_line}
+use Rattle.jobs.specs.HexLines.{bytes_of_line}
 use Rattle.scripts.specs.ScreenText.{screen_text}
 use Rattle.scripts.specs.Pages.{TakesCommand, Prints, IsPage}
 

@@ -6,7 +6,7 @@ use Rattle.datastream.specs.Grammar.{CommandParts}
 use Rattle.datastream.specs.declared.fault.CommandFault.{CommandFault}
 use Rattle.datastream.proofs.Commands.{one_command, command_or_fault, one_command_fault}
 use Rattle.presentation.specs.Sizes.{SizedScreen, applied}
-use Rattle.line_words.specs.HexLines.{bytes_of_line}
+use Rattle.jobs.specs.HexLines.{bytes_of_line}
 use Rattle.scripts.specs.Pages.{TakesCommand, accepted, refused, refusal_line, TakesLine, Prints, IsPage}
 
 one_taking : (bytes : List ℕ) (old new other : SizedScreen) (said told : List ℕ) → TakesCommand bytes old new said → TakesCommand bytes old other told

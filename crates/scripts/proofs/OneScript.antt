@@ -13,7 +13,7 @@ use Rattle.world3270.specs.OneOutcome.{StepsAreOne}
 use Rattle.world3270.specs.declared.event.Event.{Event}
 use Rattle.world3270.specs.declared.event.Stepped.{Stepped}
 use Rattle.scripts.specs.Happenings.{AreRounds, AreTyped, Happening, OthersIf, TakePlace, all_skipped, events_of, is_refused, most_rounds}
-use Rattle.line_words.specs.HexLines.{lines_of}
+use Rattle.jobs.specs.HexLines.{lines_of}
 use Rattle.scripts.specs.Plays.{AreHappeningsOf, Plays, PlaysLine, PlaysNext, playable_command, said_of, terminal_models}
 use Rattle.scripts.specs.ScriptLines.{typed_text}
 use Rattle.applications.specs.PanelHosts.{lus_of}

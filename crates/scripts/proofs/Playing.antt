@@ -9,7 +9,7 @@ use Rattle.world3270.specs.declared.event.Event.{Event}
 use Rattle.world3270.specs.declared.event.Event.TheVariants as event
 use Rattle.world3270.specs.declared.event.Stepped.{Stepped}
 use Rattle.applications.specs.AnswerLines.{answer_in}
-use Rattle.line_words.specs.HexLines.{lines_of}
+use Rattle.jobs.specs.HexLines.{lines_of}
 use Rattle.scripts.specs.Happenings.{Happening, TakePlace, answer_text, answers_text}
 use Rattle.scripts.specs.Plays.{GivesAnswer, IsPlayed, Plays, PlaysNext, PrintsIf, PrintsLine, answer_events, command_in_range, if_in_range, if_understood, is_in_range, playable_command, terminal_count}
 use Rattle.applications.specs.QuestionLines.{ticket_on}

@@ -4,10 +4,10 @@ use Rattle.std.specs.List.{list_all}
 use Rattle.codes3270.specs.CodePage.{code_of}
 use Rattle.host_core.specs.Notes.{longest_note, is_graphic}
 use Rattle.world3270.specs.NoteTexts.{note_text}
-use Rattle.line_words.specs.HexLines.{words_of}
+use Rattle.jobs.specs.HexLines.{words_of}
 use Rattle.scripts.specs.ScriptLines.{code_before, coded, note_of, typed_text, command_of_verb, command_of_number, command_of_text, command_of_words, script_command}
-use Rattle.line_words.specs.LineParts.{behind, number_of}
-use Rattle.line_words.proofs.LineParts.{IsCut, IsWhole, one_word, some_words, word_more}
+use Rattle.jobs.specs.LineParts.{behind, number_of}
+use Rattle.jobs.proofs.LineParts.{IsCut, IsWhole, one_word, some_words, word_more}
 
 -- ---- notes
 

@@ -8,7 +8,7 @@ use Rattle.datastream.specs.declared.fault.Sense.{Sense}
 use Rattle.datastream.specs.declared.fault.Sense.TheVariants.{CommandReject, OperationCheck}
 use Rattle.datastream.specs.Senses.{sense_of}
 use Rattle.presentation.specs.Sizes.{SizedScreen, applied, blank_of}
-use Rattle.line_words.specs.HexLines.{lines_of, bytes_of_line}
+use Rattle.jobs.specs.HexLines.{lines_of, bytes_of_line}
 use Rattle.term_core.specs.ScreenText.{newline}
 use Rattle.scripts.specs.ScreenText.{screen_text}
 

@@ -7,8 +7,8 @@ use Rattle.keyboard.specs.KeyNames.{key_named}
 use Rattle.tn3270e_msg.specs.Lu.{lu_of}
 use Rattle.world3270.specs.NoteTexts.{note_text}
 use Rattle.world3270.specs.declared.event.Event.TheVariants.{Key, Up, Down, Act, Note, Lose, HostSees, TermSees, Connect, RestartTerm, RestartHost}
-use Rattle.line_words.specs.HexLines.{words_of}
-use Rattle.line_words.specs.LineParts.{behind, number_of}
+use Rattle.jobs.specs.HexLines.{words_of}
+use Rattle.jobs.specs.LineParts.{behind, number_of}
 use Rattle.scripts.specs.declared.script_line.ScriptCommand.{ScriptCommand}
 use Rattle.scripts.specs.declared.script_line.ScriptCommand.TheVariants.{Nothing, Happen, TypeText, Answer, Settle, Show, Status, Question}
 

@@ -5,7 +5,7 @@ ghost use Rattle.scripts.specs.Pages.{first_screen, sense_text, TakesCommand, Is
 use crate::screen_text::put_screen;
 use codes3270::Model;
 use datastream::{Sense, read_command};
-use line_words::bytes_of_line;
+use jobs::bytes_of_line;
 use presentation::Screen;
 use std::alloc::{AllocError, Global};
 

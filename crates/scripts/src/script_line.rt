@@ -3,8 +3,8 @@ ghost use Rattle.std.specs.Prelude.{◌≡◌};
 ghost use Rattle.scripts.specs.ScriptLines.{typed_text, note_of, command_of_verb, command_of_number, command_of_text, script_command};
 
 use codes3270::from_latin1;
+use jobs::{behind, number_of};
 use keyboard::Key;
-use line_words::{behind, number_of};
 use tn3270e_msg::Lu;
 use world3270::{Event, NoteText};
 

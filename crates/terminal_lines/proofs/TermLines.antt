@@ -1,8 +1,8 @@
 -- Lines of a terminal's script: their words.
 use Rattle.std.proofs.Common.{◌≡◌, ◌∙◌, ap, sym, ℕ, List, ◌∷◌}
-use Rattle.line_words.specs.LineParts.{behind}
+use Rattle.jobs.specs.LineParts.{behind}
 use Rattle.terminal_lines.specs.TermLines.{command_of_verb, command_of_words, command_of_text, terminal_command}
-use Rattle.line_words.proofs.LineParts.{IsWhole, IsCut, one_word, some_words, word_more}
+use Rattle.jobs.proofs.LineParts.{IsWhole, IsCut, one_word, some_words, word_more}
 
 pub read_by_verb : (line : List ℕ) → IsWhole line → terminal_command line ≡ command_of_verb line
 unfolding terminal_command

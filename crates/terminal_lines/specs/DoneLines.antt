@@ -5,7 +5,7 @@ use Rattle.term_core.specs.ScreenText.{screen_text}
 use Rattle.term_core.specs.State.{Terminal, phase_of}
 use Rattle.job_streams.specs.Counting.{Output}
 use Rattle.terminal_lines.specs.Operating.{after_text, phase_line, said_of_key, said_of_text}
-use Rattle.line_words.specs.LineParts.{behind}
+use Rattle.jobs.specs.LineParts.{behind}
 use Rattle.terminal_lines.specs.Waits.{HasWaited}
 use Rattle.job_streams.specs.declared.streams.Answer.{Answer}
 use Rattle.terminal_lines.specs.declared.term_line.TerminalCommand.{TerminalCommand}

@@ -3,8 +3,8 @@
 use Rattle.std.specs.Prelude.{ℕ, List, [], ◌∷◌, Option, Some, None, if◌then◌else◌, bytes_eq, codes}
 use Rattle.std.specs.Option.{option_map}
 use Rattle.keyboard.specs.KeyNames.{key_named}
-use Rattle.line_words.specs.HexLines.{words_of}
-use Rattle.line_words.specs.LineParts.{behind}
+use Rattle.jobs.specs.HexLines.{words_of}
+use Rattle.jobs.specs.LineParts.{behind}
 use Rattle.terminal_lines.specs.declared.term_line.TerminalCommand.{TerminalCommand}
 use Rattle.terminal_lines.specs.declared.term_line.TerminalCommand.TheVariants.{Nothing, TypeText, Press, Wait, Show, Status}
 

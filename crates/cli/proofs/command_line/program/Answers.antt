@@ -11,4 +11,5 @@ bare = record program { top = record program.top { is_leaf = true }; subs = [] }
 
 pub returns : goal.returns
 returns c =
-    IfOk-weaker c.with_jobs.result _ _ (λ new adds. all_gained bare (map job_shape jobs) c.bare.result new c.bare.ensures adds) c.with_jobs.ensures
+    IfOk-weaker c.with_jobs.result _ _ (λ new adds. all_gained bare (map job_shape jobs) c.in_ok-command.command new c.in_ok-command.ensures adds)
+    c.with_jobs.ensures

@@ -1,6 +1,6 @@
 use Rattle.std.proofs.Common.{◌∙◌, ◌+◌, ap, ℕ, string_bytes, Some, None}
 use Rattle.std.specs.Iterator.Adapters.{enumerate_source, enumerate_count}
-use Rattle.line_words.proofs.Pieces.{lines_left, lines_left_some, lines_left_none}
+use Rattle.jobs.proofs.Pieces.{lines_left, lines_left_some, lines_left_none}
 use Rattle.scripts.proofs.Commands.{is_no_line, line_more, ends}
 use Rattle.scripts.proofs.OnePage.{one_page}
 use Rattle.scripts.proofs.page.page_of.Goals as goal

@@ -2,7 +2,7 @@ use Rattle.std.proofs.Common.{◌≡◌, ◌+◌, ◌++◌, ℕ, List, Option, s
 use Rattle.std.specs.Iterator.Adapters.{enumerate_source, enumerate_count}
 use Rattle.std.specs.Str.Iter.{split_terminator_pattern}
 use Rattle.scripts.specs.Pages.{Prints, IsPage}
-use Rattle.line_words.proofs.Pieces.{lines_left}
+use Rattle.jobs.proofs.Pieces.{lines_left}
 use Rattle.scripts.proofs.page.page_of.Given as goal
 
 abbrev pub invariant-loop-index : goal.invariant-loop-index

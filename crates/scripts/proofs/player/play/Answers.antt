@@ -1,7 +1,7 @@
 use Rattle.std.proofs.Common.{rules, ◌≡◌, ◌∙◌, ◌+◌, ap, sym, ℕ, string_bytes}
 use Rattle.std.specs.Iterator.Adapters.{enumerate_source, enumerate_count}
-use Rattle.line_words.specs.HexLines.{lines_of}
-use Rattle.line_words.proofs.Pieces.{lines_left, lines_left_some, lines_left_none}
+use Rattle.jobs.specs.HexLines.{lines_of}
+use Rattle.jobs.proofs.Pieces.{lines_left, lines_left_some, lines_left_none}
 use Rattle.scripts.proofs.Playing.{all_played, is_no_command, is_not_understood, nothing_played, played_more}
 use Rattle.scripts.proofs.player.play.Goals as goal
 

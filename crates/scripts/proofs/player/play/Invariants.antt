@@ -1,7 +1,7 @@
 use Rattle.std.proofs.Common.{◌≡◌, ◌+◌, string_bytes}
 use Rattle.std.specs.Iterator.Adapters.{enumerate_source, enumerate_count}
 use Rattle.std.specs.Str.Iter.{split_terminator_pattern}
-use Rattle.line_words.proofs.Pieces.{lines_left}
+use Rattle.jobs.proofs.Pieces.{lines_left}
 use Rattle.scripts.proofs.Playing.{Played}
 use Rattle.scripts.proofs.player.play.Given as goal
 

@@ -1,6 +1,6 @@
 use Rattle.std.proofs.Common.{sym, ap, ◌∙◌, arith, option_and_then}
 use Rattle.scripts.specs.ScriptLines.{command_of_number, command_of_text}
-use Rattle.line_words.proofs.LineParts.{IsCut, IsWhole}
+use Rattle.jobs.proofs.LineParts.{IsCut, IsWhole}
 use Rattle.scripts.proofs.ScriptLines.{read_by_verb, read_by_number, read_by_text}
 use Rattle.scripts.proofs.script_line.ScriptCommand.read.Goals as goal
 

@@ -1,5 +1,5 @@
 use Rattle.std.proofs.Common.{sym, ◌∙◌, arith}
-use Rattle.line_words.proofs.LineParts.{IsWhole, IsCut}
+use Rattle.jobs.proofs.LineParts.{IsWhole, IsCut}
 use Rattle.terminal_lines.proofs.TermLines.{read_by_text, read_by_verb}
 use Rattle.terminal_lines.proofs.term_line.TerminalCommand.read.Goals as goal
 

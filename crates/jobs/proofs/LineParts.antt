@@ -8,8 +8,8 @@ use Rattle.std.proofs.lemmas.Bool.{and_parts, cases_lt}
 use Rattle.std.proofs.lemmas.List.Splits.{slice_split_first}
 use Rattle.std.proofs.lemmas.Str.Parse.{IsNumeralModel, numerals_by_value, parse_digits, tells_all_ascii_digits}
 use Rattle.presentation.specs.Glyph.{blank}
-use Rattle.line_words.specs.HexLines.{words_of}
-use Rattle.line_words.specs.LineParts.{is_digits, largest_number, number_of, behind}
+use Rattle.jobs.specs.HexLines.{words_of}
+use Rattle.jobs.specs.LineParts.{is_digits, largest_number, number_of, behind}
 
 -- ---- numbers
 

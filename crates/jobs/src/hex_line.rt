@@ -1,6 +1,6 @@
 //! Lines of hexadecimal.
 ghost use Rattle.std.specs.Prelude.{◌≡◌, IfOk, MatchOption, Some, None};
-ghost use Rattle.line_words.specs.HexLines.{bytes_of_word, bytes_of_line};
+ghost use Rattle.jobs.specs.HexLines.{bytes_of_word, bytes_of_line};
 
 use std::alloc::{AllocError, Global};
 

@@ -1,7 +1,7 @@
 use Rattle.std.proofs.Common.{◌∙◌}
-use Rattle.line_words.proofs.Pieces.{words_left, words_left_some}
-use Rattle.line_words.proofs.HexWords.{begins, is_no_word, word_more}
-use Rattle.line_words.proofs.hex_line.bytes_of_line.Goals as goal
+use Rattle.jobs.proofs.Pieces.{words_left, words_left_some}
+use Rattle.jobs.proofs.HexWords.{begins, is_no_word, word_more}
+use Rattle.jobs.proofs.hex_line.bytes_of_line.Goals as goal
 
 pub loop-word-init : goal.loop-word-init
 loop-word-init c =

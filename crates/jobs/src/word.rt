@@ -1,6 +1,6 @@
 //! The words of a line, and decimal numbers.
 ghost use Rattle.std.specs.Prelude.{◌≡◌};
-ghost use Rattle.line_words.specs.LineParts.{behind, is_digits, number_of};
+ghost use Rattle.jobs.specs.LineParts.{behind, is_digits, number_of};
 
 /// The text after the first blank; empty if there is no blank.
 pub fn behind(text: &str) -> &str

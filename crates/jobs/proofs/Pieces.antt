@@ -12,7 +12,7 @@ use Rattle.std.specs.Char.{len_utf8}
 use Rattle.std.specs.Str.{NoCharPasses}
 use Rattle.std.specs.Str.Iter.{split_text, split_has_more, split_pattern, split_steps, split_terminator_parts, split_terminator_pattern, split_terminator_steps}
 use Rattle.std.specs.Str.Pattern.{FindsChar}
-use Rattle.line_words.specs.HexLines.{lines_of, words_of}
+use Rattle.jobs.specs.HexLines.{lines_of, words_of}
 
 -- ---- a text cut at the first of an ASCII character
 

@@ -2,8 +2,8 @@
 use Rattle.std.proofs.Common.{◌≡◌, refl, sym, ap, ◌∙◌, List, [], ◌∷◌, ◌++◌, ℕ, append_assoc, Option, None, Some, true}
 use Rattle.std.specs.declared.str.Split.{Split}
 use Rattle.std.specs.Str.Iter.{split_text, split_has_more}
-use Rattle.line_words.specs.HexLines.{joined, words_of, bytes_of_word, bytes_of_words, bytes_of_line}
-use Rattle.line_words.proofs.Pieces.{words_left}
+use Rattle.jobs.specs.HexLines.{joined, words_of, bytes_of_word, bytes_of_words, bytes_of_line}
+use Rattle.jobs.proofs.Pieces.{words_left}
 
 behind_none : (back : Option (List ℕ)) → back ≡ joined (Some []) back
 behind_none None = refl

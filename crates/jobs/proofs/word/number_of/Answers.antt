@@ -1,7 +1,7 @@
 use Rattle.std.proofs.Common.{◌≡◌, ◌∙◌, sym, true}
-use Rattle.line_words.specs.LineParts.{is_digits}
-use Rattle.line_words.proofs.LineParts.{number_parsed, number_is, no_number}
-use Rattle.line_words.proofs.word.number_of.Goals as goal
+use Rattle.jobs.specs.LineParts.{is_digits}
+use Rattle.jobs.proofs.LineParts.{number_parsed, number_is, no_number}
+use Rattle.jobs.proofs.word.number_of.Goals as goal
 
 -- src/word.rt:33:9
 pub returns-then-not-is_digits : goal.returns-then-not-is_digits

@@ -1,8 +1,8 @@
 use Rattle.std.proofs.Common.{◌≡◌, Some}
 use Rattle.std.specs.Str.Iter.{split_pattern}
-use Rattle.line_words.specs.HexLines.{joined, bytes_of_words, bytes_of_line}
-use Rattle.line_words.proofs.Pieces.{words_left}
-use Rattle.line_words.proofs.hex_line.bytes_of_line.Given as goal
+use Rattle.jobs.specs.HexLines.{joined, bytes_of_words, bytes_of_line}
+use Rattle.jobs.proofs.Pieces.{words_left}
+use Rattle.jobs.proofs.hex_line.bytes_of_line.Given as goal
 
 abbrev pub invariant-loop-word : goal.invariant-loop-word
 invariant-loop-word l = record {
