@@ -1,5 +1,4 @@
-pub mod Counting
-pub mod Exclusive
+pub mod LuFaults
 pub mod LuNames
 pub mod Reporting
-pub mod Telling
+pub mod ToldFaults

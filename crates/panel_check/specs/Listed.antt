@@ -1,29 +1,62 @@
--- How the faults of a tree are listed (our profile).
-use Rattle.std.specs.Prelude.{◌≡◌, ◌⊎◌, ◌<◌, ℕ, List, ◌∷◌, All, Contains, slice_index_or}
+-- How the faults of a tree are listed, and told one by one (our profile).
+use Rattle.std.specs.Prelude.{◌≡◌, ◌⊎◌, ◌<◌, ◌↔◌, ◌++◌, ℕ, true, List, All, Contains, slice_index_or, slice_get, Option, Some}
+use Rattle.lu_pool.specs.Reading.{HasFault}
+use Rattle.lu_pool.specs.declared.fault.PoolFault.{PoolFault}
+use Rattle.lu_pool.specs.declared.fault.PoolFault.TheVariants.{BadName, Twice}
 use Rattle.panels.specs.declared.fault.PartFault.{PartFault}
-use Rattle.panels.specs.Faults.{place_of}
 use Rattle.panel_check.specs.declared.finding.Cause.{Cause}
 use Rattle.panel_check.specs.declared.finding.Cause.TheVariants as cause
 use Rattle.panel_check.specs.declared.finding.Finding.{Finding}
-use Rattle.panel_check.specs.Causes.{IsBacked, IsTold}
-use Rattle.panel_check.specs.Report.{HasCause}
+use Rattle.panel_check.specs.Causes.{IsLuFault, IsTold, TellsFaults}
+use Rattle.panel_check.specs.Report.{is_fault}
 
--- each fault of a table, at its place
+-- each fault of a table
 abbrev pub cause_of : PartFault → Cause
-cause_of at = cause.Tree at.fault (place_of at.part)
+cause_of at = cause.Tree at.fault at.part
 
--- the findings with one of the cause, which is added in front if there is none
-abbrev pub IsWith : Cause → List Finding → List Finding → Type 0
-IsWith cause findings all =
-    HasCause cause all × ((all ≡ findings) ⊎ ((added : Finding) × (added.cause ≡ cause) × (all ≡ added ∷ findings)))
+-- a name before a place is read as this LU
+abbrev pub IsReadBefore : List (Option (List ℕ)) → ℕ → List ℕ → Type 0
+IsReadBefore lus place lu = (earlier : ℕ) × (earlier < place) × (slice_get lus earlier ≡ Some (Some lu))
 
--- a fault of these is told, by a finding that is added in front if there must be one
+-- it is a fault of these LUs
+abbrev pub IsOfLus : List (Option (List ℕ)) → Cause → Type 0
+IsOfLus lus given = (fault : PoolFault) × (given ≡ cause.Lus fault) × IsLuFault lus fault
+
+-- behind these causes there are the faults of the LUs
+abbrev pub AddsLuFaults : List (Option (List ℕ)) → List Cause → List Cause → Type 0
+AddsLuFaults lus causes all = (given : Cause) → Contains all given ↔ (Contains causes given ⊎ IsOfLus lus given)
+
+-- what has the fault of the name at a place, if it has one, and else is the same
+pub record AddsAt (place : ℕ) (lus : List (Option (List ℕ))) (causes all : List Cause) : Type 0 where
+  pub only : (given : Cause) → Contains all given → Contains causes given ⊎ ((fault : PoolFault) × (given ≡ cause.Lus fault) × HasFault lus fault)
+  pub kept : (given : Cause) → Contains causes given → Contains all given
+  pub bad_name : HasFault lus (BadName place) → Contains all (cause.Lus (BadName place))
+  pub twice : HasFault lus (Twice place) → Contains all (cause.Lus (Twice place))
+
+-- the same of the first names alone
+pub record AddsNameFaults (n : ℕ) (lus : List (Option (List ℕ))) (causes all : List Cause) : Type 0 where
+  pub only : (given : Cause) → Contains all given → Contains causes given ⊎ ((fault : PoolFault) × (given ≡ cause.Lus fault) × HasFault lus fault)
+  pub kept : (given : Cause) → Contains causes given → Contains all given
+  pub each : (j : ℕ) → j < n → (HasFault lus (BadName j) → Contains all (cause.Lus (BadName j))) × (HasFault lus (Twice j) → Contains all (cause.Lus (Twice j)))
+
+-- behind these findings there are others, each of which is such a one
+abbrev pub Adds : (Finding → Type 0) → List Finding → List Finding → Type 0
+Adds IsAdded findings all = (added : List Finding) × (all ≡ findings ++ added) × All IsAdded added
+
+-- those that are added have the cause
+abbrev pub AddsOf : Cause → List Finding → List Finding → Type 0
+AddsOf given = Adds (λ finding. finding.cause ≡ given)
+
+-- if the findings tell some faults, and nothing else, then so do all of these
+abbrev pub TellsAsMuch : List Finding → List Finding → Type 0
+TellsAsMuch findings all = (causes : List Cause) → TellsFaults (Contains causes) findings → TellsFaults (Contains causes) all
+
+-- a fault of these is told
 abbrev pub IsTelling : List Cause → Cause → List Finding → List Finding → Type 0
-IsTelling causes cause findings all =
-    IsTold (Contains causes) all cause × ((all ≡ findings) ⊎ IsWith cause findings all)
+IsTelling causes cause findings all = AddsOf cause findings all × IsTold (Contains causes) all cause
 
 -- so many of the faults are told
 abbrev pub AreToldTo : ℕ → List Cause → List Finding → Type 0
 AreToldTo n causes findings =
-    All (λ finding. IsBacked (Contains causes) finding.cause) findings
+    All (λ finding. is_fault finding.cause ≡ true → Contains causes finding.cause) findings
     × ((j : ℕ) (d : Cause) → j < n → IsTold (Contains causes) findings (slice_index_or causes j d))

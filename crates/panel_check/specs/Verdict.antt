@@ -1,16 +1,17 @@
 -- What the readers of a host answer to a panel text (our profile).
-use Rattle.std.specs.Prelude.{◌≡◌, ℕ, List, map, Option, None}
+use Rattle.std.specs.Prelude.{◌≡◌, ℕ, List, map, Option, None, Some}
 use Rattle.toml.specs.Parse.{parse_document}
 use Rattle.tn3270e_msg.specs.Lu.{lu_of}
 use Rattle.lu_pool.specs.Reading.{HasFault, IsRight, IsFirstFault}
 use Rattle.panels.specs.Defines.{IsReadFrom}
 use Rattle.panels.specs.Panel.{Panels}
-use Rattle.panels.specs.Turns.{IsFirstOf}
-use Rattle.panels.specs.declared.fault.PanelFault.TheVariants as panel_fault
+use Rattle.panels.specs.Draft.{draft_of}
+use Rattle.panels.specs.Faults.{IsFaulty}
+use Rattle.panels.specs.Turns.{IsClearTo, turn_of}
+use Rattle.toml.specs.Data.{Members}
 use Rattle.panel_check.specs.declared.finding.Cause.{Cause}
 use Rattle.panel_check.specs.declared.finding.Cause.TheVariants as cause
-use Rattle.panel_check.specs.declared.judge.Verdict.{Verdict}
-use Rattle.panel_check.specs.declared.judge.Verdict.TheVariants.{Accepted, Refused}
+use Rattle.panel_check.specs.declared.judge.Sizes.{Sizes}
 
 -- the panels' LUs, each read as a name
 abbrev pub lus_of : Panels → List (Option (List ℕ))
@@ -25,12 +26,13 @@ pub record IsAccepted (text : List ℕ) : Type 0 where
 -- the fault for which they refuse the text: the first in the order in which they look for faults
 abbrev pub IsFirstCause : List ℕ → Cause → Type 0
 IsFirstCause text cause.NotToml = parse_document text ≡ None
-IsFirstCause text (cause.Tree fault place) = IsFirstOf text (panel_fault.Tree fault place)
+IsFirstCause text (cause.Tree fault part) =
+    (top : Members) × (parse_document text ≡ Some top) × IsFaulty fault part (draft_of top) × IsClearTo (turn_of fault part) (draft_of top)
 IsFirstCause text (cause.Lus fault) =
     (panels : Panels) × IsReadFrom text panels × HasFault (lus_of panels) fault × IsFirstFault (lus_of panels) fault
 IsFirstCause text _ = ⊥
 
--- the answer is theirs
-abbrev pub IsVerdict : List ℕ → Verdict → Type 0
-IsVerdict text (Accepted sizes) = IsAccepted text
-IsVerdict text (Refused cause) = IsFirstCause text cause
+-- they accept the text, which has these sizes; or they refuse it
+abbrev pub IsVerdict : List ℕ → Option Sizes → Type 0
+IsVerdict text (Some sizes) = IsAccepted text
+IsVerdict text None = (cause : Cause) × IsFirstCause text cause

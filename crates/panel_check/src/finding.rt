@@ -4,7 +4,7 @@ ghost use Rattle.panel_check.specs.Pages.{behind_place, kind_text};
 ghost use Rattle.panel_check.specs.Report.{is_fault};
 
 use lu_pool::PoolFault;
-use panels::{At, TreeFault};
+use panels::{Part, TreeFault};
 use std::fmt;
 
 /// What is found. All but the warnings are faults.
@@ -12,8 +12,8 @@ use std::fmt;
 pub enum Cause {
     /// The text isn't TOML.
     NotToml,
-    /// A table has a fault.
-    Tree(TreeFault, At),
+    /// A table has a fault. One fault may have several findings, as one of keys has one for each key that is wrong.
+    Tree(TreeFault, Part),
     /// The names of the LUs have a fault.
     Lus(PoolFault),
     /// A text goes on in the next row.

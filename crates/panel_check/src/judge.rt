@@ -7,7 +7,6 @@ ghost use Rattle.panels.specs.Passes.{IsReason};
 ghost use Rattle.panels.specs.Turns.{IsFirstOf};
 ghost use Rattle.panel_check.specs.Verdict.{IsVerdict, lus_of};
 
-use crate::finding::Cause;
 use lu_pool::{Pool, PoolFault};
 use panels::{PanelFault, PanelSet};
 use std::alloc::{AllocError, Global};
@@ -18,15 +17,6 @@ pub struct Sizes {
     pub panels: usize,
     pub fields: usize,
     pub lus: usize,
-}
-
-/// What the readers answer.
-#[derive(Clone, Copy)]
-pub(crate) enum Verdict {
-    /// They accept the text.
-    Accepted(Sizes),
-    /// They refuse it for this, which is what they look for first.
-    Refused(Cause),
 }
 
 /// How much a text has.
@@ -45,30 +35,30 @@ fn sizes_of(set: &PanelSet) -> Sizes {
 }
 
 /// The answer to a text that the panel reader refuses for this fault.
-fn refused_by_panels(fault: PanelFault) -> Result<Verdict, AllocError>
+fn refused_by_panels(fault: PanelFault) -> Result<Option<Sizes>, AllocError>
     ensures { (text : List ℕ) → IsReason text fault → IsFirstOf text fault → IfOk result (IsVerdict text) }
 {
     match fault {
         PanelFault::Memory => Err(AllocError),
-        PanelFault::NotToml => Ok(Verdict::Refused(Cause::NotToml)),
-        PanelFault::Tree(fault, place) => Ok(Verdict::Refused(Cause::Tree(fault, place))),
+        PanelFault::NotToml => Ok(None),
+        PanelFault::Tree(_, _) => Ok(None),
     }
 }
 
 /// The answer to a text whose LUs the pool refuses for this fault.
-fn refused_by_pool(fault: PoolFault) -> Result<Verdict, AllocError>
+fn refused_by_pool(fault: PoolFault) -> Result<Option<Sizes>, AllocError>
     ensures { (text : List ℕ) (panels : Panels) → IsReadFrom text panels → IsFirstFault (lus_of panels) fault → IfOk result (IsVerdict text) }
 {
     match fault {
         PoolFault::Memory => Err(AllocError),
-        PoolFault::BadCount => Ok(Verdict::Refused(Cause::Lus(PoolFault::BadCount))),
-        PoolFault::BadName(place) => Ok(Verdict::Refused(Cause::Lus(PoolFault::BadName(place)))),
-        PoolFault::Twice(place) => Ok(Verdict::Refused(Cause::Lus(PoolFault::Twice(place)))),
+        PoolFault::BadCount => Ok(None),
+        PoolFault::BadName(_) => Ok(None),
+        PoolFault::Twice(_) => Ok(None),
     }
 }
 
-/// What the panel reader, and then the pool, answer to a panel text.
-pub(crate) fn judge(alloc: Global, text: &str) -> Result<Verdict, AllocError>
+/// How much a panel text has that the panel reader, and then the pool, accept; `None` if they refuse it.
+pub(crate) fn judge(alloc: Global, text: &str) -> Result<Option<Sizes>, AllocError>
     ensures { IfOk result (IsVerdict text.now) }
 {
     let panels = match PanelSet::read(alloc, text) {
@@ -76,7 +66,7 @@ pub(crate) fn judge(alloc: Global, text: &str) -> Result<Verdict, AllocError>
         Err(fault) => return refused_by_panels(fault),
     };
     match Pool::read(alloc, panels.lus()) {
-        Ok(_pool) => Ok(Verdict::Accepted(sizes_of(&panels))),
+        Ok(_pool) => Ok(Some(sizes_of(&panels))),
         Err(fault) => refused_by_pool(fault),
     }
 }

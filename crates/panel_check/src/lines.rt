@@ -1,77 +1,204 @@
 //! The lines of a panel text's tables and keys. The kit's `toml` tells no lines of what it reads, so the text is walked once more, by
 //! the readers of `toml_parser` that `toml` itself is made of. Lines count from 1.
-use crate::spot::Spot;
-use crate::walk::Walk;
+//!
+//! A path leads to what has a line, as `.panel#1.field#0.row`: `.` is before a key, `#` before the number of a table in an array,
+//! and `'` before that of a string.
 use std::alloc::{AllocError, Global};
 use std::collections::BTreeMap;
-use toml_parser::ParseError;
+use toml_parser::text::{skip_blank, skip_ws};
+use toml_parser::{Key, ParseError, dotted_key, quoted, starts_string, unquoted};
 
-/// The line of a table, or of an LU's name, and those of the table's keys.
+/// An array or a table that isn't at its end.
 #[derive(Drop)]
-struct TableLines {
-    line: usize,
-    keys: BTreeMap<String, usize>,
+struct Open {
+    path: String,
+    is_array: bool,
 }
 
-/// The lines of a text's tables and keys.
+/// The lines of a text, as far as it is walked over.
 #[derive(Drop)]
 pub(crate) struct Lines {
     alloc: Global,
-    tables: BTreeMap<Spot, TableLines>,
+    /// The line of each path.
+    noted: BTreeMap<String, usize>,
+    /// For the path of an array and `#` or `'`: how many tables or strings it has so far.
+    counts: BTreeMap<String, usize>,
+    /// The table of the last header, and what is open in it.
+    open: Vec<Open>,
+    /// The line of the walk.
+    line: usize,
+}
+
+/// The path of a table's key.
+fn under(alloc: Global, table: &str, key: &str) -> Result<String, AllocError> {
+    format!(in alloc; "{table}.{key}")
+}
+
+/// What is before the number of this value in its array. Like the panel reader, this counts tables and strings apart.
+fn mark_of(value: &str) -> char {
+    if value.starts_with('{') {
+        '#'
+    } else if starts_string(value) {
+        '\''
+    } else {
+        '?'
+    }
 }
 
 impl Lines {
     /// The lines of a text, up to where it is no TOML.
     pub(crate) fn of_text(alloc: Global, text: &str) -> Result<Lines, AllocError> {
-        let tables = BTreeMap::new(alloc);
-        let mut lines = Lines { alloc, tables };
-        match Walk::new(alloc, text).document(text, &mut lines) {
+        let mut lines = Lines {
+            alloc,
+            noted: BTreeMap::new(alloc),
+            counts: BTreeMap::new(alloc),
+            open: Vec::new(alloc),
+            line: 1,
+        };
+        match lines.walk(text) {
             Err(ParseError::OutOfMemory) => Err(AllocError),
             Ok(()) | Err(ParseError::At(_, _, _)) => Ok(lines),
         }
     }
 
-    /// Notes a table's line, unless it has one.
-    pub(crate) fn note_table(&mut self, spot: Spot, line: usize) -> Result<(), AllocError> {
-        if spot == Spot::Other || self.tables.contains_key(&spot) {
-            return Ok(());
+    /// The line of a table's key; the table's own if it has no such key, and 1 if there is no such table.
+    pub(crate) fn of_key(&self, table: &str, key: &str) -> Result<usize, AllocError> {
+        let path = under(self.alloc, table, key)?;
+        let own = self.noted.get(table).copied().unwrap_or(1);
+        Ok(self.noted.get(path.as_str()).copied().unwrap_or(own))
+    }
+
+    fn walk(&mut self, text: &str) -> Result<(), ParseError> {
+        self.open_in(String::new(self.alloc), false)?;
+        let mut rest = text.strip_prefix('\u{feff}').unwrap_or(text);
+        for _ in 0..=text.len() {
+            let start = skip_blank(rest, true);
+            if start.is_empty() {
+                break;
+            }
+            self.pass(rest, start);
+            let after = self.step(start)?;
+            self.pass(start, after);
+            rest = after;
         }
-        let keys = BTreeMap::new(self.alloc);
-        self.tables.insert(spot, TableLines { line, keys })?;
         Ok(())
     }
 
-    /// Notes the line of a table's key, unless it has one.
-    pub(crate) fn note_key(
-        &mut self,
-        spot: Spot,
-        key: &str,
-        line: usize,
-    ) -> Result<(), AllocError> {
-        self.note_table(spot, line)?;
-        let Some(table) = self.tables.get_mut(&spot) else {
-            return Ok(());
+    /// Counts the lines between two places.
+    fn pass(&mut self, from: &str, to: &str) {
+        let count = from.len().saturating_sub(to.len());
+        let passed = from.as_bytes().get(..count).unwrap_or(&[]);
+        let ends = passed.iter().filter(|byte| **byte == b'\n').count();
+        self.line = self.line.saturating_add(ends);
+    }
+
+    /// Walks over a header, a comma, the end of an array or a table, or what a value begins with; and over a whole one that is neither.
+    fn step<'t>(&mut self, text: &'t str) -> Result<&'t str, ParseError> {
+        if let Some(after) = text.strip_prefix(',') {
+            return Ok(after);
+        }
+        if let Some(after) = text.strip_prefix(']').or(text.strip_prefix('}')) {
+            self.open.pop();
+            return Ok(after);
+        }
+        let Some(holder) = self.open.last() else {
+            return Ok("");
         };
-        if table.keys.contains_key(key) {
-            return Ok(());
+        let is_array = holder.is_array;
+        let path = String::from_str(self.alloc, holder.path.as_str())?;
+        if is_array {
+            let element = self.next_element(path, mark_of(text))?;
+            return self.value(element, text);
         }
-        table.keys.insert(String::from_str(self.alloc, key)?, line)?;
+        if self.open.len() == 1
+            && let Some(header) = text.strip_prefix('[')
+        {
+            return self.header(header);
+        }
+        let (key, after) = dotted_key(self.alloc, text)?;
+        let path = self.along(path, &key, false)?;
+        self.value(path, skip_ws(after.strip_prefix('=').unwrap_or(after)))
+    }
+
+    /// Notes the line of a path, unless it has one.
+    fn note(&mut self, path: &str) -> Result<(), AllocError> {
+        if !self.noted.contains_key(path) {
+            let line = self.line;
+            self.noted
+                .insert(String::from_str(self.alloc, path)?, line)?;
+        }
         Ok(())
     }
 
-    /// The line of a table, or of an LU's name; 1 if the text has none.
-    pub(crate) fn of_table(&self, spot: Spot) -> usize {
-        match self.tables.get(&spot) {
-            Some(table) => table.line,
-            None => 1,
+    /// Notes each part of a key, and answers the path to which it leads. That of a header leads through an array by its last table.
+    fn along(&mut self, table: String, key: &Key, in_header: bool) -> Result<String, AllocError> {
+        let mut path = table;
+        for part in &key.path {
+            path = under(self.alloc, path.as_str(), part.as_str())?;
+            self.note(path.as_str())?;
+            if in_header {
+                path = self.last_element(path)?;
+            }
         }
+        path = under(self.alloc, path.as_str(), key.last.as_str())?;
+        self.note(path.as_str())?;
+        Ok(path)
     }
 
-    /// The line of a table's key; the table's own if it has no such key.
-    pub(crate) fn of_key(&self, spot: Spot, key: &str) -> usize {
-        match self.tables.get(&spot) {
-            Some(table) => table.keys.get(key).copied().unwrap_or(table.line),
-            None => 1,
+    /// The path of the last table in an array; a path itself that is of no array.
+    fn last_element(&self, path: String) -> Result<String, AllocError> {
+        let tables = format!(in self.alloc; "{path}#")?;
+        let Some(count) = self.counts.get(tables.as_str()).copied() else {
+            return Ok(path);
+        };
+        let last = count.saturating_sub(1);
+        format!(in self.alloc; "{tables}{last}")
+    }
+
+    /// Notes the next value of an array, and answers its path.
+    fn next_element(&mut self, array: String, mark: char) -> Result<String, AllocError> {
+        let kind = format!(in self.alloc; "{array}{mark}")?;
+        let count = self.counts.get(kind.as_str()).copied().unwrap_or(0);
+        let path = format!(in self.alloc; "{kind}{count}")?;
+        self.counts.insert(kind, count.saturating_add(1))?;
+        self.note(path.as_str())?;
+        Ok(path)
+    }
+
+    /// Walks over a header behind its first bracket.
+    fn header<'t>(&mut self, text: &'t str) -> Result<&'t str, ParseError> {
+        let element = text.strip_prefix('[');
+        let (key, after) = dotted_key(self.alloc, skip_ws(element.unwrap_or(text)))?;
+        let mut path = self.along(String::new(self.alloc), &key, true)?;
+        let mut rest = after.strip_prefix(']').unwrap_or(after);
+        if element.is_some() {
+            path = self.next_element(path, '#')?;
+            rest = rest.strip_prefix(']').unwrap_or(rest);
         }
+        self.open.clear();
+        self.open_in(path, false)?;
+        Ok(rest)
+    }
+
+    fn open_in(&mut self, path: String, is_array: bool) -> Result<(), AllocError> {
+        self.open.push(Open { path, is_array })?;
+        Ok(())
+    }
+
+    fn value<'t>(&mut self, path: String, text: &'t str) -> Result<&'t str, ParseError> {
+        if let Some(items) = text.strip_prefix('[') {
+            self.open_in(path, true)?;
+            return Ok(items);
+        }
+        if let Some(pairs) = text.strip_prefix('{') {
+            self.open_in(path, false)?;
+            return Ok(pairs);
+        }
+        if starts_string(text) {
+            let (_, rest) = quoted(self.alloc, text)?;
+            return Ok(rest);
+        }
+        let (_, rest) = unquoted(self.alloc, text)?;
+        Ok(rest)
     }
 }

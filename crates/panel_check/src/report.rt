@@ -5,11 +5,10 @@ ghost use Rattle.panel_check.specs.PanelText.{panel_text};
 ghost use Rattle.panel_check.specs.Causes.{IsFaultOf, TellsFaults};
 ghost use Rattle.panel_check.specs.Report.{HasFirstCause, IsFaultlessIfAccepted, fault_count};
 
-use crate::explain::explain;
 use crate::finding::Finding;
-use crate::judge::{Sizes, Verdict, judge};
+use crate::judge::{Sizes, judge};
 use crate::part::panel_part;
-use crate::settle::{Settled, has_cause, with_cause};
+use crate::telling::{Told, tell_text};
 use std::alloc::{AllocError, Global};
 
 /// What is found in a panel text, in the order of its lines.
@@ -18,20 +17,8 @@ pub struct Report {
     pub findings: Vec<Finding>,
     /// How much the text has, if it has no fault.
     pub sizes: Option<Sizes>,
-    /// Whether the faults that were found here agree with the readers, so that none had to be left
-    /// out or added.
+    /// Whether there were words for each fault that doesn't merely follow from another.
     pub agrees: bool,
-}
-
-/// These findings; none of them if one is a fault.
-fn unless_faulty(alloc: Global, findings: Vec<Finding>) -> Vec<Finding>
-    ensures { fault_count result.items ≡ 0 }
-{
-    if count_faults(&findings) == 0 {
-        findings
-    } else {
-        Vec::new(alloc)
-    }
 }
 
 /// How many faults there are.
@@ -44,10 +31,9 @@ fn count_faults(findings: &[Finding]) -> usize
         .count()
 }
 
-/// The report on a panel text: everything up to a line `%%`. It has each fault of the text's tables, and no other of a
-/// table, but for what may merely follow from another fault, or is more of a table whose keys are wrong.
-/// `PanelSet::read` and `Pool::read` decide: if they accept the text, the report has only warnings; if they refuse it,
-/// the fault for which they do is among its faults.
+/// The report on a panel text: everything up to a line `%%`. It has each fault of the text, but for what may merely follow from
+/// another, and no other. If `PanelSet::read` and `Pool::read` accept the text, it has only warnings; if they refuse it, the fault
+/// for which they do is among its faults.
 ///
 /// Err only if memory is refused.
 pub fn check(alloc: Global, text: &str) -> Result<Report, AllocError>
@@ -58,25 +44,13 @@ pub fn check(alloc: Global, text: &str) -> Result<Report, AllocError>
     // For the contract.
     panels::laws::a_text_defines_its_panels_once();
     let text = panel_part(text);
-    let Settled { findings, agrees } = explain(alloc, text)?;
-    match judge(alloc, text)? {
-        Verdict::Accepted(sizes) => {
-            let agrees = agrees & (count_faults(&findings) == 0);
-            Ok(Report {
-                findings: unless_faulty(alloc, findings),
-                sizes: Some(sizes),
-                agrees,
-            })
-        }
-        Verdict::Refused(cause) => {
-            let agrees = agrees & has_cause(&findings, cause);
-            Ok(Report {
-                findings: with_cause(alloc, findings, cause)?,
-                sizes: None,
-                agrees,
-            })
-        }
-    }
+    let Told { findings, agrees } = tell_text(alloc, text)?;
+    let sizes = judge(alloc, text)?;
+    Ok(Report {
+        findings,
+        sizes,
+        agrees,
+    })
 }
 
 fn plural(count: usize) -> &'static str

@@ -1,267 +1,203 @@
-//! What a panel text has: its panels, their texts and fields, and where each name stands first.
-use crate::spot::Spot;
+//! What a panel text has: its tables, their names as messages have them, and their lines.
+ghost use Rattle.std.specs.Prelude.{◌≡◌, option_map};
+ghost use Rattle.toml.specs.Data.{get_member};
+ghost use Rattle.toml.specs.View.{items_view, table_view, view};
+ghost use Rattle.panels.specs.Tree.{items_under};
+
+use crate::lines::Lines;
 use crate::wording::put_cut;
-use codes3270::{Model, Size};
+use panels::Part;
 use std::alloc::{AllocError, Global};
-use std::collections::BTreeMap;
 use toml::{Table, Value};
 
-pub(crate) fn text_at<'a>(table: &'a Table, key: &str) -> Option<&'a str> {
-    table.get(key).and_then(|value| value.as_str())
+fn value_at<'a>(table: &'a Table, key: &str) -> Option<&'a Value>
+    ensures { option_map (λ value. view value.now) result ≡ get_member key.now (table_view table.now) }
+{
+    table.get(key)
 }
 
-/// The name of a panel or a field; empty if it has none, as the panel reader takes it.
-fn name_of(table: &Table) -> &str {
-    text_at(table, "name").unwrap_or("")
+/// What the array at a key has; nothing if there is none.
+pub(crate) fn values_at<'a>(table: &'a Table, key: &str) -> &'a [Value]
+    ensures { items_view result.now ≡ items_under key.now (table_view table.now) }
+{
+    value_at(table, key)
+        .and_then(|value| value.as_array())
+        .map_or(&[], |values| values.as_slice())
 }
 
-pub(crate) fn integer_at(table: &Table, key: &str) -> Option<i64> {
-    table.get(key).and_then(|value| value.as_integer())
-}
-
-pub(crate) fn is_set(table: &Table, key: &str) -> bool {
-    table
-        .get(key)
-        .and_then(|value| value.as_bool())
-        .unwrap_or(false)
-}
-
-pub(crate) fn values_at<'a>(table: &'a Table, key: &str) -> &'a [Value] {
-    match table.get(key).and_then(|value| value.as_array()) {
-        Some(values) => values.as_slice(),
-        None => &[],
-    }
-}
-
-/// The strings of the array of LUs.
-pub(crate) fn lus_of<'a>(alloc: Global, top: &'a Table) -> Result<Vec<&'a str>, AllocError> {
-    let mut lus = Vec::new(alloc);
-    for value in values_at(top, "lus") {
-        if let Some(name) = value.as_str() {
-            lus.push(name)?;
+/// The strings of the array at a key.
+pub(crate) fn texts_at<'a>(
+    alloc: Global,
+    table: &'a Table,
+    key: &str,
+) -> Result<Vec<&'a str>, AllocError> {
+    let mut texts = Vec::new(alloc);
+    for value in values_at(table, key) {
+        if let Some(text) = value.as_str() {
+            texts.push(text)?;
         }
     }
-    Ok(lus)
+    Ok(texts)
 }
 
-/// A text or a field of a panel.
+/// The tables of the array at a key.
+fn tables_at<'a>(alloc: Global, table: &'a Table, key: &str) -> Result<Vec<&'a Table>, AllocError> {
+    let mut tables = Vec::new(alloc);
+    for value in values_at(table, key) {
+        if let Some(table) = value.as_table() {
+            tables.push(table)?;
+        }
+    }
+    Ok(tables)
+}
+
+/// A panel, its texts and its fields.
 #[derive(Drop)]
-pub(crate) struct Item<'a> {
-    pub spot: Spot,
-    pub table: &'a Table,
-    /// Its names, as messages have them.
-    pub place: String,
+struct PanelTables<'a> {
+    table: &'a Table,
+    texts: Vec<&'a Table>,
+    fields: Vec<&'a Table>,
 }
 
-/// A panel.
-#[derive(Drop)]
-pub(crate) struct PanelEntry<'a> {
-    pub spot: Spot,
-    pub table: &'a Table,
-    pub place: String,
-    pub texts: Vec<Item<'a>>,
-    pub fields: Vec<Item<'a>>,
-}
-
-impl<'a> PanelEntry<'a> {
-    /// The number of its model, 2 if it says none; `None` if `model` is no integer.
-    pub(crate) fn model_number(&self) -> Option<i64> {
-        match self.table.get("model") {
-            Some(value) => value.as_integer(),
-            None => Some(2),
-        }
-    }
-
-    /// The size of the screen on which it is laid out; `None` if there is no such model.
-    pub(crate) fn size(&self) -> Option<Size> {
-        match self.model_number() {
-            Some(2) => Some(Size::base()),
-            Some(3) => Some(Model::M3.alternate()),
-            Some(4) => Some(Model::M4.alternate()),
-            Some(5) => Some(Model::M5.alternate()),
-            _ => None,
-        }
-    }
-
-    /// Whether it is of model 2, and so can be shown in each session. The panel reader takes it for one if `model` is no integer.
-    pub(crate) fn is_base(&self) -> bool {
-        self.model_number().unwrap_or(2) == 2
-    }
-
-    /// The name of the panel that is shown in its place in sessions of other models.
-    pub(crate) fn otherwise(&self) -> Option<&'a str> {
-        if self.is_base() {
-            None
-        } else {
-            text_at(self.table, "otherwise")
-        }
-    }
-
-    /// The table of its keys.
-    pub(crate) fn keys(&self) -> Option<&'a Table> {
-        self.table.get("keys").and_then(|value| value.as_table())
-    }
-
-    pub(crate) fn has_field_named(&self, name: &str) -> bool {
-        self.fields.iter().any(|field| name_of(field.table) == name)
-    }
-}
-
-/// A panel text.
+/// A panel text. Values that aren't tables are left out.
 #[derive(Drop)]
 pub(crate) struct Survey<'a> {
-    pub top: &'a Table,
-    pub panels: Vec<PanelEntry<'a>>,
-    /// The first panel, the first panel of model 2, and the first field, with each name.
-    pub panel_names: BTreeMap<String, usize>,
-    pub base_names: BTreeMap<String, usize>,
-    pub field_names: BTreeMap<String, Spot>,
+    pub alloc: Global,
+    pub lines: Lines,
+    top: &'a Table,
+    panels: Vec<PanelTables<'a>>,
+    /// Panel by panel the panel itself, its texts and its fields.
+    pub parts: Vec<Part>,
 }
 
-/// The names of a panel, a text or a field, or its number from 1 on.
-fn place_of(
-    alloc: Global,
-    holder: &str,
+/// Adds what a table is called: by its name, or its number from 1 on.
+fn put_named(
+    place: &mut String,
     kind: &str,
     name: Option<&str>,
     index: usize,
-) -> Result<String, AllocError> {
-    let mut place = String::new(alloc);
-    if !holder.is_empty() {
-        write!(&mut place, "{holder}, ")?;
-    }
-    write!(&mut place, "{kind} ")?;
-    match name {
-        Some(name) => put_cut(&mut place, name)?,
-        None => {
-            let number = index.saturating_add(1);
-            write!(&mut place, "#{number}")?;
-        }
-    }
-    Ok(place)
-}
-
-/// The names of a text: what it says or shows.
-fn text_place(
-    alloc: Global,
-    holder: &str,
-    table: &Table,
-    index: usize,
-) -> Result<String, AllocError> {
-    match text_at(table, "text") {
-        Some(text) => {
-            let mut place = place_of(alloc, holder, "text", Some("'"), index)?;
-            put_cut(&mut place, text)?;
-            place.push('\'')?;
-            Ok(place)
-        }
-        None => match text_at(table, "show") {
-            Some(name) => place_of(alloc, holder, "show", Some(name), index),
-            None => place_of(alloc, holder, "text", None, index),
-        },
-    }
-}
-
-fn texts_of<'a>(
-    alloc: Global,
-    panel: &'a Table,
-    spot: Spot,
-    holder: &str,
-) -> Result<Vec<Item<'a>>, AllocError> {
-    let mut items = Vec::new(alloc);
-    for value in values_at(panel, "text") {
-        if let Some(table) = value.as_table() {
-            let index = items.len();
-            items.push(Item {
-                spot: spot.under("text").element(index),
-                table,
-                place: text_place(alloc, holder, table, index)?,
-            })?;
-        }
-    }
-    Ok(items)
-}
-
-fn fields_of<'a>(
-    alloc: Global,
-    panel: &'a Table,
-    spot: Spot,
-    holder: &str,
-) -> Result<Vec<Item<'a>>, AllocError> {
-    let mut items = Vec::new(alloc);
-    for value in values_at(panel, "field") {
-        if let Some(table) = value.as_table() {
-            let index = items.len();
-            items.push(Item {
-                spot: spot.under("field").element(index),
-                table,
-                place: place_of(alloc, holder, "field", text_at(table, "name"), index)?,
-            })?;
-        }
-    }
-    Ok(items)
-}
-
-fn panel_entry<'a>(
-    alloc: Global,
-    table: &'a Table,
-    index: usize,
-) -> Result<PanelEntry<'a>, AllocError> {
-    let spot = Spot::Panel(index);
-    let place = place_of(alloc, "", "panel", text_at(table, "name"), index)?;
-    Ok(PanelEntry {
-        spot,
-        table,
-        texts: texts_of(alloc, table, spot, place.as_str())?,
-        fields: fields_of(alloc, table, spot, place.as_str())?,
-        place,
-    })
+) -> Result<(), AllocError> {
+    write!(place, "{kind} ")?;
+    let Some(name) = name else {
+        let number = index.saturating_add(1);
+        return write!(place, "#{number}");
+    };
+    put_cut(place, name)
 }
 
 impl<'a> Survey<'a> {
-    /// What the tree of a panel text has. Values that aren't tables are left out.
-    pub(crate) fn of(alloc: Global, top: &'a Table) -> Result<Survey<'a>, AllocError> {
+    /// What a text has whose tree is this.
+    pub(crate) fn of(alloc: Global, text: &str, top: &'a Table) -> Result<Survey<'a>, AllocError> {
         let mut survey = Survey {
+            alloc,
+            lines: Lines::of_text(alloc, text)?,
             top,
             panels: Vec::new(alloc),
-            panel_names: BTreeMap::new(alloc),
-            base_names: BTreeMap::new(alloc),
-            field_names: BTreeMap::new(alloc),
+            parts: Vec::new(alloc),
         };
-        for value in values_at(top, "panel") {
-            if let Some(table) = value.as_table() {
-                let entry = panel_entry(alloc, table, survey.panels.len())?;
-                survey.panels.push(entry)?;
-            }
+        for table in tables_at(alloc, top, "panel")? {
+            survey.add_panel(table)?;
         }
-        survey.note_names(alloc)?;
         Ok(survey)
     }
 
-    /// Notes where each name stands first.
-    fn note_names(&mut self, alloc: Global) -> Result<(), AllocError> {
-        let Survey {
-            panels,
-            panel_names,
-            base_names,
-            field_names,
-            ..
-        } = self;
-        for (index, panel) in panels.iter().enumerate() {
-            let name = name_of(panel.table);
-            if !panel_names.contains_key(name) {
-                panel_names.insert(String::from_str(alloc, name)?, index)?;
-            }
-            if panel.is_base() && !base_names.contains_key(name) {
-                base_names.insert(String::from_str(alloc, name)?, index)?;
-            }
-            for field in &panel.fields {
-                let name = name_of(field.table);
-                if !field_names.contains_key(name) {
-                    field_names.insert(String::from_str(alloc, name)?, field.spot)?;
-                }
-            }
+    fn add_panel(&mut self, table: &'a Table) -> Result<(), AllocError> {
+        let panel = self.panels.len();
+        let texts = tables_at(self.alloc, table, "text")?;
+        let fields = tables_at(self.alloc, table, "field")?;
+        self.parts.push(Part::Panel(panel))?;
+        for text in 0..texts.len() {
+            self.parts.push(Part::Text(panel, text))?;
         }
+        for field in 0..fields.len() {
+            self.parts.push(Part::Field(panel, field))?;
+        }
+        self.panels.push(PanelTables {
+            table,
+            texts,
+            fields,
+        })?;
         Ok(())
+    }
+
+    /// The table of a part.
+    pub(crate) fn table(&self, part: Part) -> Option<&'a Table> {
+        match part {
+            Part::Top => Some(self.top),
+            Part::Panel(panel) => Some(self.panels.get(panel)?.table),
+            Part::Text(panel, text) => self.panels.get(panel)?.texts.get(text).copied(),
+            Part::Field(panel, field) => self.panels.get(panel)?.fields.get(field).copied(),
+            Part::Keys(panel) => self.panels.get(panel)?.table.get("keys")?.as_table(),
+        }
+    }
+
+    pub(crate) fn text(&self, part: Part, key: &str) -> Option<&'a str> {
+        self.table(part)?.get(key)?.as_str()
+    }
+
+    pub(crate) fn integer(&self, part: Part, key: &str) -> Option<i64> {
+        self.table(part)?.get(key)?.as_integer()
+    }
+
+    /// The name of a panel or a field; empty if it has none, as the panel reader takes it.
+    pub(crate) fn name(&self, part: Part) -> &'a str {
+        self.text(part, "name").unwrap_or("")
+    }
+
+    /// The strings of an array of a part.
+    pub(crate) fn texts(&self, part: Part, key: &str) -> Result<Vec<&'a str>, AllocError> {
+        match self.table(part) {
+            Some(table) => texts_at(self.alloc, table, key),
+            None => Ok(Vec::new(self.alloc)),
+        }
+    }
+
+    /// How many tables an array of a part has.
+    pub(crate) fn count(&self, part: Part, key: &str) -> Result<usize, AllocError> {
+        match self.table(part) {
+            Some(table) => Ok(tables_at(self.alloc, table, key)?.len()),
+            None => Ok(0),
+        }
+    }
+
+    /// The names of a part, as `panel MENU, field option`; none of the text's own table.
+    pub(crate) fn place(&self, part: Part) -> Result<String, AllocError> {
+        let mut place = String::new(self.alloc);
+        if let Part::Panel(panel)
+        | Part::Text(panel, _)
+        | Part::Field(panel, _)
+        | Part::Keys(panel) = part
+        {
+            let name = self.text(Part::Panel(panel), "name");
+            put_named(&mut place, "panel", name, panel)?;
+        }
+        match (part, self.text(part, "text"), self.text(part, "show")) {
+            (Part::Text(_, _), Some(text), _) => {
+                place.push_str(", text '")?;
+                put_cut(&mut place, text)?;
+                place.push('\'')?;
+            }
+            (Part::Text(_, index), None, Some(name)) => {
+                put_named(&mut place, ", show", Some(name), index)?;
+            }
+            (Part::Text(_, index), None, None) => put_named(&mut place, ", text", None, index)?,
+            (Part::Field(_, index), _, _) => {
+                put_named(&mut place, ", field", self.text(part, "name"), index)?;
+            }
+            (Part::Top | Part::Panel(_) | Part::Keys(_), _, _) => {}
+        }
+        Ok(place)
+    }
+
+    /// The line of a key of a part; the part's own if it has no such key.
+    pub(crate) fn line(&self, part: Part, key: &str) -> Result<usize, AllocError> {
+        let path = match part {
+            Part::Top => String::new(self.alloc),
+            Part::Panel(panel) => format!(in self.alloc; ".panel#{panel}")?,
+            Part::Text(panel, text) => format!(in self.alloc; ".panel#{panel}.text#{text}")?,
+            Part::Field(panel, field) => format!(in self.alloc; ".panel#{panel}.field#{field}")?,
+            Part::Keys(panel) => format!(in self.alloc; ".panel#{panel}.keys")?,
+        };
+        self.lines.of_key(path.as_str(), key)
     }
 }

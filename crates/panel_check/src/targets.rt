@@ -1,238 +1,165 @@
-//! The faults of names that must be of a panel or a field, and of panels that no keys lead to.
-use crate::finding::Cause;
-use crate::notes::Notes;
-use crate::spot::Spot;
-use crate::survey::{PanelEntry, Survey, text_at, values_at};
+//! The names that must be of a panel or a field, and the panels that no keys lead to.
+use crate::survey::Survey;
 use crate::wording::{Nearest, quote};
-use panels::TreeFault;
+use crate::words::Words;
+use panels::Part;
 use std::alloc::AllocError;
-use std::collections::BTreeMap;
 
-/// Notes a name that is of no panel or field.
-fn note_lost(
-    notes: &mut Notes,
-    spot: Spot,
-    key: &str,
-    place: &str,
-    kind: &str,
-    name: &str,
-    nearest: &Nearest,
-) -> Result<(), AllocError> {
-    let quoted = quote(notes.alloc, name)?;
-    let mut message = format!(in notes.alloc; "'{key}' names no {kind}: {quoted}")?;
-    nearest.put(&mut message)?;
-    notes.at_key(TreeFault::NoTarget, spot, key, place, message)
+/// Panels or fields whose names may be named.
+#[derive(Clone, Copy)]
+enum Named {
+    Panels,
+    /// Those of model 2, which can be shown in each session.
+    BasePanels,
+    Fields,
+    FieldsOf(usize),
 }
 
-/// Notes that a name at a key is of no panel.
-fn check_panel_name(
-    notes: &mut Notes,
-    survey: &Survey,
-    spot: Spot,
-    key: &str,
-    place: &str,
-    name: &str,
-) -> Result<(), AllocError> {
-    if survey.panel_names.contains_key(name) {
-        return Ok(());
+impl Named {
+    /// What messages call one of them.
+    fn kind(self) -> &'static str {
+        match self {
+            Named::Panels | Named::BasePanels => "panel",
+            Named::Fields => "field",
+            Named::FieldsOf(_) => "field of this panel",
+        }
     }
-    let mut nearest = Nearest::to(notes.alloc, name);
-    for known in survey.panel_names.keys() {
-        nearest.offer(known.as_str())?;
+
+    /// Whether a part is one of them.
+    fn has(self, survey: &Survey, part: Part) -> bool {
+        match (self, part) {
+            (Named::Panels, Part::Panel(_)) | (Named::Fields, Part::Field(_, _)) => true,
+            (Named::BasePanels, Part::Panel(_)) => is_base(survey, part),
+            (Named::FieldsOf(panel), Part::Field(other, _)) => panel == other,
+            _ => false,
+        }
     }
-    note_lost(notes, spot, key, place, "panel", name, &nearest)
+
+    /// The first with a name.
+    fn find(self, survey: &Survey, name: &str) -> Option<Part> {
+        let mut parts = survey.parts.iter().copied();
+        parts.find(|part| self.has(survey, *part) && survey.name(*part) == name)
+    }
 }
 
-/// Notes that the panel in a panel's place isn't one of model 2.
-fn check_otherwise(
-    notes: &mut Notes,
-    survey: &Survey,
-    panel: &PanelEntry,
-) -> Result<(), AllocError> {
-    let Some(name) = panel.otherwise() else {
-        return Ok(());
-    };
-    if survey.base_names.contains_key(name) {
-        return Ok(());
-    }
-    let place = panel.place.as_str();
-    if survey.panel_names.contains_key(name) {
-        let quoted = quote(notes.alloc, name)?;
-        let message = format!(in notes.alloc;
-            "'otherwise' must name a panel of model 2, and {quoted} is of another model"
-        )?;
-        return notes.at_key(TreeFault::NoTarget, panel.spot, "otherwise", place, message);
-    }
-    let mut nearest = Nearest::to(notes.alloc, name);
-    for known in survey.base_names.keys() {
-        nearest.offer(known.as_str())?;
-    }
-    note_lost(
-        notes,
-        panel.spot,
-        "otherwise",
-        place,
-        "panel",
-        name,
-        &nearest,
-    )
+/// Whether a panel is of model 2. The panel reader takes it for one if `model` is no integer.
+fn is_base(survey: &Survey, panel: Part) -> bool {
+    survey.integer(panel, "model").unwrap_or(2) == 2
 }
 
-/// Notes that a panel's `cursor` names none of its fields.
-fn check_cursor(notes: &mut Notes, panel: &PanelEntry) -> Result<(), AllocError> {
-    let Some(name) = text_at(panel.table, "cursor") else {
-        return Ok(());
-    };
-    if panel.has_field_named(name) {
-        return Ok(());
+impl<'s, 'a> Words<'s, 'a> {
+    /// Says which names in a table that must be of a panel or a field are of none.
+    pub(crate) fn no_target(&mut self) -> Result<(), AllocError> {
+        match self.part {
+            Part::Top => self.lost("start", Named::Panels),
+            Part::Panel(panel) => {
+                self.lost("cursor", Named::FieldsOf(panel))?;
+                if is_base(self.survey, self.part) {
+                    return Ok(());
+                }
+                self.lost("otherwise", Named::BasePanels)
+            }
+            Part::Text(_, _) | Part::Field(_, _) => self.lost("show", Named::Fields),
+            Part::Keys(_) => {
+                if let Some(keys) = self.survey.table(self.part) {
+                    for key in keys.keys() {
+                        self.lost(key.as_str(), Named::Panels)?;
+                    }
+                }
+                Ok(())
+            }
+        }
     }
-    let mut nearest = Nearest::to(notes.alloc, name);
-    for field in &panel.fields {
-        nearest.offer(text_at(field.table, "name").unwrap_or(""))?;
-    }
-    let place = panel.place.as_str();
-    note_lost(
-        notes,
-        panel.spot,
-        "cursor",
-        place,
-        "field of this panel",
-        name,
-        &nearest,
-    )
-}
 
-/// Notes that a text shows no field of any panel.
-fn check_shows(
-    notes: &mut Notes,
-    names: &BTreeMap<String, Spot>,
-    panel: &PanelEntry,
-) -> Result<(), AllocError> {
-    for text in &panel.texts {
-        let Some(name) = text_at(text.table, "show") else {
-            continue;
+    /// Says that the name at a key is of none of these, if it is of none.
+    fn lost(&mut self, key: &str, named: Named) -> Result<(), AllocError> {
+        let Some(name) = self.text(key) else {
+            return Ok(());
         };
-        if text_at(text.table, "text").is_some() || names.contains_key(name) {
-            continue;
+        if named.find(self.survey, name).is_some() {
+            return Ok(());
         }
-        let mut nearest = Nearest::to(notes.alloc, name);
-        for known in names.keys() {
-            nearest.offer(known.as_str())?;
+        let quoted = quote(self.alloc, name)?;
+        if key == "otherwise" && Named::Panels.find(self.survey, name).is_some() {
+            let message = format!(in self.alloc;
+                "'otherwise' must name a panel of model 2, and {quoted} is of another model"
+            )?;
+            return self.say(key, message);
         }
-        note_lost(
-            notes,
-            text.spot,
-            "show",
-            text.place.as_str(),
-            "field",
-            name,
-            &nearest,
-        )?;
-    }
-    Ok(())
-}
-
-/// Notes the keys of a panel that lead to no panel.
-fn check_keys_of(
-    notes: &mut Notes,
-    survey: &Survey,
-    panel: &PanelEntry,
-    index: usize,
-) -> Result<(), AllocError> {
-    let Some(keys) = panel.keys() else {
-        return Ok(());
-    };
-    for (key, value) in keys {
-        if let Some(name) = value.as_str() {
-            let place = panel.place.as_str();
-            check_panel_name(notes, survey, Spot::Keys(index), key.as_str(), place, name)?;
+        let mut nearest = Nearest::to(self.alloc, name);
+        for part in &self.survey.parts {
+            if named.has(self.survey, *part) {
+                nearest.offer(self.survey.name(*part))?;
+            }
         }
+        let kind = named.kind();
+        let message = format!(in self.alloc; "'{key}' names no {kind}: {quoted}")?;
+        let message = nearest.behind(message)?;
+        self.say(key, message)
     }
-    Ok(())
-}
 
-/// Adds a panel that is reached, once.
-fn reach(found: &mut Vec<usize>, target: Option<&usize>) -> Result<(), AllocError> {
-    let Some(target) = target.copied() else {
-        return Ok(());
-    };
-    if !found.contains(&target) {
-        found.push(target)?;
-    }
-    Ok(())
-}
-
-/// Adds the panel that is shown in a panel's place, and those to which its keys lead.
-fn reach_from(
-    found: &mut Vec<usize>,
-    survey: &Survey,
-    panel: &PanelEntry,
-) -> Result<(), AllocError> {
-    if let Some(name) = panel.otherwise() {
-        reach(found, survey.base_names.get(name))?;
-    }
-    let Some(keys) = panel.keys() else {
-        return Ok(());
-    };
-    for value in keys.values() {
-        let target = value.as_str().and_then(|name| survey.panel_names.get(name));
-        reach(found, target)?;
-    }
-    Ok(())
-}
-
-/// The panels to which keys lead from the first one, and those that are shown in their place, each once.
-fn reached(notes: &Notes, survey: &Survey, start: usize) -> Result<Vec<usize>, AllocError> {
-    let mut found = Vec::new(notes.alloc);
-    found.push(start)?;
-    for place in 0..survey.panels.len() {
-        let Some(panel) = found.get(place).and_then(|index| survey.panels.get(*index)) else {
-            break;
+    /// Adds the panel of these that has a name to those that are reached, once.
+    fn reach(
+        &self,
+        found: &mut Vec<Part>,
+        named: Named,
+        name: Option<&str>,
+    ) -> Result<(), AllocError> {
+        let Some(name) = name else {
+            return Ok(());
         };
-        reach_from(&mut found, survey, panel)?;
-    }
-    Ok(found)
-}
-
-/// Whether the panel at an index asks an application.
-fn asks_at(survey: &Survey, index: usize) -> bool {
-    let panel = survey.panels.get(index);
-    panel.is_some_and(|panel| !values_at(panel.table, "asks").is_empty())
-}
-
-/// Warns of the panels that no keys lead to, unless an application may lead there.
-fn warn_of_unreached(notes: &mut Notes, survey: &Survey, start: usize) -> Result<(), AllocError> {
-    let found = reached(notes, survey, start)?;
-    // An application may show any panel.
-    if found.iter().any(|index| asks_at(survey, *index)) {
-        return Ok(());
-    }
-    for (index, panel) in survey.panels.iter().enumerate() {
-        if found.contains(&index) {
-            continue;
+        if let Some(panel) = named.find(self.survey, name)
+            && !found.contains(&panel)
+        {
+            found.push(panel)?;
         }
-        let words = "no keys lead here from the first panel";
-        let message = String::from_str(notes.alloc, words)?;
-        let line = notes.lines.of_table(panel.spot);
-        notes.add(Cause::NoKeyLeads, line, panel.place.as_str(), message)?;
+        Ok(())
     }
-    Ok(())
-}
 
-/// Notes the names that are of no panel or field, and warns of the panels that no keys lead to.
-pub(crate) fn check_targets(notes: &mut Notes, survey: &Survey) -> Result<(), AllocError> {
-    for (index, panel) in survey.panels.iter().enumerate() {
-        check_cursor(notes, panel)?;
-        check_otherwise(notes, survey, panel)?;
-        check_shows(notes, &survey.field_names, panel)?;
-        check_keys_of(notes, survey, panel, index)?;
+    /// The panels to which keys lead from the first one, and those that are shown in their place, each once; none if there is no first.
+    fn reached(&self) -> Result<Vec<Part>, AllocError> {
+        let survey = self.survey;
+        let mut found = Vec::new(self.alloc);
+        self.reach(&mut found, Named::Panels, survey.text(Part::Top, "start"))?;
+        for place in 0..survey.parts.len() {
+            let Some(Part::Panel(panel)) = found.get(place).copied() else {
+                break;
+            };
+            let part = Part::Panel(panel);
+            if !is_base(survey, part) {
+                self.reach(
+                    &mut found,
+                    Named::BasePanels,
+                    survey.text(part, "otherwise"),
+                )?;
+            }
+            if let Some(keys) = survey.table(Part::Keys(panel)) {
+                for value in keys.values() {
+                    self.reach(&mut found, Named::Panels, value.as_str())?;
+                }
+            }
+        }
+        Ok(found)
     }
-    let Some(start) = text_at(survey.top, "start") else {
-        return Ok(());
-    };
-    check_panel_name(notes, survey, Spot::Top, "start", "", start)?;
-    match survey.panel_names.get(start) {
-        Some(start) => warn_of_unreached(notes, survey, *start),
-        None => Ok(()),
+
+    /// Warns of the panels that no keys lead to, unless an application may show them.
+    pub(crate) fn unreached(&mut self) -> Result<(), AllocError> {
+        let found = self.reached()?;
+        for panel in &found {
+            if !self.survey.texts(*panel, "asks")?.is_empty() {
+                return Ok(());
+            }
+        }
+        for panel in &self.survey.parts {
+            self.part = *panel;
+            if let Part::Panel(_) = self.part
+                && !found.is_empty()
+                && !found.contains(panel)
+            {
+                let words = "no keys lead here from the first panel";
+                self.say("", String::from_str(self.alloc, words)?)?;
+            }
+        }
+        Ok(())
     }
 }

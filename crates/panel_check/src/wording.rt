@@ -81,15 +81,13 @@ impl<'a> Nearest<'a> {
         self.found
     }
 
-    /// Adds ` (did you mean 'KNOWN'?)` if a word is near.
-    pub(crate) fn put(&self, message: &mut String) -> Result<(), AllocError> {
-        match self.found {
-            Some(known) => {
-                message.push_str(" (did you mean '")?;
-                put_cut(message, known)?;
-                message.push_str("'?)")
-            }
-            None => Ok(()),
+    /// A message, and behind it ` (did you mean 'KNOWN'?)` if a word is near.
+    pub(crate) fn behind(&self, mut message: String) -> Result<String, AllocError> {
+        if let Some(known) = self.found {
+            message.push_str(" (did you mean '")?;
+            put_cut(&mut message, known)?;
+            message.push_str("'?)")?;
         }
+        Ok(message)
     }
 }

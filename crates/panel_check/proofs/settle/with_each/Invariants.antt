@@ -1,5 +1,0 @@
-use Rattle.panel_check.specs.Listed.{AreToldTo}
-use Rattle.panel_check.proofs.settle.with_each.Given as goal
-
-abbrev pub invariant-loop-cause : goal.invariant-loop-cause
-invariant-loop-cause l = AreToldTo l.cause-index l.causes l.all.items

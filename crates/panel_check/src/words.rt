@@ -1,0 +1,369 @@
+//! What a report says of each fault, and by each warning. It finds nothing to say of a fault that merely follows from another: the
+//! key is absent of which it is, or the panel's model.
+use crate::finding::Cause;
+use crate::survey::Survey;
+use crate::wording::{Nearest, quote};
+use codes3270::from_latin1;
+use lu_pool::PoolFault;
+use panels::TreeFault::*;
+use panels::rules::{KeyKind, KeyRule, field_rules, knows_key, panel_rules, text_rules, top_rules};
+use panels::{Part, TreeFault};
+use std::alloc::{AllocError, Global};
+use tn3270e_msg::Lu;
+use toml::Table;
+
+/// What a line of a report says, and of which part.
+#[derive(Drop)]
+pub(crate) struct Remark {
+    pub part: Part,
+    pub line: usize,
+    pub message: String,
+}
+
+/// What is said so far, and the part of which more is said.
+#[derive(Drop)]
+pub(crate) struct Words<'s, 'a> {
+    pub survey: &'s Survey<'a>,
+    pub alloc: Global,
+    pub part: Part,
+    said: Vec<Remark>,
+}
+
+type Done = Result<(), AllocError>;
+
+/// The names of the keys of a terminal.
+static KEY_NAMES: [&str; 29] = [
+    "enter", "clear", "pa1", "pa2", "pa3", "pf1", "pf2", "pf3", "pf4", "pf5", "pf6", "pf7", "pf8",
+    "pf9", "pf10", "pf11", "pf12", "pf13", "pf14", "pf15", "pf16", "pf17", "pf18", "pf19", "pf20",
+    "pf21", "pf22", "pf23", "pf24",
+];
+
+/// What messages call a value of this type.
+fn kind_name(kind: KeyKind) -> &'static str {
+    match kind {
+        KeyKind::Text => "a string",
+        KeyKind::Integer => "an integer",
+        KeyKind::Truth => "true or false",
+        KeyKind::Texts => "an array of strings",
+        KeyKind::Tables => "an array of tables",
+        KeyKind::Table => "a table",
+    }
+}
+
+/// What a report says of a fault of a part, or by a warning.
+pub(crate) fn remarks_on(survey: &Survey, cause: Cause) -> Result<Vec<Remark>, AllocError> {
+    let mut words = Words {
+        survey,
+        alloc: survey.alloc,
+        part: Part::Top,
+        said: Vec::new(survey.alloc),
+    };
+    match cause {
+        Cause::NotToml | Cause::Lus(PoolFault::Memory) => {}
+        Cause::Tree(fault, part) => {
+            words.part = part;
+            words.fault(fault)?;
+        }
+        Cause::Lus(PoolFault::BadCount) => words.lu_count()?,
+        Cause::Lus(PoolFault::BadName(place) | PoolFault::Twice(place)) => words.lu(place)?,
+        Cause::TextWraps => words.wraps()?,
+        Cause::FillNotNumeric => words.strange_fills()?,
+        Cause::NoKeyLeads => words.unreached()?,
+    }
+    let Words { said, .. } = words;
+    Ok(said)
+}
+
+impl<'s, 'a> Words<'s, 'a> {
+    /// Says something of the part, at the line of one of its keys; at its own if it has no such key.
+    pub(crate) fn say(&mut self, key: &str, message: String) -> Done {
+        let (part, line) = (self.part, self.survey.line(self.part, key)?);
+        self.said.push(Remark {
+            part,
+            line,
+            message,
+        })?;
+        Ok(())
+    }
+
+    /// The text at one of the part's keys.
+    pub(crate) fn text(&self, key: &str) -> Option<&'a str> {
+        self.survey.text(self.part, key)
+    }
+
+    fn fault(&mut self, fault: TreeFault) -> Done {
+        match (fault, self.part) {
+            (UnknownKey | Missing | BadKind, part) => match self.survey.table(part) {
+                Some(table) => self.keys(table),
+                None => Ok(()),
+            },
+            (TooMany, Part::Top) => self.excess("panel", 64),
+            (TooMany, _) => {
+                self.excess("text", 256)?;
+                self.excess("field", 128)
+            }
+            (BadName, Part::Panel(_)) => self.bad_name("A-Z and 0-9"),
+            (BadName, _) => self.bad_name("a-z, 0-9 and _"),
+            (BadKey, _) => self.bad_keys(),
+            (TwiceNamed, Part::Keys(panel)) => self.asked_twice(panel),
+            (TwiceNamed, _) => self.named_twice(),
+            (BadModel, _) => self.bad_model(),
+            (OutOfPlace, _) => self.misplaced(),
+            (Overlap, _) => self.overlap(),
+            (NoCode, _) => {
+                self.no_code("text")?;
+                self.no_code("fill")
+            }
+            (NoTarget, _) => self.no_target(),
+        }
+    }
+
+    /// Says all that is wrong with the keys of a table and their values.
+    fn keys(&mut self, table: &Table) -> Done {
+        match self.part {
+            Part::Top => self.by_rules(table, top_rules()),
+            Part::Panel(_) => self.by_rules(table, panel_rules(table)),
+            Part::Text(_, _) => self.by_rules(table, text_rules(table)),
+            Part::Field(_, _) => self.by_rules(table, field_rules()),
+            Part::Keys(_) => self.key_values(table),
+        }
+    }
+
+    fn by_rules(&mut self, table: &Table, rules: &[KeyRule]) -> Done {
+        for key in table.keys() {
+            if !knows_key(rules, key.as_str()) {
+                self.unknown(key.as_str(), rules)?;
+            }
+        }
+        for rule in rules {
+            if rule.is_missing_in(table) {
+                self.missing(table, rule.key())?;
+            }
+            self.misfit(table, rule)?;
+        }
+        Ok(())
+    }
+
+    fn unknown(&mut self, key: &str, rules: &[KeyRule]) -> Done {
+        let name = quote(self.alloc, key)?;
+        let message = match (self.part, key) {
+            (Part::Text(_, _), "show" | "length") => {
+                format!(in self.alloc; "key {name} can't be used with 'text'")?
+            }
+            (Part::Panel(_), "otherwise") => {
+                format!(in self.alloc; "key {name} can be used only with 'model' 3, 4 or 5")?
+            }
+            _ => {
+                let mut nearest = Nearest::to(self.alloc, key);
+                for rule in rules {
+                    nearest.offer(rule.key())?;
+                }
+                nearest.behind(format!(in self.alloc; "unknown key {name}")?)?
+            }
+        };
+        self.say(key, message)
+    }
+
+    /// Says that a needed key is absent, or has no table in an array that must have some.
+    fn missing(&mut self, table: &Table, key: &str) -> Done {
+        let message = match (self.part, key) {
+            _ if table.contains_key(key) => format!(in self.alloc; "array '{key}' is empty")?,
+            (Part::Text(_, _), "show") => {
+                format!(in self.alloc; "missing key 'text', or 'show' with 'length'")?
+            }
+            // Said with `show`.
+            (Part::Text(_, _), "length") if !table.contains_key("show") => return Ok(()),
+            (Part::Panel(_), "otherwise") => format!(in self.alloc;
+                "missing key 'otherwise': the panel of model 2 for terminals of other models"
+            )?,
+            _ => format!(in self.alloc; "missing key '{key}'")?,
+        };
+        self.say(key, message)
+    }
+
+    /// Says that the value of a key is of another type than its rule says, if it is.
+    fn misfit(&mut self, table: &Table, rule: &KeyRule) -> Done {
+        let (key, wanted) = (rule.key(), kind_name(rule.kind()));
+        let Some(value) = table.get(key) else {
+            return Ok(());
+        };
+        if rule.kind().fits(value) {
+            return Ok(());
+        }
+        let mut message = format!(in self.alloc; "'{key}' must be {wanted}")?;
+        if !value.is_array() {
+            let found = value.type_str();
+            write!(&mut message, ", not {found}")?;
+        }
+        self.say(key, message)
+    }
+
+    /// Says which values in a panel's table of keys are no texts.
+    fn key_values(&mut self, keys: &Table) -> Done {
+        for (key, value) in keys {
+            if !value.is_str() {
+                let found = value.type_str();
+                let message = format!(in self.alloc;
+                    "a key must have the name of a panel, not {found}"
+                )?;
+                self.say(key.as_str(), message)?;
+            }
+        }
+        Ok(())
+    }
+
+    /// Says that an array has more tables than it may have, if it has.
+    fn excess(&mut self, key: &str, most: usize) -> Done {
+        let count = self.survey.count(self.part, key)?;
+        if count <= most {
+            return Ok(());
+        }
+        let message = format!(in self.alloc;
+            "{count} tables in '{key}': at most {most} are allowed"
+        )?;
+        self.say(key, message)
+    }
+
+    fn bad_name(&mut self, letters: &str) -> Done {
+        let Some(name) = self.text("name") else {
+            return Ok(());
+        };
+        let name = quote(self.alloc, name)?;
+        let message = format!(in self.alloc; "bad name {name}: a name has 1 to 16 of {letters}")?;
+        self.say("name", message)
+    }
+
+    fn named_twice(&mut self) -> Done {
+        let Some(name) = self.text("name") else {
+            return Ok(());
+        };
+        let is_panel = matches!(self.part, Part::Panel(_));
+        for part in &self.survey.parts {
+            if self.survey.name(*part) == name
+                && matches!(*part, Part::Panel(_)) == is_panel
+                && !matches!(*part, Part::Text(_, _))
+            {
+                let line = self.survey.line(*part, "name")?;
+                let name = quote(self.alloc, name)?;
+                let message = format!(in self.alloc; "name {name} is already used in line {line}")?;
+                return self.say("name", message);
+            }
+        }
+        Ok(())
+    }
+
+    /// Says which names in a panel's `keys` and `asks` are of no key that may be there.
+    fn bad_keys(&mut self) -> Done {
+        if let Some(keys) = self.survey.table(self.part) {
+            for key in keys.keys() {
+                self.no_key(key.as_str(), key.as_str())?;
+            }
+        }
+        let Part::Keys(panel) = self.part else {
+            return Ok(());
+        };
+        self.part = Part::Panel(panel);
+        for name in self.survey.texts(self.part, "asks")? {
+            if name == "clear" {
+                let words = "'clear' leaves no fields to ask about";
+                self.say("asks", String::from_str(self.alloc, words)?)?;
+            }
+            self.no_key("asks", name)?;
+        }
+        Ok(())
+    }
+
+    /// Says, at a key of a table, that a name is of no key of a terminal, if it is of none.
+    fn no_key(&mut self, key: &str, name: &str) -> Done {
+        if KEY_NAMES.iter().any(|known| *known == name) {
+            return Ok(());
+        }
+        let mut nearest = Nearest::to(self.alloc, name);
+        for known in &KEY_NAMES {
+            nearest.offer(*known)?;
+        }
+        let name = quote(self.alloc, name)?;
+        let message = nearest.behind(format!(in self.alloc; "no key is named {name}")?)?;
+        self.say(key, message)
+    }
+
+    /// Says which keys a panel asks about twice, or has in `keys`, too.
+    fn asked_twice(&mut self, panel: usize) -> Done {
+        let mut seen = Vec::new(self.alloc);
+        self.part = Part::Panel(panel);
+        for name in self.survey.texts(self.part, "asks")? {
+            let quoted = quote(self.alloc, name)?;
+            if seen.contains(&name) {
+                let message = format!(in self.alloc; "key {quoted} is named twice")?;
+                self.say("asks", message)?;
+            }
+            seen.push(name)?;
+            if self.survey.text(Part::Keys(panel), name).is_some() {
+                let message = format!(in self.alloc;
+                    "key {quoted} leads to a panel in 'keys', too"
+                )?;
+                self.say("asks", message)?;
+            }
+        }
+        Ok(())
+    }
+
+    fn bad_model(&mut self) -> Done {
+        let Some(number) = self.survey.integer(self.part, "model") else {
+            return Ok(());
+        };
+        let message = format!(in self.alloc; "'model' must be 2, 3, 4 or 5, not {number}")?;
+        self.say("model", message)
+    }
+
+    /// Says which character of a text is the first that has no code, if one has none.
+    fn no_code(&mut self, key: &str) -> Done {
+        let text = self.text(key).unwrap_or("");
+        let Some(character) = text.chars().find(|letter| from_latin1(*letter).is_none()) else {
+            return Ok(());
+        };
+        let number = u32::from(character);
+        let mut message = format!(in self.alloc; "code page 037 has no character ")?;
+        if '\u{a0}' <= character {
+            write!(&mut message, "'{character}', ")?;
+        }
+        write!(&mut message, "U+{number:04X}")?;
+        self.say(key, message)
+    }
+
+    /// Says how many LUs there are, if there is a list of them.
+    fn lu_count(&mut self) -> Done {
+        let lus = self.survey.table(Part::Top).and_then(|top| top.get("lus"));
+        if !lus.is_some_and(|value| value.is_array()) {
+            return Ok(());
+        }
+        let count = self.survey.texts(Part::Top, "lus")?.len();
+        let message = format!(in self.alloc; "{count} LUs: there must be 1 to 64")?;
+        self.say("lus", message)
+    }
+
+    /// Says what is wrong with the name of an LU: it is of none, or of one that is listed before.
+    fn lu(&mut self, place: usize) -> Done {
+        let lus = self.survey.texts(Part::Top, "lus")?;
+        let Some(name) = lus.get(place).copied() else {
+            return Ok(());
+        };
+        let quoted = quote(self.alloc, name)?;
+        let lu = Lu::read(name.as_bytes());
+        let first = lus
+            .iter()
+            .position(|other| Lu::read(other.as_bytes()) == lu);
+        let message = match (lu, first) {
+            (Some(_), Some(first)) => {
+                let key = format!(in self.alloc; "lus'{first}")?;
+                let line = self.survey.line(Part::Top, key.as_str())?;
+                format!(in self.alloc; "LU {quoted} is already listed in line {line}")?
+            }
+            _ => format!(in self.alloc;
+                "bad LU name {quoted}: 1 to 8 of A-Z, 0-9, @, # and $, the first no digit"
+            )?,
+        };
+        let key = format!(in self.alloc; "lus'{place}")?;
+        self.say(key.as_str(), message)
+    }
+}
