@@ -9,7 +9,8 @@ use Rattle.service_events.specs.Notices.{ending_of, is_shown}
 use Rattle.service_events.specs.declared.notice.Ending.{Ending}
 use Rattle.service_events.specs.declared.notice.Notice.{Notice}
 use Rattle.socket_links.specs.Sockets.{Sockets, slot_at, with_slot, with_waiting}
-use Rattle.service.specs.ConnectionInfos.{with_turn}
+use Rattle.service.specs.ConnectionInfos.{with_turn, with_turn_at}
+use Rattle.service.specs.HostAnswers.{core_answered}
 use Rattle.service.specs.NumberTurns.{core_reported, end_in_turn, ended, ending_after, info_after, shows, was_bound, with_unsent}
 use Rattle.service.specs.Watching.{Event, HearsEach, if_any}
 use Rattle.service.specs.declared.connection_info.ConnectionInfo.{ConnectionInfo}
@@ -42,6 +43,14 @@ module _ {S : Type 0} where
       → infos ≡ infos_are → record old { host = host; sockets = sockets; infos = infos } ≡ record old { host = host_is; sockets = sockets; infos = infos_are }
   core_is old host host_is sockets infos infos_are h i =
       ap (λ it. record old { host = it; sockets = sockets; infos = infos }) h ∙ ap (λ it. record old { host = host_is; sockets = sockets; infos = it }) i
+
+  -- the server once its host took an answer, by what the calls answered
+  pub answered_is : (conn : ℕ) (old : ServerCore S) (host : Host) (infos : List (Option ConnectionInfo)) (shown bound : Bool)
+      → infos ≡ with_turn_at conn (shown && bound) old.infos → shown ≡ shows conn old.host host → bound ≡ was_bound conn old.host
+      → record old { host = host; infos = infos } ≡ core_answered conn old host
+  answered_is conn old host infos shown bound e is was =
+      ap (λ it. record old { host = host; infos = it })
+      (e ∙ ap (λ it. with_turn_at conn (it && bound) old.infos) is ∙ ap (λ it. with_turn_at conn (shows conn old.host host && it) old.infos) was)
 
   pub unsent_is : (conn : ℕ) (old : ServerCore S) (out : List ℕ) (sockets : Sockets S)
       → sockets ≡ with_slot conn (with_waiting (length out) (slot_at conn old.sockets)) old.sockets → out ≡ (connection_at conn old.host).out

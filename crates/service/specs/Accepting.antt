@@ -48,8 +48,8 @@ module _ {S : Type 0} where
   }
 
 module _ {S W : Type 0} (noticed : W → Notice → Result Unit Fault → W → Type 0) (showed : W → Host → ℕ → Result Unit Fault → W → Type 0) where
-  -- What is accepted gets the least free number, and the watcher is told that it connected. If no number is free, the socket is dropped,
-  -- and the watcher is told that it was turned away. If memory is refused nothing has changed, but that the socket is dropped.
+  -- What is accepted gets the least free number, and the watcher hears that it connected. If no number is free, the socket is dropped,
+  -- and the watcher hears that it was turned away. If memory is refused nothing has changed, but that the socket is dropped.
   pub data Admits (accepted : Accepted S) (old : ServerCore S) (watcher : W) (answer : Result Unit Fault) (new : ServerCore S) (after : W) : Type 0 where
     turned_away : AreTaken most_connections old.host → new ≡ old → Told noticed showed (Noticed (notice.TurnedAway accepted.peer) ∷ []) watcher answer after
         → Admits accepted old watcher answer new after
@@ -59,7 +59,7 @@ module _ {S W : Type 0} (noticed : W → Notice → Result Unit Fault → W → 
         → Admits accepted old watcher answer new after
 
   module _ {L : Type 0} (gave : L → Option (Accepted S) → L → Type 0) where
-    -- the listener gave so many connections, and each was admitted, one after another
+    -- the listener gave a number of connections, and each was admitted, one after another
     unfoldable pub AdmitsSome : (count : ℕ) → Door L S W → Door L S W → Type 0
     AdmitsSome zero old new = new ≡ old
     AdmitsSome (suc count) old new = (mid : Door L S W) × (accepted : Accepted S) × AdmitsSome count old mid

@@ -4,6 +4,7 @@ pub mod Watching
 pub mod Visits
 pub mod Accepting
 pub mod NumberTurns
+pub mod HostAnswers
 pub mod TimeTurns
 pub mod ServerTurns
 pub mod ServiceTurns

@@ -76,7 +76,7 @@ module _ {S : Type 0} where
   abbrev pub open_at : ℕ → ServerCore S → Option ConnectionInfo
   open_at conn core = if is_connected (slot_at conn core.sockets) then slice_index_or core.infos conn None else None
 
-  -- the sockets, told how many bytes wait to be sent on a connection
+  -- the sockets, with the number of bytes that wait to be sent on a connection
   abbrev pub with_unsent : ℕ → ServerCore S → Sockets S
   with_unsent conn core = with_slot conn (with_waiting (length (connection_at conn core.host).out) (slot_at conn core.sockets)) core.sockets
 
@@ -89,7 +89,7 @@ module _ {S : Type 0} where
   given_back_if None conn core = core
   given_back_if (Some ending) conn core = given_back conn core
 
-  -- the watcher is told that a connection is over, why, and what it took
+  -- the watcher hears that a connection is over, why, and what it took
   abbrev pub ended : ℕ → (bound : Bool) → ConnectionInfo → ServerCore S → Ending → Event
   ended conn bound info core ending = Noticed (notice.Ended info.client ending (usage_of core.now bound (slot_at conn core.sockets).sent (slot_at conn core.sockets).received info))
 
@@ -119,7 +119,7 @@ module _ {S : Type 0} where
   core_reported conn info old host sockets =
       record old { host = reported conn host; sockets = sockets; infos = slice_set old.infos conn (Some (info_after conn old.host host info)) }
 
-  -- that the connection is over is told last
+  -- the watcher hears last that the connection is over
   abbrev pub end_in_turn : ℕ → ConnectionInfo → (old : ServerCore S) → Served → Host → Sockets S → List Event
   end_in_turn conn info old answer host sockets =
       if_any (ended conn (was_bound conn old.host) (info_after conn old.host host info) (core_reported conn info old host sockets)) (ending_after conn answer host)
@@ -131,7 +131,7 @@ module _ {S W : Type 0} (gave : S → ℕ → List ℕ → Result ℕ Error → 
   IsServed conn old answer host sockets = Serves (GivesAt gave) (TakesAt took) conn old.host (with_unsent conn old) answer host sockets
 
   -- A connection is served once. What happened is handed to the watcher, each event once and in order. If the connection is over it is
-  -- given back, and the watcher is told so.
+  -- given back, and the watcher hears so.
   pub record ServesNumber (conn : ℕ) (info : ConnectionInfo) (old : ServerCore S) (watcher : W) (acted : Bool) (new : ServerCore S) (after : W) : Type 0 where
     pub answer : Served
     pub host : Host
@@ -142,8 +142,8 @@ module _ {S W : Type 0} (gave : S → ℕ → List ℕ → Result ℕ Error → 
     pub hears : HearsEach noticed showed (reports_in_turn conn old.host host info.client ++ end_in_turn conn info old answer host sockets) watcher after
     pub becomes : new ≡ given_back_if (ending_after conn answer host) conn (core_reported conn info old host sockets)
 
-  -- How that breaks off: memory was refused while the host served the connection, and nothing is told; or the watcher failed. What was
-  -- done before stands.
+  -- How that breaks off: memory was refused while the host served the connection, and the watcher hears nothing; or the watcher failed.
+  -- What was done before isn't undone.
   pub data BreaksOffAt (conn : ℕ) (info : ConnectionInfo) (old : ServerCore S) (watcher : W) (why : Fault) (new : ServerCore S) (after : W) : Type 0 where
     starved : (host : Host) (sockets : Sockets S) → IsServed conn old served.Memory host sockets → why ≡ fault.NoMemory
         → new ≡ record old { host = host; sockets = sockets } → after ≡ watcher → BreaksOffAt conn info old watcher why new after

@@ -1,14 +1,27 @@
 -- A turn of a server (our profile): what waits is accepted, and each connection is served once.
-use Rattle.std.specs.Prelude.{◌≡◌, ◌||◌, ℕ, Bool, false, List, Option, Result, Ok, Err}
+use Rattle.std.specs.Prelude.{◌≡◌, ◌||◌, ℕ, Bool, false, List, Option, None, Result, Ok, Err, replicate}
 use Rattle.std.specs.declared.io.Error.{Error}
-use Rattle.host_core.specs.State.{Host}
+use Rattle.host_core.specs.State.{Host, most_connections}
 use Rattle.job_streams.specs.declared.fault.Fault.{Fault}
+use Rattle.job_streams.specs.declared.fault.Fault.TheVariants as fault
 use Rattle.service_events.specs.declared.notice.Notice.{Notice}
-use Rattle.service.specs.Accepting.{AdmitsAll, Door, most_accepted}
+use Rattle.socket_links.specs.Sockets.{new_sockets}
+use Rattle.service.specs.Accepting.{AdmitsAll, Door, door, most_accepted}
 use Rattle.service.specs.NumberTurns.{ServesAt}
 use Rattle.service.specs.Visits.{VisitsEach}
 use Rattle.service.specs.declared.accepting.Accepted.{Accepted}
 use Rattle.service.specs.declared.server_core.ServerCore.{ServerCore}
+
+-- the server of a new host: nobody is connected. `boot`: the first part of the names of its sessions
+abbrev pub new_core : {S : Type 0} → Host → (boot : ℕ) → ServerCore S
+new_core host boot = record {
+  host = host;
+  sockets = new_sockets;
+  infos = replicate most_connections None;
+  next_session = record { boot = boot; number = 0 };
+  now = 0;
+  applied = 0;
+}
 
 module _ {S W L : Type 0} (gave : S → ℕ → List ℕ → Result ℕ Error → S → Type 0) (took : S → List ℕ → Result ℕ Error → S → Type 0)
     (noticed : W → Notice → Result Unit Fault → W → Type 0) (showed : W → Host → ℕ → Result Unit Fault → W → Type 0)
@@ -35,7 +48,7 @@ module _ {S W L : Type 0} (gave : S → ℕ → List ℕ → Result ℕ Error �
     pub becomes : new.core ≡ not_moved served
     pub did_is : did ≡ (served.sockets.moved || acted)
 
-  -- a turn ends at the first fault, and what was done before stands
+  -- a turn ends at the first fault, and what was done before isn't undone
   pub data BrokenTurn (old : Door L S W) (why : Fault) (new : Door L S W) : Type 0 where
     accepting : Accepts old (Err why) new → BrokenTurn old why new
     serving : (accepted : Door L S W) → Accepts old (Ok tt) accepted → ServesEach accepted.core accepted.watcher (Err why) new.core new.watcher
@@ -44,3 +57,14 @@ module _ {S W L : Type 0} (gave : S → ℕ → List ℕ → Result ℕ Error �
   abbrev pub TakesTurn : Door L S W → Result Bool Fault → Door L S W → Type 0
   TakesTurn old (Ok did) new = WholeTurn old did new
   TakesTurn old (Err why) new = BrokenTurn old why new
+
+  -- ---- at a listener of the system, of which nothing is known but what it hands over
+
+  -- all connections that wait at the listener are accepted
+  abbrev pub AcceptsWaiting : ServerCore S → W → Result Unit Fault → ServerCore S → W → Type 0
+  AcceptsWaiting old watcher answer new after = (before later : L) × Accepts (door before old watcher) answer (door later new after)
+
+  -- The server waits until a socket is ready or the time is up, and takes a turn. If it can't wait, nothing else is done.
+  pub data PollsAndServes (old : ServerCore S) (watcher : W) (answer : Result Bool Fault) (new : ServerCore S) (after : W) : Type 0 where
+    poll_failed : answer ≡ Err fault.SocketFailed → new ≡ old → after ≡ watcher → PollsAndServes old watcher answer new after
+    polled : (before later : L) → TakesTurn (door before old watcher) answer (door later new after) → PollsAndServes old watcher answer new after

@@ -59,7 +59,7 @@ module _ {S : Type 0} where
   sends_nop conn core = may_keep_alive (connection_at conn core.host)
 
 module _ {S W : Type 0} (noticed : W → Notice → Result Unit Fault → W → Type 0) (showed : W → Host → ℕ → Result Unit Fault → W → Type 0) where
-  -- What is due on a connection is done, and nothing else: it is given back, and the watcher is told so; or IAC NOP is sent.
+  -- What is due on a connection is done, and nothing else: it is given back, and the watcher hears so; or IAC NOP is sent.
   abbrev pub DoesDue : Due → ℕ → ConnectionInfo → ServerCore S → W → Result Bool Fault → ServerCore S → W → Type 0
   DoesDue (due_now.Disconnect overdue) conn info old watcher answer new after =
       Told noticed showed (ended conn (was_bound conn old.host) info old (ending.Dropped overdue) ∷ []) watcher (done answer) after

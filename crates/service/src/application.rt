@@ -38,19 +38,20 @@ struct Watched<'a, N, W> {
 }
 
 impl<N: Net, W: Watcher> AskingServer for Watched<'_, N, W> {
-    ghost use Rattle.std.specs.Prelude.{⊤};
+    ghost use Rattle.std.specs.Prelude.{◌≡◌};
+    ghost use Rattle.service.specs.HostAnswers.{AsksHost, HandsAnswer};
 
     type Stream = TcpStream;
 
-    ghost served = { λ _ _. ⊤ };
+    ghost served = { λ old panels. panels ≡ old.server.now.host.panels };
 
-    ghost asked = { λ _ _ _. ⊤ };
+    ghost asked = { λ old conn answer. AsksHost conn old.server.now.host answer };
 
-    ghost answered = { λ _ _ _ _ _ _. ⊤ };
+    ghost answered = { λ old conn ticket answer result new. HandsAnswer W.noticed W.showed conn ticket answer old.server.now old.watcher.now result new.server.now new.watcher.now };
 
-    ghost reported = { λ _ _ _ _ _. ⊤ };
+    ghost reported = { λ old _ _ _ new. new.server.now ≡ old.server.now };
 
-    ghost noted = { λ _ _ _ _ _. ⊤ };
+    ghost noted = { λ old _ _ _ new. new.server.now ≡ old.server.now };
 
     fn panels(&self) -> &PanelSet {
         self.server.panels()

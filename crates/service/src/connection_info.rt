@@ -1,7 +1,7 @@
 //! What a server knows of the connections of its host.
-ghost use Rattle.std.specs.Prelude.{◌≡◌, ◌<◌, IfOk, None, Some, length, replicate, slice_index_or, slice_set};
+ghost use Rattle.std.specs.Prelude.{◌≡◌, ◌<◌, IfOk, None, Some, length, option_map, replicate, slice_index_or, slice_set};
 ghost use Rattle.host_core.specs.State.{most_connections};
-ghost use Rattle.service.specs.ConnectionInfos.{new_info, usage_of, with_turn};
+ghost use Rattle.service.specs.ConnectionInfos.{new_info, usage_of, with_turn, with_turn_at};
 
 use host_core::MOST_CONNECTIONS;
 use service_events::{Activity, Client, Usage};
@@ -78,6 +78,16 @@ impl Model for ConnectionInfos {
     ghost invariant = { λ infos. length infos.infos.items ≡ most_connections };
 }
 
+/// What is known of a number, with a screen more if it is counted.
+fn counted_in(info: Option<ConnectionInfo>, counted: bool) -> Option<ConnectionInfo>
+    ensures { result ≡ option_map (with_turn counted) info }
+{
+    match info {
+        Some(info) => Some(info.with_turn(counted)),
+        None => None,
+    }
+}
+
 /// 64 numbers that had no connection.
 fn no_infos(alloc: Global) -> Result<Vec<Option<ConnectionInfo>>, AllocError>
     ensures { IfOk result (λ infos. infos.items ≡ replicate most_connections None) }
@@ -113,5 +123,13 @@ impl ConnectionInfos {
         ensures { self.new ≡ slice_set self.old conn (Some info) }
     {
         self.infos[conn] = Some(info);
+    }
+
+    /// Counts a screen that was shown on a number's last connection, if it is counted. Nothing if the number never had one.
+    pub(crate) fn count_turn(&mut self, conn: usize, counted: bool)
+        requires { conn < most_connections }
+        ensures { self.new ≡ with_turn_at conn counted self.old }
+    {
+        self.infos[conn] = counted_in(self.at(conn), counted);
     }
 }

@@ -48,6 +48,12 @@ impl<C: Clock, E: Sink> Watcher for Log<'_, C, E> {
 
     ghost showed = { λ _ _ _ _ _. Unit {0} };
 
+    ghost reported = { λ _ _ _ _ _. Unit {0} };
+
+    ghost noted = { λ _ _ _ _ _. Unit {0} };
+
+    ghost ended_turn = { λ _ _ _ _ _. Unit {0} };
+
     fn notice(&mut self, notice: &Notice) -> Result<(), Fault> {
         if self.quiet {
             return Ok(());

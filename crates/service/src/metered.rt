@@ -65,6 +65,12 @@ impl<W: Watcher> Watcher for Metered<'_, W> {
 
     ghost showed = { λ old host conn answer new. W.showed old.watcher.now host conn answer new.watcher.now };
 
+    ghost reported = { λ old client fault answer new. W.reported old.watcher.now client fault answer new.watcher.now × (new.metrics ≡ old.metrics) };
+
+    ghost noted = { λ old client replaced answer new. W.noted old.watcher.now client replaced answer new.watcher.now × (new.metrics ≡ old.metrics) };
+
+    ghost ended_turn = { λ old _ _ _ new. (new.watcher ≡ old.watcher) × (new.metrics ≡ old.metrics) };
+
     fn notice(&mut self, notice: &Notice) -> Result<(), Fault> {
         self.metrics.count(notice);
         self.watcher.notice(notice)

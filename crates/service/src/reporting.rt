@@ -58,7 +58,7 @@ fn report_if<W: Watcher>(notice: Option<Notice>, watcher: &mut W) -> Result<(), 
 }
 
 /// Tells the watcher if the host showed a screen on a connection.
-fn report_screen<W: Watcher>(
+pub(crate) fn report_screen<W: Watcher>(
     host: &Host,
     conn: usize,
     shown: bool,

@@ -1,19 +1,24 @@
 //! Serves a host over sockets, one turn at a time.
-ghost use Rattle.std.specs.Prelude.{◌<◌};
+ghost use Rattle.std.specs.Prelude.{◌≡◌, ◌<◌, IfOk};
 ghost use Rattle.host_core.specs.State.{most_connections};
+ghost use Rattle.socket_links.specs.Sockets.{is_connected, slot_at};
+ghost use Rattle.service.specs.HostAnswers.{AsksHost, HandsAnswer, usage_at};
+ghost use Rattle.service.specs.ServerTurns.{AcceptsWaiting, PollsAndServes, new_core};
+ghost use Rattle.service.specs.TimeTurns.{KeepsTime};
 
 use crate::accepting::{Accepted, Listener};
 use crate::server_core::ServerCore;
 use crate::watcher::Watcher;
 use applications::{ApplicationFault, Replaced};
 use host_core::{Acted, Answer, Host, MOST_CONNECTIONS, PanelSet, Question, Ticket};
-use job_streams::Fault;
+use job_streams::{Fault, RawRead, RawWrite};
 use jobs::TimeLimits;
 use mio::net::{TcpListener, TcpStream};
 use mio::{Events, Interest, Poll, Token};
 use service_events::{Client, Usage};
 use std::alloc::Global;
 use std::io;
+use std::marker::Model;
 use std::net::{Net, SocketAddr};
 use std::time::Duration;
 
@@ -26,7 +31,8 @@ const LISTENER: Token = Token(MOST_CONNECTIONS);
 /// The poll token of all connections.
 const CONNECTION: usize = 0;
 
-/// A server, and the listener and the poll by which it is served.
+/// A server, and the listener and the poll by which it is served. Contracts see the server alone: of the others they know only what
+/// these hand over.
 #[derive(Drop)]
 pub struct Server {
     core: ServerCore<TcpStream>,
@@ -35,9 +41,18 @@ pub struct Server {
     events: Events,
 }
 
+impl Model for Server {
+    ghost use Rattle.mio.specs.declared.net.stream.TcpStream.{TcpStream};
+    ghost use Rattle.service.specs.declared.server_core.ServerCore.{ServerCore};
+
+    ghost Value = { ServerCore TcpStream };
+
+    ghost view = { λ server. server.core };
+}
+
 /// The listener of a server, and the poll that waits for what it accepts.
 #[derive(Drop)]
-struct PolledListener<'a> {
+pub(crate) struct PolledListener<'a> {
     listener: &'a TcpListener,
     poll: &'a Poll,
 }
@@ -80,7 +95,9 @@ impl Server {
         host: Host,
         boot: u64,
         address: SocketAddr,
-    ) -> Result<Server, Fault> {
+    ) -> Result<Server, Fault>
+        ensures { IfOk result (λ server. server ≡ new_core host boot) }
+    {
         let Ok(core) = ServerCore::new(alloc, host, boot) else {
             return Err(Fault::NoMemory);
         };
@@ -126,28 +143,37 @@ impl Server {
     }
 
     /// The server's time, in milliseconds.
-    pub(crate) fn now(&self) -> u64 {
+    pub(crate) fn now(&self) -> u64
+        ensures { result ≡ self.now.now }
+    {
         self.core.now
     }
 
     /// The first part of the names of its sessions.
-    pub(crate) fn boot(&self) -> u64 {
+    pub(crate) fn boot(&self) -> u64
+        ensures { result ≡ self.now.next_session.boot }
+    {
         self.core.next_session.boot
     }
 
     /// The host.
-    pub fn host(&self) -> &Host {
+    pub fn host(&self) -> &Host
+        ensures { result.now ≡ self.now.host }
+    {
         &self.core.host
     }
 
     /// What the host serves.
-    pub fn panels(&self) -> &PanelSet {
+    pub fn panels(&self) -> &PanelSet
+        ensures { result.now ≡ self.now.host.panels }
+    {
         self.core.host.panels()
     }
 
     /// Whether a number has a connection.
     pub(crate) fn is_connected(&self, conn: usize) -> bool
         requires { conn < most_connections }
+        ensures { result ≡ is_connected (slot_at conn self.now.sockets) }
     {
         self.core.sockets.is_connected(conn)
     }
@@ -155,6 +181,7 @@ impl Server {
     /// The question that is open on a connection, if one is. NoMemory if memory is refused.
     pub(crate) fn question(&self, conn: usize) -> Result<Option<Question>, Fault>
         requires { conn < most_connections }
+        ensures { AsksHost conn self.now.host result }
     {
         match self.core.host.question(conn) {
             Ok(question) => Ok(question),
@@ -171,6 +198,7 @@ impl Server {
         watcher: &mut W,
     ) -> Result<Acted, Fault>
         requires { conn < most_connections }
+        ensures { HandsAnswer W.noticed W.showed conn ticket answer.now self.old watcher.old result self.new watcher.new }
     {
         self.core.answer(conn, ticket, answer, watcher)
     }
@@ -213,6 +241,7 @@ impl Server {
     /// What an open connection took so far; None if the number has no connection.
     pub(crate) fn usage(&self, conn: usize) -> Option<Usage>
         requires { conn < most_connections }
+        ensures { result ≡ usage_at conn self.now }
     {
         self.core.usage(conn)
     }
@@ -220,7 +249,10 @@ impl Server {
     /// One turn: polls for at most `patience`, accepts all waiting connections, and serves each connection once. Answers whether a
     /// byte was read or written, or the host acted. NoMemory if memory is refused; SocketFailed if the poll fails; and any fault
     /// of the watcher.
-    pub fn turn<W: Watcher>(&mut self, patience: Duration, watcher: &mut W) -> Result<bool, Fault> {
+    pub fn turn<W: Watcher>(&mut self, patience: Duration, watcher: &mut W) -> Result<bool, Fault>
+        ensures { PollsAndServes ⟦<TcpStream as RawRead>⟧.read_gave ⟦<TcpStream as RawWrite>⟧.write_took W.noticed W.showed
+            ⟦<PolledListener<'static> as Listener<TcpStream>>⟧.gave self.old watcher.old result self.new watcher.new }
+    {
         if self.poll.poll(&mut self.events, Some(patience)).is_err() {
             return Err(Fault::SocketFailed);
         }
@@ -232,7 +264,10 @@ impl Server {
     }
 
     /// Accepts all waiting connections. A connection that the system can't accept now waits on.
-    pub fn accept_all<W: Watcher>(&mut self, watcher: &mut W) -> Result<(), Fault> {
+    pub fn accept_all<W: Watcher>(&mut self, watcher: &mut W) -> Result<(), Fault>
+        ensures { AcceptsWaiting ⟦<TcpStream as RawRead>⟧.read_gave ⟦<TcpStream as RawWrite>⟧.write_took W.noticed W.showed
+            ⟦<PolledListener<'static> as Listener<TcpStream>>⟧.gave self.old watcher.old result self.new watcher.new }
+    {
         let mut listener = PolledListener {
             listener: &self.listener,
             poll: &self.poll,
@@ -247,7 +282,9 @@ impl Server {
         moved: bool,
         limits: &TimeLimits,
         watcher: &mut W,
-    ) -> Result<bool, Fault> {
+    ) -> Result<bool, Fault>
+        ensures { KeepsTime W.noticed W.showed limits.now now moved self.old watcher.old result self.new watcher.new }
+    {
         self.core.keep_time(now, moved, limits, watcher)
     }
 }

@@ -1,18 +1,19 @@
 //! A server without its listener and its poll: the host, its connections, and the server's time.
-ghost use Rattle.std.specs.Prelude.{◌≡◌, ◌<◌, ◌∷◌, [], IfNone, IfSome};
+ghost use Rattle.std.specs.Prelude.{◌≡◌, ◌<◌, ◌∷◌, [], IfNone, IfOk, IfSome};
 ghost use Rattle.host_core.specs.State.{most_connections};
 ghost use Rattle.service_events.specs.Notices.{is_bound, is_new, is_shown};
 ghost use Rattle.socket_links.specs.Sockets.{AreTaken};
 ghost use Rattle.service.specs.Accepting.{Admits, AdmitsAll, IsLeastFree, door, most_accepted};
+ghost use Rattle.service.specs.HostAnswers.{HandsAnswer, usage_at};
 ghost use Rattle.service.specs.NumberTurns.{ServesAt, ServesIfOpen, ended, given_back, open_at};
-ghost use Rattle.service.specs.ServerTurns.{TakesTurn};
+ghost use Rattle.service.specs.ServerTurns.{TakesTurn, new_core};
 ghost use Rattle.service.specs.TimeTurns.{AppliesAt, AppliesIfOpen, KeepsTime, nop_sent, sends_nop};
 ghost use Rattle.service.specs.Visits.{VisitsEach};
 ghost use Rattle.service.specs.Watching.{Told};
 
 use crate::accepting::{Accepted, Listener};
 use crate::connection_info::{ConnectionInfo, ConnectionInfos};
-use crate::reporting::report;
+use crate::reporting::{report, report_screen};
 use crate::watcher::Watcher;
 use applications::SessionName;
 use host_core::{Acted, Answer, Host, MOST_CONNECTIONS, Phase, Served, Ticket, Turn, serve_turn};
@@ -86,11 +87,15 @@ pub(crate) fn is_bound(phase: &Phase) -> bool
 
 impl<S: RawRead + RawWrite + Drop> ServerCore<S> {
     /// A server of a new host. `boot`: the first part of the names of its sessions. An error if memory is refused.
-    pub(crate) fn new(alloc: Global, host: Host, boot: u64) -> Result<ServerCore<S>, AllocError> {
+    pub(crate) fn new(alloc: Global, host: Host, boot: u64) -> Result<ServerCore<S>, AllocError>
+        ensures { IfOk result (λ core. core ≡ new_core host boot) }
+    {
+        let sockets = Sockets::new(alloc)?;
+        let infos = ConnectionInfos::new(alloc)?;
         Ok(ServerCore {
             host,
-            sockets: Sockets::new(alloc)?,
-            infos: ConnectionInfos::new(alloc)?,
+            sockets,
+            infos,
             next_session: SessionName { boot, number: 0 },
             now: 0,
             applied: 0,
@@ -139,6 +144,7 @@ impl<S: RawRead + RawWrite + Drop> ServerCore<S> {
         }
         Ok(())
     }
+
     /// What is known of a connection that is open.
     pub(crate) fn open_info(&self, conn: usize) -> Option<ConnectionInfo>
         requires { conn < most_connections }
@@ -250,22 +256,21 @@ impl<S: RawRead + RawWrite + Drop> ServerCore<S> {
         watcher: &mut W,
     ) -> Result<Acted, Fault>
         requires { conn < most_connections }
+        ensures { HandsAnswer W.noticed W.showed conn ticket answer.now self.old watcher.old result self.new watcher.new }
     {
-        let was_bound = is_bound(&self.host.phase(conn));
+        let bound = is_bound(&self.host.phase(conn));
         let pending = self.host.pending(conn);
         let acted = self.host.answer(conn, ticket, answer);
-        if is_shown(pending, self.host.pending(conn), self.host.turn(conn)) {
-            if let Some(info) = self.infos.at(conn) {
-                self.infos.set(conn, info.with_turn(was_bound));
-            }
-            watcher.shown(&self.host, conn)?;
-        }
+        let shown = is_shown(pending, self.host.pending(conn), self.host.turn(conn));
+        self.infos.count_turn(conn, shown & bound);
+        report_screen(&self.host, conn, shown, watcher)?;
         Ok(acted)
     }
 
     /// What an open connection took so far; None if the number has no connection.
     pub(crate) fn usage(&self, conn: usize) -> Option<Usage>
         requires { conn < most_connections }
+        ensures { result ≡ usage_at conn self.entry.now }
     {
         let info = self.open_info(conn)?;
         let bound = is_bound(&self.host.phase(conn));

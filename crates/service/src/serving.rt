@@ -2,18 +2,20 @@
 ghost use Rattle.std.specs.Iterator.{IsFinite};
 ghost use Rattle.std.specs.Prelude.{◌≡◌};
 
+use crate::accepting::Listener;
 use crate::application::Application;
 use crate::log::Log;
 use crate::metered::Metered;
-use crate::server::Server;
+use crate::server::{PolledListener, Server};
 use crate::service_turn::{TurnParts, take_turns};
 use crate::uptime::Uptime;
 use crate::watcher::{Unwatched, Watcher};
 use application_http::{Endpoint, EndpointFault};
 use applications::{Refusing, draw_boot, first_asked, host_of, refuse_asking};
 use host_core::{Host, Terminals};
-use job_streams::{Fault, Sink, Source, end_by, read_whole};
+use job_streams::{Fault, RawRead, RawWrite, Sink, Source, end_by, read_whole};
 use jobs::{ApplicationChoice, Port, Service, ServicePort, TimeLimits, Turns};
+use mio::net::TcpStream;
 use service_events::Notice;
 use socket_links::patience;
 use std::alloc::Global;
@@ -149,7 +151,9 @@ impl Serving {
     }
 
     /// Lets the watcher do what it has to at this time, in milliseconds. Answers whether something was done.
-    fn tell<W: Watcher>(&self, now: u64, watcher: &mut W) -> bool {
+    fn tell<W: Watcher>(&self, now: u64, watcher: &mut W) -> bool
+        ensures { W.ended_turn watcher.old self.now.server now result watcher.new }
+    {
         watcher.turned(&self.server, now)
     }
 
@@ -210,15 +214,22 @@ struct Shift<'a, R, W> {
 }
 
 impl<R: Net + Clock, W: Watcher> TurnParts for Shift<'_, R, W> {
+    ghost use Rattle.service.specs.ServerTurns.{PollsAndServes};
+    ghost use Rattle.service.specs.TimeTurns.{KeepsTime};
     ghost use Rattle.service.specs.Uptimes.{IsRead};
 
-    ghost served = { λ old _ _ new. new.uptime ≡ old.uptime };
+    ghost served = { λ old _ answer new. PollsAndServes ⟦<TcpStream as RawRead>⟧.read_gave ⟦<TcpStream as RawWrite>⟧.write_took W.noticed W.showed
+        ⟦<PolledListener<'static> as Listener<TcpStream>>⟧.gave old.serving.now.server old.watcher.now answer new.serving.now.server new.watcher.now
+        × (new.uptime ≡ old.uptime) × (new.limits ≡ old.limits) × (new.serving.now.application ≡ old.serving.now.application) };
 
-    ghost timed = { λ old _ _ new. IsRead old.uptime new.uptime };
+    ghost timed = { λ old moved answer new. IsRead old.uptime new.uptime
+        × KeepsTime W.noticed W.showed old.limits.now new.uptime.millis moved old.serving.now.server old.watcher.now answer new.serving.now.server new.watcher.now
+        × (new.limits ≡ old.limits) × (new.serving.now.application ≡ old.serving.now.application) };
 
-    ghost consulted = { λ old _ new. new.uptime ≡ old.uptime };
+    ghost consulted = { λ old _ new. (new.uptime ≡ old.uptime) × (new.limits ≡ old.limits) };
 
-    ghost told = { λ old _ new. new.uptime ≡ old.uptime };
+    ghost told = { λ old answer new. W.ended_turn old.watcher.now old.serving.now.server old.uptime.millis answer new.watcher.now
+        × (new.serving.now ≡ old.serving.now) × (new.uptime ≡ old.uptime) × (new.limits ≡ old.limits) };
 
     fn serve_all(&mut self, busy: bool) -> Result<bool, Fault> {
         self.serving.server.turn(patience(busy), self.watcher)

@@ -10,27 +10,40 @@ use service_events::{Client, Notice};
 
 /// Gets the notices of a server.
 ///
-/// `noticed` and `showed` relate the watcher before a call, what the call was given, its answer, and the watcher after it. Code that
-/// is generic over watchers has one only from a call. So its contract can say what the watcher heard, and in which order.
+/// Each relation is between the watcher before a call, what the call was given, its answer, and the watcher after it. Code that is
+/// generic over watchers has one only from a call. So its contract can say what the watcher heard, and in which order.
 pub trait Watcher {
-    ghost use Rattle.std.specs.Prelude.{ℕ, Result};
+    ghost use Rattle.std.specs.Prelude.{ℕ, Bool, Result};
+    ghost use Rattle.applications.specs.declared.application_fault.ApplicationFault.{ApplicationFault};
+    ghost use Rattle.applications.specs.declared.application_reply.Replaced.{Replaced};
     ghost use Rattle.host_core.specs.State.{Host as HostValue};
     ghost use Rattle.job_streams.specs.declared.fault.Fault.{Fault};
+    ghost use Rattle.mio.specs.declared.net.stream.TcpStream.{TcpStream};
+    ghost use Rattle.service_events.specs.declared.notice.Client.{Client};
     ghost use Rattle.service_events.specs.declared.notice.Notice.{Notice};
+    ghost use Rattle.service.specs.declared.server_core.ServerCore.{ServerCore};
 
     ghost noticed: { Self → Notice → Result Unit Fault → Self → Type 0 };
 
     ghost showed: { Self → HostValue → ℕ → Result Unit Fault → Self → Type 0 };
+
+    ghost reported: { Self → Client → ApplicationFault → Result Unit Fault → Self → Type 0 };
+
+    ghost noted: { Self → Client → Replaced → Result Unit Fault → Self → Type 0 };
+
+    ghost ended_turn: { Self → ServerCore TcpStream → ℕ → Bool → Self → Type 0 };
 
     /// Handles one notice. A fault ends the turn.
     fn notice(&mut self, notice: &Notice) -> Result<(), Fault>
         ensures { noticed self.old notice.now result self.new };
 
     /// Handles that a question to the application has no answer. A fault ends the turn.
-    fn unanswered(&mut self, client: &Client, fault: &ApplicationFault) -> Result<(), Fault>;
+    fn unanswered(&mut self, client: &Client, fault: &ApplicationFault) -> Result<(), Fault>
+        ensures { reported self.old client.now fault.now result self.new };
 
     /// Handles that characters of the application's reply were replaced. A fault ends the turn.
-    fn replaced(&mut self, client: &Client, replaced: &Replaced<'_>) -> Result<(), Fault>;
+    fn replaced(&mut self, client: &Client, replaced: &Replaced<'_>) -> Result<(), Fault>
+        ensures { noted self.old client.now replaced.now result self.new };
 
     /// Handles that the host showed a screen on a connection. A fault ends the turn.
     fn shown(&mut self, host: &Host, conn: usize) -> Result<(), Fault>
@@ -38,7 +51,8 @@ pub trait Watcher {
         ensures { showed self.old host.now conn result self.new };
 
     /// Does what else is to be done after a turn, at this time in milliseconds. Answers whether it did something.
-    fn turned(&mut self, server: &Server, now: u64) -> bool;
+    fn turned(&mut self, server: &Server, now: u64) -> bool
+        ensures { ended_turn self.old server.now now result self.new };
 }
 
 /// Ignores all notices.
@@ -49,6 +63,12 @@ impl Watcher for Unwatched {
     ghost noticed = { λ _ _ _ _. Unit {0} };
 
     ghost showed = { λ _ _ _ _ _. Unit {0} };
+
+    ghost reported = { λ _ _ _ _ _. Unit {0} };
+
+    ghost noted = { λ _ _ _ _ _. Unit {0} };
+
+    ghost ended_turn = { λ _ _ _ _ _. Unit {0} };
 
     fn notice(&mut self, _notice: &Notice) -> Result<(), Fault> {
         Ok(())

@@ -1,0 +1,60 @@
+-- What a server does for an exchange with an application: it asks its host, and hands it the answer (our profile).
+use Rattle.std.specs.Prelude.{◌≡◌, ◌&&◌, ℕ, Option, Result, Ok, Err}
+use Rattle.std.specs.Option.{option_map}
+use Rattle.host_core.specs.Application.{application_of}
+use Rattle.host_core.specs.Does.{DoesAnswer}
+use Rattle.host_core.specs.Questions.{HasTexts, answered_by, question_of}
+use Rattle.host_core.specs.State.{Host, connection_at, phase_of, service_at, session_at, with_connection}
+use Rattle.host_core.specs.declared.acted.Acted.{Acted}
+use Rattle.host_core.specs.declared.question.Answer.{Answer}
+use Rattle.host_core.specs.declared.question.Question.{Question}
+use Rattle.host_core.specs.declared.question.Ticket.{Ticket}
+use Rattle.job_streams.specs.declared.fault.Fault.{Fault}
+use Rattle.job_streams.specs.declared.fault.Fault.TheVariants as fault
+use Rattle.service_events.specs.Notices.{is_bound}
+use Rattle.service_events.specs.declared.notice.Notice.{Notice}
+use Rattle.service_events.specs.declared.notice.Usage.{Usage}
+use Rattle.socket_links.specs.Sockets.{slot_at}
+use Rattle.service.specs.ConnectionInfos.{usage_of, with_turn_at}
+use Rattle.service.specs.NumberTurns.{open_at, screen_shown, shows, was_bound}
+use Rattle.service.specs.Watching.{Told}
+use Rattle.service.specs.declared.server_core.ServerCore.{ServerCore}
+
+-- the question that is open on a connection, if one is; what its texts need of memory may be refused
+abbrev pub AsksHost : (conn : ℕ) → Host → Result (Option Question) Fault → Type 0
+AsksHost conn host (Ok question) = question ≡ question_of (application_of host.panels) (session_at conn host) (service_at conn host)
+AsksHost conn host (Err why) =
+    (why ≡ fault.NoMemory) × HasTexts (question_of (application_of host.panels) (session_at conn host) (service_at conn host))
+
+-- what the host did with an answer, unless the watcher fails
+abbrev pub unless_failed : Acted → Result Unit Fault → Result Acted Fault
+unless_failed acted (Ok done) = Ok acted
+unless_failed acted (Err why) = Err why
+
+-- The host takes the answer to the question with a ticket, and shows what it says, if that question is open. No other connection changes.
+pub record TakesAnswer (conn : ℕ) (ticket : Ticket) (answer : Answer) (old : Host) (acted : Acted) (new : Host) : Type 0 where
+  pub does : DoesAnswer (application_of old.panels) answer
+      (answered_by (application_of old.panels) (session_at conn old) ticket answer (service_at conn old)) (connection_at conn old) acted (connection_at conn new)
+  pub others : new ≡ with_connection conn (connection_at conn new) old
+
+module _ {S : Type 0} where
+  -- the server once its host took an answer; a screen that was shown is counted unless it is the first
+  abbrev pub core_answered : ℕ → ServerCore S → Host → ServerCore S
+  core_answered conn old host = record old { host = host; infos = with_turn_at conn (shows conn old.host host && was_bound conn old.host) old.infos }
+
+  -- what an open connection took so far
+  abbrev pub usage_at : ℕ → ServerCore S → Option Usage
+  usage_at conn core =
+      option_map (usage_of core.now (is_bound (phase_of (service_at conn core.host))) (slot_at conn core.sockets).sent (slot_at conn core.sockets).received) (open_at conn core)
+
+module _ {S W : Type 0} (noticed : W → Notice → Result Unit Fault → W → Type 0) (showed : W → Host → ℕ → Result Unit Fault → W → Type 0) where
+  -- The host takes an answer. If it showed a screen the watcher hears so, and nothing else; a fault of the watcher is returned.
+  pub record HandsAnswer (conn : ℕ) (ticket : Ticket) (answer : Answer) (old : ServerCore S) (watcher : W) (result : Result Acted Fault) (new : ServerCore S) (after : W)
+      : Type 0 where
+    pub acted : Acted
+    pub host : Host
+    pub heard : Result Unit Fault
+    pub takes : TakesAnswer conn ticket answer old.host acted host
+    pub hears : Told noticed showed (screen_shown (shows conn old.host host) conn host) watcher heard after
+    pub becomes : new ≡ core_answered conn old host
+    pub result_is : result ≡ unless_failed acted heard
