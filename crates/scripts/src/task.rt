@@ -3,24 +3,31 @@ ghost use Rattle.std.specs.Prelude.{◌≡◌};
 ghost use Rattle.job_streams.specs.Runs.{InPieces, ending_of};
 ghost use Rattle.scripts.specs.TaskRuns.{EndsPrinting, HasCause, IsEnd};
 
+use crate::page::print_page;
 use crate::script::print_script;
-use crate::show::print_page;
 use codes3270::Model;
 use host_core::Terminals;
 use job_streams::{Fault, Sink, Source, end_by, read_whole};
 use std::alloc::Global;
 
-/// A job that opens no socket.
+/// A job that prints one page of its whole input.
 #[derive(Clone, Copy)]
-pub(crate) enum Task {
-    /// `run_script`'s, of a host that serves these terminals.
+pub enum Task {
+    /// Serves the panels of the input to four terminals, of models 2 to 5, and does the commands of its script, one a line. The input
+    /// is the panel text, a line `%%` and the script. The terminals wait, on which the host relies or not.
     Script(Terminals),
-    /// `run_show`'s, on a screen of this model.
+    /// Applies the commands of the input, one a line in hexadecimal, in order to one blank screen of a model, and prints that screen, a
+    /// line for each row of its size, and the cursor. A refused command is reported in the output and changes nothing.
     Show(Model),
 }
 
-/// Does a task and returns the exit status. A fault that ends the run is written to `faults` as one line.
-pub(crate) fn run<I: Source, O: Sink, E: Sink>(
+/// Does a task, prints its page once it is complete, and returns the exit status. A fault that ends the run is written to `faults` as
+/// one line.
+///
+/// The status is 0 if the whole page was printed; 1 if the input can't be read, has more than `MOST_BYTES` bytes, takes more than
+/// `MOST_READS` reads, or isn't UTF-8, if the panel text defines no panels, or if their LUs are no pool; 1 also, after the page of the
+/// lines before it, for a line that isn't hexadecimal, or isn't understood; 3 if memory is refused; 6 if the output fails.
+pub fn run_task<I: Source, O: Sink, E: Sink>(
     alloc: Global,
     task: Task,
     input: &mut I,
