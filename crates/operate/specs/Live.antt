@@ -7,12 +7,14 @@ use Rattle.keyboard.specs.declared.key.Pressed.{Pressed}
 use Rattle.keyboard.specs.declared.key.Pressed.TheVariants as pressed
 use Rattle.keyboard.specs.declared.key.Refusal.{Refusal}
 use Rattle.keyboard.specs.declared.key.Refusal.TheVariants as refusal
+use Rattle.term_core.specs.Feeds.{Feeds}
 use Rattle.term_core.specs.Presses.{after_key, answer_to_key}
 use Rattle.term_core.specs.State.{Terminal, new_terminal, phase_of}
 use Rattle.term_core.specs.declared.phase.TermPhase.{TermPhase}
 use Rattle.term_core.specs.declared.phase.TermPhase.TheVariants as phase
 use Rattle.codes3270.specs.declared.size.Model.{Model}
-use Rattle.tn3270e_msg.specs.declared.cause.Stop.{Stop}
+use Rattle.tn3270e_msg.specs.declared.cause.Fed.{Fed}
+use Rattle.tn3270e_msg.specs.declared.cause.Stop.TheVariants as stop
 use Rattle.tty_keys.specs.Reading.{after_pause, read_bytes}
 use Rattle.tty_keys.specs.declared.keystroke.Keystroke.{Keystroke}
 use Rattle.tty_keys.specs.declared.keystroke.Keystroke.TheVariants as stroke
@@ -20,7 +22,6 @@ use Rattle.tty_screen.specs.Changes.{drawing_of}
 use Rattle.tty_screen.specs.Painting.{picture_of}
 use Rattle.tty_screen.specs.Pictures.{PictureParts}
 use Rattle.tty_screen.specs.Spelling.{all_spelt}
-use Rattle.terminal_lines.specs.Waits.{FeedsAll, is_memory}
 use Rattle.operate.specs.declared.live.Asked.{Asked}
 use Rattle.operate.specs.declared.live.Asked.TheVariants as asked
 
@@ -129,11 +130,11 @@ picture_at seat =
 
 -- ---- a turn
 
--- bytes of the host come: the terminal is fed them
+-- bytes of the host come: the terminal is fed them, and memory isn't refused
 pub record Hears (bytes : List ℕ) (old new : Live) : Type 0 where
-  pub stop : Stop
-  pub fed : FeedsAll new.room stop old.seat.terminal bytes new.seat.terminal
-  pub whole : is_memory stop ≡ false
+  pub fed : Fed
+  pub feeds : Feeds new.room old.seat.terminal bytes fed new.seat.terminal
+  pub has_memory : fed.stop ≡ stop.Memory → ⊥
   pub seat : new.seat ≡ record old.seat { terminal = new.seat.terminal }
   pub kept : new.kept ≡ old.kept
 

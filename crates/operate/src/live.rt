@@ -11,8 +11,7 @@ use keyboard::{Key, Pressed, Refusal};
 use std::alloc::{AllocError, Global};
 use std::marker;
 use term_core::{TermPhase, Terminal};
-use terminal_lines::{feed_all, is_memory};
-use tn3270e_msg::Lu;
+use tn3270e_msg::{Lu, Stop};
 use tty_keys::{KeyReader, Keystroke};
 use tty_screen::{Drawing, Picture, Status};
 
@@ -299,10 +298,11 @@ impl LiveTerminal {
     fn hear(&mut self, came: &[u8]) -> Result<(), AllocError>
         ensures { OnOk result (Hears came.now self.old self.new) }
     {
-        if is_memory(feed_all(&mut self.terminal, came)) {
-            return Err(AllocError);
+        match self.terminal.feed(came).stop {
+            Stop::Memory => Err(AllocError),
+            Stop::Going => Ok(()),
+            Stop::Closed(_) => Ok(()),
         }
-        Ok(())
     }
 
     /// What the operator is to be shown.

@@ -256,11 +256,6 @@ impl<S: RawRead + RawWrite + Drop, K: Source + Drop, T: Sink + Drop> OperatorSes
         Ok((came_count > 0) | sent)
     }
 
-    /// The connection, if there is one, and the tty.
-    pub fn into_parts(self) -> (Option<S>, T) {
-        (self.socket.into_socket(), self.tty)
-    }
-
     /// What the operator asked for since the last such call.
     pub fn take_asked(&mut self) -> Asked {
         self.live.take_asked()
@@ -298,11 +293,14 @@ impl Dialer {
         })
     }
 
-    /// Begins a connection. The host may refuse it at once, or later.
-    fn dial(&self, net: &impl Net) -> Result<TcpStream, ErrorKind> {
+    /// Begins a connection, unless one is under way. CannotConnect if the host refuses it at once, and never took one before.
+    fn redial(&mut self, net: &impl Net) -> Result<(), Fault> {
+        if self.dialed.is_some() {
+            return Ok(());
+        }
         let mut socket = match TcpStream::connect(net, self.address) {
             Ok(socket) => socket,
-            Err(error) => return Err(error.kind()),
+            Err(error) => return self.give_up(error.kind()),
         };
         // As where the server accepts: if one of these calls fails, the socket is used anyway.
         let _ = socket.set_nodelay(true);
@@ -311,17 +309,7 @@ impl Dialer {
             .poll
             .registry()
             .register(&mut socket, Token(0), interest);
-        Ok(socket)
-    }
-
-    /// Begins a connection, unless one is under way. CannotConnect if the host refuses it at once, and never took one before.
-    fn redial(&mut self, net: &impl Net) -> Result<(), Fault> {
-        if self.dialed.is_none() {
-            match self.dial(net) {
-                Ok(socket) => self.dialed = Some(socket),
-                Err(kind) => return self.give_up(kind),
-            }
-        }
+        self.dialed = Some(socket);
         Ok(())
     }
 

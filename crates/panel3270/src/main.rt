@@ -1,5 +1,5 @@
 //! The program panel3270: TN3270E hosts, terminals and 3270 screens on the command line. `cli` reads its words and has
-//! its help, `scripts`, `service`, `selfrun`, `terminal_lines` and `operate` have its jobs; this crate passes the
+//! its help, `scripts`, `service`, `selfrun` and `operate` have its jobs; this crate passes the
 //! arguments, the standard streams and files.
 #![tactic(auto)]
 
@@ -9,7 +9,7 @@ use cli::{WordFault, refuse_words, run_help, run_version, words};
 use job_streams::{CountedReader, CountedWriter, Fault, Sink, UntilClosed, end_by, refuse_file};
 use jobs::{ApplicationChoice, Job, LiveOptions, Service, WordText};
 use operate::run_operate;
-use scripts::{run_check, run_script, run_show};
+use scripts::{run_check, run_script, run_show, run_term};
 use selfrun::run_selfrun;
 use service::{run_host, run_serve};
 use std::env;
@@ -17,7 +17,6 @@ use std::fs::File;
 use std::io::{self, ErrorKind, IsTerminal, Stdout};
 use std::process::ExitCode;
 use std::sync::Wait;
-use terminal_lines::run_term;
 
 /// What reports call the standard input.
 const STANDARD_INPUT: &str = "standard input";

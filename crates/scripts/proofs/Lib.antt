@@ -8,3 +8,6 @@ pub mod Rounds
 pub mod Typing
 pub mod Playing
 pub mod Checking
+pub mod Waits
+pub mod TermLines
+pub mod TextTyped

@@ -6,3 +6,7 @@ pub mod Plays
 pub mod Scripts
 pub mod TaskRuns
 pub mod Checks
+pub mod TermLines
+pub mod Operating
+pub mod Waits
+pub mod DoneLines

@@ -13,7 +13,7 @@ use Rattle.world3270.specs.declared.event.Event.TheVariants as event
 use Rattle.applications.specs.AnswerLines.{answer_in}
 use Rattle.scripts.specs.Happenings.{AreRounds, AreTyped, Happening, TakePlace, answers_text, events_of, most_rounds}
 use Rattle.jobs.specs.HexLines.{lines_of}
-use Rattle.terminal_lines.specs.Operating.{phase_line}
+use Rattle.scripts.specs.Operating.{phase_line}
 use Rattle.applications.specs.QuestionLines.{question_on, question_text, ticket_on}
 use Rattle.scripts.specs.ScriptLines.{script_command, typed_text}
 use Rattle.scripts.specs.declared.script_line.ScriptCommand.{ScriptCommand}

@@ -1,13 +1,18 @@
 //! The page that `show` prints.
 ghost use Rattle.std.specs.Prelude.{◌≡◌, ◌++◌, ℕ, List, Option, IfOk, OnOk, string_bytes};
+ghost use Rattle.job_streams.specs.Runs.{ending_of};
 ghost use Rattle.scripts.specs.Pages.{first_screen, sense_text, TakesCommand, IsPage};
+ghost use Rattle.scripts.specs.ScreenText.{screen_text};
+ghost use Rattle.scripts.specs.TaskRuns.{EndsPrinting};
+ghost use Rattle.scripts.specs.declared.task.Task.TheVariants.{Show};
 
-use crate::screen_text::put_screen;
 use codes3270::Model;
 use datastream::{Sense, read_command};
+use job_streams::{Fault, Sink};
 use jobs::bytes_of_line;
 use presentation::Screen;
 use std::alloc::{AllocError, Global};
+use term_core::screen_lines;
 
 /// The page of an input.
 #[derive(Drop)]
@@ -52,6 +57,16 @@ fn take_command(screen: &mut Screen, bytes: &[u8], text: &mut String) -> Result<
     }
 }
 
+/// Adds the screen: a line for each row, without the blanks at its end, and the line `cursor N`.
+fn put_screen(alloc: Global, text: &mut String, screen: &Screen) -> Result<(), AllocError>
+    ensures { OnOk result (string_bytes text.new ≡ string_bytes text.old ++ screen_text screen.now) }
+{
+    let rows = screen_lines(alloc, screen)?;
+    text.push_str(rows.as_str())?;
+    let cursor = screen.cursor().get();
+    write!(text, "cursor {cursor}\n")
+}
+
 /// Applies the commands of an input, one a line in hexadecimal, in order to one blank screen of a model, and prints the
 /// refusals, the screen, a line for each row of its size, and its cursor. Ends at a line that isn't hexadecimal, without a
 /// screen.
@@ -80,4 +95,25 @@ pub fn page_of(alloc: Global, model: Model, input: &str) -> Result<Page, AllocEr
         text,
         not_hex: None,
     })
+}
+
+/// Prints the page of a text, on a screen of this model.
+pub(crate) fn print_page<O: Sink>(
+    alloc: Global,
+    model: Model,
+    text: &str,
+    out: &mut O,
+) -> Result<(), Fault>
+    ensures { EndsPrinting (Show model) (ending_of result) text.now (O.seen out.old) (O.seen out.new) }
+{
+    let Ok(page) = page_of(alloc, model, text) else {
+        return Err(Fault::NoMemory);
+    };
+    if out.write_all(page.text.as_bytes()).is_err() {
+        return Err(Fault::OutputFailed);
+    }
+    match page.not_hex {
+        Some(line) => Err(Fault::NotHex(line)),
+        None => Ok(()),
+    }
 }

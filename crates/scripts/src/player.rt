@@ -1,15 +1,13 @@
 //! Plays the lines of a script in a world, and adds what they print to a text.
 ghost use Rattle.std.specs.Prelude.{◌≡◌, ◌<◌, ◌++◌, ℕ, List, None, Some, IfOk, OnOk, chars, length, string_bytes, true};
-ghost use Rattle.term_core.specs.ScreenText.{screen_text};
-ghost use Rattle.term_core.specs.State.{phase_of};
 ghost use Rattle.world3270.specs.ByteRuns.{refused_at};
 ghost use Rattle.world3270.specs.ByteSteps.{Steps};
 ghost use Rattle.scripts.specs.Happenings.{AreTyped, Happening, TakePlace, answer_text, answers_text, is_refused};
-ghost use Rattle.terminal_lines.specs.Operating.{phase_line};
-ghost use Rattle.scripts.specs.Plays.{GivesAnswer, IsPlayed, PrintsIf, command_in_range, is_in_range, terminal_count, terminal_of};
+ghost use Rattle.scripts.specs.Plays.{GivesAnswer, IsPlayed, PrintsIf, command_in_range, is_in_range, terminal_count};
 ghost use Rattle.applications.specs.QuestionLines.{question_on, question_text};
 
 use crate::idle::{run_until_idle, step_whole};
+use crate::operator::{put_display, put_phase, put_refusal};
 use crate::script_line::{ScriptCommand, typed_text};
 use applications::{answer_in, put_question, question_on, ticket_on};
 use codes3270::Model;
@@ -26,10 +24,7 @@ pub fn put_answer(text: &mut String, answer: Stepped) -> Result<(), AllocError>
 {
     match answer {
         Stepped::Done | Stepped::Part(_) | Stepped::Memory => Ok(()),
-        Stepped::Refused(why) => {
-            let number = why.number();
-            write!(text, "refused {number}\n")
-        }
+        Stepped::Refused(why) => put_refusal(text, why),
         Stepped::Skipped => text.push_str("skipped\n"),
     }
 }
@@ -69,24 +64,6 @@ fn type_text(
         }
     }
     Ok(())
-}
-
-/// Adds a terminal's screen.
-fn show(alloc: Global, world: &World, terminal: usize, text: &mut String) -> Result<(), AllocError>
-    requires { terminal < length world.now.slots }
-    ensures { OnOk result (string_bytes text.new ≡ string_bytes text.old ++ screen_text (terminal_of terminal world.now).station) }
-{
-    let screen = world.terminal(terminal).screen_text(alloc)?;
-    text.push_str(screen.as_str())
-}
-
-/// Adds the line of a terminal's phase: `idle`, `talking`, `bound LU`, `refused N` or `closed N`.
-fn status(world: &World, terminal: usize, text: &mut String) -> Result<(), AllocError>
-    requires { terminal < length world.now.slots }
-    ensures { OnOk result (string_bytes text.new ≡ string_bytes text.old ++ phase_line (phase_of (terminal_of terminal world.now).link)) }
-{
-    let phase = world.terminal(terminal).phase();
-    write!(text, "{phase}\n")
 }
 
 /// Answers the question that is open on a connection by what a text says, and adds the line of the event's answer. False if the text
@@ -167,8 +144,8 @@ fn play_line(
             return give_answer(alloc, world, conn, typed_text(line), text);
         }
         ScriptCommand::Settle => run_until_idle(world)?,
-        ScriptCommand::Show(terminal) => show(alloc, world, terminal, text)?,
-        ScriptCommand::Status(terminal) => status(world, terminal, text)?,
+        ScriptCommand::Show(terminal) => put_display(alloc, world.terminal(terminal), text)?,
+        ScriptCommand::Status(terminal) => put_phase(world.terminal(terminal), text)?,
         ScriptCommand::Question(conn) => ask(alloc, world, conn, text)?,
     }
     Ok(true)

@@ -1,38 +1,18 @@
 //! `script`: plays a script in a world of panels and terminals, and prints what the operators see.
 ghost use Rattle.std.specs.Prelude.{◌≡◌, true, string_bytes, IfOk, IfErr};
 ghost use Rattle.std.specs.Str.{IsCharBoundary};
-ghost use Rattle.job_streams.specs.Runs.{InPieces, ending_of};
-ghost use Rattle.scripts.specs.TaskRuns.{EndsPrinting, IsEnd};
+ghost use Rattle.job_streams.specs.Runs.{ending_of};
+ghost use Rattle.scripts.specs.TaskRuns.{EndsPrinting};
 ghost use Rattle.applications.specs.PanelHosts.{HasNoWorld};
 ghost use Rattle.scripts.specs.Scripts.{IsScriptPage, IsWorldOf, behind_line, is_at_mark, mark_place, panel_text, script_text};
 ghost use Rattle.scripts.specs.declared.task.Task.TheVariants.{Script};
 
 use crate::player::{MODELS, play};
-use crate::task::{Task, run};
 use applications::application_of;
 use host_core::Terminals;
-use job_streams::{Fault, Sink, Source};
+use job_streams::{Fault, Sink};
 use std::alloc::Global;
 use world3270::World;
-
-/// Serves the panels of the input to four terminals, and does the commands of its script, one a line. The input is the panel text, a
-/// line `%%` and the script. Terminals 0 to 3 have models 2 to 5; they wait, on which the host relies or not. Prints the page when the
-/// script has ended. Writes a fault that ends the run to `faults` as one line.
-///
-/// Returns the exit status: 0 if the whole page was printed; 1 if the input can't be read (as for
-/// [`run_show`](crate::run_show)), if the panel text defines no panels, if their LUs are no pool, or if a line of the script isn't
-/// understood, after the output of the lines before it; 3 if memory is refused; 6 if the output fails.
-pub fn run_script<I: Source, O: Sink, E: Sink>(
-    alloc: Global,
-    terminals: Terminals,
-    input: &mut I,
-    out: &mut O,
-    faults: &mut E,
-) -> u8
-    ensures { IsEnd (Script terminals) (InPieces I.gave input.old input.new) (I.seen input.old) (I.seen input.new) (O.seen out.old) (O.seen out.new) (E.seen faults.old) (E.seen faults.new) result }
-{
-    run(alloc, Task::Script(terminals), input, out, faults)
-}
 
 /// Prints the page of a text.
 pub(crate) fn print_script<O: Sink>(

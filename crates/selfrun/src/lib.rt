@@ -1,7 +1,6 @@
 //! The job `selfrun`: a server and the terminals of a script in one process, over loopback sockets.
 //!
 //! Its script is one of the crate scripts, without the commands that deliver bytes: the sockets do that.
-//! `specs/Selfruns` says which commands it may have.
 #![tactic(auto)]
 
 mod selfrun;

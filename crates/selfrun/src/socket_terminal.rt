@@ -3,11 +3,13 @@ ghost use Rattle.std.specs.Prelude.{◌≡◌, length};
 ghost use Rattle.host_core.specs.Serves.{GotWithin};
 ghost use Rattle.world3270.specs.ByteSteps.{answer_pressed};
 
+use codes3270::Model;
 use host_core::{LinkRead, LinkWrite};
 use job_streams::{CHUNK, Fault};
 use keyboard::{Key, Pressed};
 use mio::net::TcpStream;
 use socket_links::{read_once, write_once};
+use std::alloc::{AllocError, Global};
 use std::net::SocketAddr;
 use term_core::{TermPhase, Terminal};
 use tn3270e_msg::{Lu, Stop};
@@ -28,10 +30,18 @@ fn pressed_as(pressed: Pressed) -> Stepped
 #[derive(Drop)]
 pub(crate) struct SocketTerminal {
     pub(crate) terminal: Terminal,
-    pub(crate) socket: Option<TcpStream>,
+    socket: Option<TcpStream>,
 }
 
 impl SocketTerminal {
+    /// A terminal of a model without a connection.
+    pub(crate) fn new(alloc: Global, model: Model) -> Result<SocketTerminal, AllocError> {
+        Ok(SocketTerminal {
+            terminal: Terminal::new(alloc, model)?,
+            socket: None,
+        })
+    }
+
     /// Whether it has no connection.
     pub(crate) fn is_idle(&self) -> bool {
         matches!(self.terminal.phase(), TermPhase::Idle)

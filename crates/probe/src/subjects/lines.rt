@@ -11,11 +11,10 @@ use applications::{Absence, AnswerFault, ApplicationFault, application_of};
 use cli::words;
 use job_streams::{FileFault, LiveFault};
 use panel_check::check;
-use scripts::{ScriptCommand, typed_text};
+use scripts::{ScriptCommand, TerminalCommand, typed_text};
 use std::alloc::Global;
 use std::io::ErrorKind;
 use std::net::{Ipv4Addr, SocketAddr};
-use terminal_lines::TerminalCommand;
 use tn3270e_msg::Cause;
 use world3270::Event;
 

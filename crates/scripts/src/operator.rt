@@ -1,0 +1,227 @@
+//! An operator at a terminal: presses keys, types text, waits for the host, and prints what is on the screen.
+ghost use Rattle.std.specs.Prelude.{◌≡◌, ◌++◌, IfOk, OnOk, chars, false, length, string_bytes};
+ghost use Rattle.term_core.specs.Presses.{after_key, answer_to_key};
+ghost use Rattle.term_core.specs.ScreenText.{screen_text};
+ghost use Rattle.term_core.specs.State.{phase_of};
+ghost use Rattle.scripts.specs.Operating.{after_text, is_wait_over, phase_line, refusal_in, refusal_text, said_of_key, said_of_text};
+ghost use Rattle.job_streams.specs.Counting.{GivesWithin, bytes_given};
+ghost use Rattle.scripts.specs.Waits.{FeedsAll, HasExchanged, HasWaited, IsFed, SendsAll, SendsLast, is_memory, read_room};
+
+use job_streams::{Answer, Sink, Source};
+use keyboard::{Key, Lock, Pressed, Refusal};
+use std::alloc::{AllocError, Global};
+use term_core::{TermPhase, Terminal};
+use tn3270e_msg::Stop;
+
+/// The most reads of one wait.
+const MOST_READS: usize = 1000;
+
+/// The size of the buffer of each read of a wait: as many bytes as a record may have, so that a screen mostly comes in one read.
+const READ_ROOM: usize = 16_384;
+
+// ---- keys
+
+/// Why a key was refused, if it was.
+fn refusal_in(pressed: &Pressed) -> Option<Refusal>
+    ensures { result ≡ refusal_in pressed.now }
+{
+    match pressed {
+        Pressed::Refused(why) => Some(*why),
+        Pressed::Done | Pressed::Send(_) => None,
+    }
+}
+
+/// Presses a key. Answers why it was refused, if it was.
+fn press_once(terminal: &mut Terminal, key: Key) -> Result<Option<Refusal>, AllocError>
+    ensures pressed { OnOk result (terminal.new.terminal ≡ after_key key terminal.old.terminal) }
+    ensures refusal { IfOk result (λ refusal. refusal ≡ refusal_in (answer_to_key key terminal.old.terminal)) }
+{
+    match terminal.press(key) {
+        Ok(pressed) => Ok(refusal_in(&pressed)),
+        Err(error) => Err(error),
+    }
+}
+
+/// Adds the line of a refused key: `refused N`, with the number of the refusal.
+pub(crate) fn put_refusal(text: &mut String, why: Refusal) -> Result<(), AllocError>
+    ensures { OnOk result (string_bytes text.new ≡ string_bytes text.old ++ refusal_text why) }
+{
+    let number = why.number();
+    write!(text, "refused {number}\n")
+}
+
+/// Presses a key, and adds `refused N` if it is refused.
+pub(crate) fn press(terminal: &mut Terminal, key: Key, text: &mut String) -> Result<(), AllocError>
+    ensures pressed { OnOk result (terminal.new.terminal ≡ after_key key terminal.old.terminal) }
+    ensures said { OnOk result (string_bytes text.new ≡ string_bytes text.old ++ said_of_key (answer_to_key key terminal.old.terminal)) }
+{
+    match press_once(terminal, key)? {
+        Some(why) => put_refusal(text, why),
+        None => Ok(()),
+    }
+}
+
+/// Presses the characters of a text in turn, up to the first that is refused, and adds `refused N` for that one.
+pub(crate) fn type_text(
+    terminal: &mut Terminal,
+    typed: &str,
+    text: &mut String,
+) -> Result<(), AllocError>
+    ensures typed { OnOk result (terminal.new.terminal ≡ after_text (chars typed.now) terminal.old.terminal) }
+    ensures said { OnOk result (string_bytes text.new ≡ string_bytes text.old ++ said_of_text (chars typed.now) terminal.old.terminal) }
+{
+    for letter in typed.chars() {
+        if let Some(why) = press_once(terminal, Key::Char(letter))? {
+            return put_refusal(text, why);
+        }
+    }
+    Ok(())
+}
+
+/// Adds the terminal's screen.
+pub fn put_display(alloc: Global, terminal: &Terminal, text: &mut String) -> Result<(), AllocError>
+    ensures { OnOk result (string_bytes text.new ≡ string_bytes text.old ++ screen_text terminal.now.terminal.station) }
+{
+    let screen = terminal.screen_text(alloc)?;
+    text.push_str(screen.as_str())
+}
+
+/// Adds the line of the terminal's phase: `idle`, `talking`, `bound LU`, `refused N` or `closed N`.
+pub fn put_phase(terminal: &Terminal, text: &mut String) -> Result<(), AllocError>
+    ensures { OnOk result (string_bytes text.new ≡ string_bytes text.old ++ phase_line (phase_of terminal.now.terminal.link)) }
+{
+    let phase = terminal.phase();
+    write!(text, "{phase}\n")
+}
+
+// ---- waits for the host
+
+/// Whether a wait is over: the keyboard isn't waiting, the host refused the terminal an LU, or the connection is closed or lost.
+fn is_wait_over(terminal: &Terminal) -> bool
+    ensures { result ≡ is_wait_over (phase_of terminal.now.terminal.link) terminal.now.terminal.station.keyboard.lock }
+{
+    match terminal.phase() {
+        TermPhase::Bound(_) => terminal.lock() != Lock::Wait,
+        TermPhase::Talking => false,
+        TermPhase::Refused(_) | TermPhase::Closed(_) | TermPhase::Idle => true,
+    }
+}
+
+/// Sends all output of a terminal, and returns true. If the write fails, detaches the terminal, and returns false.
+fn send_all<U: Sink>(terminal: &mut Terminal, up: &mut U) -> bool
+    ensures { SendsAll result terminal.old.terminal terminal.new.terminal (U.seen up.old) (U.seen up.new) }
+{
+    match up.write_all(terminal.out()) {
+        Ok(()) => {
+            let count = terminal.out().len();
+            terminal.sent(count);
+            true
+        }
+        Err(_) => {
+            terminal.lost();
+            false
+        }
+    }
+}
+
+/// Whether memory was refused.
+fn is_memory(stop: Stop) -> bool
+    ensures { result ≡ is_memory stop }
+{
+    match stop {
+        Stop::Memory => true,
+        Stop::Going | Stop::Closed(_) => false,
+    }
+}
+
+/// Feeds a terminal bytes, and answers what stopped it.
+fn feed_all(terminal: &mut Terminal, bytes: &[u8]) -> Stop
+    ensures { FeedsAll terminal.new.room result terminal.old.terminal bytes.now terminal.new.terminal }
+{
+    terminal.feed(bytes).stop
+}
+
+/// Reads a connection once, into a buffer of `READ_ROOM` bytes.
+fn read_host<D: Source>(down: &mut D, buffer: &mut [u8]) -> Answer
+    requires { length buffer.old ≡ read_room }
+    ensures within { GivesWithin result (length buffer.new) }
+    ensures gave { D.gave down.old read_room (bytes_given result buffer.new) result down.new }
+    ensures length { length buffer.new ≡ read_room }
+{
+    down.read(buffer)
+}
+
+/// Feeds a terminal, during a wait, the bytes that a read gave. An error if memory is refused.
+fn take(terminal: &mut Terminal, bytes: &[u8]) -> Result<(), AllocError>
+    requires { is_wait_over (phase_of terminal.old.terminal.link) terminal.old.terminal.station.keyboard.lock ≡ false }
+    ensures { OnOk result (IsFed terminal.old.terminal bytes.now terminal.new.terminal) }
+{
+    if is_memory(feed_all(terminal, bytes)) {
+        return Err(AllocError);
+    }
+    Ok(())
+}
+
+/// How the reads of a wait ended.
+#[derive(Clone, Copy)]
+pub(crate) enum Exchanged {
+    /// The wait is over, or the connection is.
+    Over,
+    /// All reads are used up. The output since the last one isn't sent yet.
+    ReadsUsedUp,
+}
+
+/// Sends all output of a terminal, reads once and feeds the terminal the bytes, and so on, until the wait is over or
+/// `MOST_READS` reads are used up.
+fn exchange<D: Source, U: Sink>(
+    terminal: &mut Terminal,
+    down: &mut D,
+    up: &mut U,
+) -> Result<Exchanged, AllocError>
+    ensures { IfOk result (λ exchanged. HasExchanged D.gave exchanged terminal.old.terminal terminal.new.terminal down.old down.new (U.seen up.old) (U.seen up.new)) }
+{
+    let mut buffer = [0; READ_ROOM];
+    for _ in 0..MOST_READS {
+        if !send_all(terminal, up) {
+            return Ok(Exchanged::Over);
+        }
+        if is_wait_over(terminal) {
+            return Ok(Exchanged::Over);
+        }
+        match read_host(down, &mut buffer) {
+            Answer::Gave(count) => take(terminal, &buffer[..count])?,
+            Answer::Interrupted => {}
+            Answer::Ended | Answer::Failed => {
+                terminal.lost();
+                return Ok(Exchanged::Over);
+            }
+        }
+    }
+    Ok(Exchanged::ReadsUsedUp)
+}
+
+/// Sends all output of a terminal if the reads of a wait are used up.
+fn send_last<U: Sink>(exchanged: Exchanged, terminal: &mut Terminal, up: &mut U)
+    ensures { SendsLast exchanged terminal.old.terminal terminal.new.terminal (U.seen up.old) (U.seen up.new) }
+{
+    match exchanged {
+        Exchanged::Over => {}
+        Exchanged::ReadsUsedUp => {
+            let _ = send_all(terminal, up);
+        }
+    }
+}
+
+/// Waits for the host: until the operator may go on, the host refuses an LU or closes the connection, the connection is lost,
+/// or 1,000 reads are used up. All output is sent then. A terminal whose connection ends or fails is detached from it.
+pub(crate) fn wait<D: Source, U: Sink>(
+    terminal: &mut Terminal,
+    down: &mut D,
+    up: &mut U,
+) -> Result<(), AllocError>
+    ensures { OnOk result (HasWaited D.gave terminal.old.terminal terminal.new.terminal down.old down.new (U.seen up.old) (U.seen up.new)) }
+{
+    let exchanged = exchange(terminal, down, up)?;
+    send_last(exchanged, terminal, up);
+    Ok(())
+}

@@ -1,0 +1,59 @@
+//! The commands of a terminal's script, one a line, as text.
+ghost use Rattle.std.specs.Prelude.{◌≡◌};
+ghost use Rattle.scripts.specs.TermLines.{command_of_verb, command_of_text, terminal_command};
+
+use keyboard::Key;
+
+/// A command to a terminal's operator.
+#[derive(Clone, Copy, Debug)]
+pub enum TerminalCommand {
+    /// An empty line: nothing happens.
+    Nothing,
+    /// The operator types the line's text.
+    TypeText,
+    /// The operator presses this key.
+    Press(Key),
+    /// The operator waits for the host.
+    Wait,
+    /// The screen is printed.
+    Show,
+    /// The phase is printed.
+    Status,
+}
+
+/// The command of a verb alone.
+fn command_of_verb(verb: &str) -> Option<TerminalCommand>
+    ensures { result ≡ command_of_verb verb.now }
+{
+    match verb {
+        "" => Some(TerminalCommand::Nothing),
+        "wait" => Some(TerminalCommand::Wait),
+        "show" => Some(TerminalCommand::Show),
+        "status" => Some(TerminalCommand::Status),
+        _ => None,
+    }
+}
+
+/// The command of a verb and the text after the first blank.
+fn command_of_text(verb: &str, text: &str) -> Option<TerminalCommand>
+    ensures { result ≡ command_of_text verb.now text.now }
+{
+    match verb {
+        "type" => Some(TerminalCommand::TypeText),
+        "key" => Key::named(text).map(TerminalCommand::Press),
+        _ => None,
+    }
+}
+
+impl TerminalCommand {
+    /// The command of a line. None if there is no such verb, if the line has too few words or too many, or if a key's name isn't
+    /// one.
+    pub fn read(line: &str) -> Option<TerminalCommand>
+        ensures { result ≡ terminal_command line.now }
+    {
+        match line.split_once(' ') {
+            Some((verb, text)) => command_of_text(verb, text),
+            None => command_of_verb(line),
+        }
+    }
+}

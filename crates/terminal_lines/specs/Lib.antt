@@ -1,4 +1,0 @@
-pub mod TermLines
-pub mod Operating
-pub mod Waits
-pub mod DoneLines
