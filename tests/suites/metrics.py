@@ -9,7 +9,6 @@ from harness.hosts import (
     DEVICE_IN_USE,
     DO,
     ENTER,
-    FIRST_WRITE,
     GET,
     LOCALHOST,
     MOST_CONNECTIONS,
@@ -63,11 +62,6 @@ METRICS = {
     "paints_total": ("counter", "Screens sent."),
     "received_bytes_total": ("counter", "Bytes received from terminals."),
     "sent_bytes_total": ("counter", "Bytes sent to terminals."),
-    "whole_screen_bytes_total": (
-        "counter",
-        "Bytes of the records of all screens sent, had nothing been known of what the terminals "
-        "showed.",
-    ),
 }
 
 
@@ -86,7 +80,6 @@ def metrics_page(
     paints=0,
     received=0,
     sent=0,
-    whole=0,
 ):
     """The page of these numbers, as Prometheus' text format has it."""
     ends = [(f'{{end="closed",cause="{it}"}}', closed.count(it)) for it in CAUSES]
@@ -103,7 +96,6 @@ def metrics_page(
         "paints_total": [("", paints)],
         "received_bytes_total": [("", received)],
         "sent_bytes_total": [("", sent)],
-        "whole_screen_bytes_total": [("", whole)],
     }
     page = ""
     for name, (kind, said) in METRICS.items():
@@ -138,8 +130,7 @@ def has_counted(host, **numbers):
 
 @check
 def metrics_count_what_happened():
-    """Each connection, end, rejection, screen and byte is counted once; a whole screen has as many
-    bytes as the first one."""
+    """Each connection, end, rejection, screen and byte is counted once."""
     with metered() as host:
         has_counted(host)
         first = host.client().signs_on("PNL01")
@@ -149,10 +140,7 @@ def metrics_count_what_happened():
         second.hears(DEVICE_IN_USE)
         first.enters()
         first.enters()
-        whole = 3 * len(FIRST_WRITE)
-        numbers = {
-            "total": 2, "rejected": ("DEVICE-IN-USE",), "turns": 2, "paints": 3, "whole": whole
-        }
+        numbers = {"total": 2, "rejected": ("DEVICE-IN-USE",), "turns": 2, "paints": 3}
         has_counted(host, now=2, **numbers, **all_read(first, second))
         first.ends()
         second.says(bytes.fromhex("FF FA 28 FF 00"))
@@ -176,7 +164,6 @@ def metrics_count_who_is_dropped():
             idle=1,
             no_agreement=1,
             paints=1,
-            whole=len(FIRST_WRITE),
             **all_read(stalled, idle),
         )
     with metered() as host:
@@ -233,7 +220,6 @@ def broken_rules_are_logged_and_counted():
             broken=3,
             turns=1,
             paints=5,
-            whole=5 * len(FIRST_WRITE),
             **all_read(*clients),
         )
 

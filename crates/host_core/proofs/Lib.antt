@@ -12,7 +12,6 @@ pub mod Turns
 pub mod Commands
 pub mod Wanting
 pub mod Paintings
-pub mod Measured
 pub mod Knowing
 mod Doings
 pub mod NoteBytes

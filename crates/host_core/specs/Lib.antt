@@ -20,7 +20,6 @@ pub mod Sound
 pub mod Serves
 pub mod NoteLaws
 pub mod Laws
-pub mod Measuring
 pub mod Rooms
 pub mod Keeps
 pub mod Parts

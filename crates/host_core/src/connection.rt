@@ -9,7 +9,6 @@ ghost use Rattle.host_core.specs.Feeds.{Feeds};
 ghost use Rattle.host_core.specs.KeepAlive.{kept_alive, kept_alive_answer, may_keep_alive, no_operation};
 ghost use Rattle.host_core.specs.Keeps.{IsRunning, IsLeft, OthersHold, counter_of, cause_of, claim};
 ghost use Rattle.host_core.specs.Connections.{StaysShown, ShadowIf};
-ghost use Rattle.host_core.specs.Measuring.{whole_length};
 ghost use Rattle.host_core.specs.Notes.{IsNoteText};
 ghost use Rattle.host_core.specs.Questions.{HasTexts, answered_by, question_of};
 ghost use Rattle.host_core.specs.Reports.{oldest, without_dropped_key, without_rejection};
@@ -21,7 +20,6 @@ ghost use Rattle.host_core.specs.State.{opened, unused, lu_of, model_of, phase_o
 use crate::acted::Acted;
 use crate::dropped_key::DroppedKey;
 use crate::feeding::feed_open;
-use crate::measuring::ScreenMeasure;
 use crate::phase::Phase;
 use crate::question::{Answer, Question, Ticket};
 use crate::rejection::Rejection;
@@ -377,21 +375,6 @@ impl Connection {
         match &self.service {
             Service::Free | Service::Closed(_) => None,
             Service::Open(end) => end.session.pending.number(),
-        }
-    }
-
-    /// The bytes of the paint that waits for its answer, had nothing been known of the screen.
-    pub(crate) fn whole_length(
-        &self,
-        panels: &PanelSet,
-        measure: &mut ScreenMeasure,
-    ) -> Option<usize>
-        requires { IsShown panels.now self.now.service }
-        ensures { result ≡ whole_length (application_of panels.now) self.now.service }
-    {
-        match &self.service {
-            Service::Free | Service::Closed(_) => None,
-            Service::Open(end) => end.session.whole_length(panels, measure),
         }
     }
 

@@ -4,7 +4,6 @@ ghost use Rattle.host_core.specs.Application.{application_of};
 ghost use Rattle.host_core.specs.Does.{Does, DoesAnswer, acted_by, noted_by};
 ghost use Rattle.host_core.specs.Feeds.{Feeds, counter_at, with_counter};
 ghost use Rattle.host_core.specs.KeepAlive.{kept_alive, kept_alive_answer};
-ghost use Rattle.host_core.specs.Measuring.{whole_length};
 ghost use Rattle.host_core.specs.Notes.{IsNoteText};
 ghost use Rattle.host_core.specs.Questions.{HasTexts, answered_by, question_of};
 ghost use Rattle.host_core.specs.Reports.{oldest, without_dropped_key, without_rejection};
@@ -15,7 +14,6 @@ ghost use Rattle.host_core.specs.declared.phase.Phase.TheVariants as phase;
 use crate::acted::Acted;
 use crate::connection::Connection;
 use crate::dropped_key::DroppedKey;
-use crate::measuring::ScreenMeasure;
 use crate::phase::Phase;
 use crate::question::{Answer, Question, Ticket};
 use crate::rejection::Rejection;
@@ -319,15 +317,6 @@ impl Host {
             Some(shadow) => shadow,
             None => &self.nothing_known,
         }
-    }
-
-    /// How many bytes the paint that waits for its answer on a connection would have taken on the wire, had nothing been known of
-    /// what the terminal shows: the connection's panel with its message and values, whole. None if no paint waits.
-    pub fn whole_length(&self, conn: usize, measure: &mut ScreenMeasure) -> Option<usize>
-        requires number { conn < most_connections }
-        ensures { result ≡ whole_length (application_of self.now.panels) (service_at conn self.now) }
-    {
-        self.connections[conn].whole_length(&self.panels, measure)
     }
 
     /// Starts again: all numbers and all LUs are free. Sessions are counted on.

@@ -6,7 +6,7 @@ use crate::metrics_port::MetricsPort;
 use crate::server::Server;
 use crate::watcher::Watcher;
 use applications::{ApplicationFault, Replaced};
-use host_core::{Host, MOST_CONNECTIONS, ScreenMeasure};
+use host_core::{Host, MOST_CONNECTIONS};
 use job_streams::Fault;
 use jobs::ServicePort;
 use service_events::{Client, Metrics, Notice};
@@ -18,7 +18,6 @@ use std::net::Net;
 pub(crate) struct Metered<'a, W> {
     watcher: &'a mut W,
     metrics: Metrics,
-    measure: ScreenMeasure,
     port: MetricsPort,
 }
 
@@ -33,13 +32,9 @@ impl<'a, W: Watcher> Metered<'a, W> {
     ) -> Result<Metered<'a, W>, Fault> {
         let mut port = MetricsPort::listen(net, alloc, port)?;
         port.register(server);
-        let Ok(measure) = ScreenMeasure::new(alloc) else {
-            return Err(Fault::NoMemory);
-        };
         Ok(Metered {
             watcher,
             metrics: Metrics::new(),
-            measure,
             port,
         })
     }
@@ -59,11 +54,11 @@ impl<'a, W: Watcher> Metered<'a, W> {
 
 impl<W: Watcher> Watcher for Metered<'_, W> {
     ghost use Rattle.std.specs.Prelude.{◌≡◌};
-    ghost use Rattle.service_events.specs.Metrics.{counted};
+    ghost use Rattle.service_events.specs.Metrics.{counted, with_paint};
 
     ghost noticed = { λ old notice answer new. W.noticed old.watcher.now notice answer new.watcher.now × (new.metrics ≡ counted notice old.metrics) };
 
-    ghost showed = { λ old host conn answer new. W.showed old.watcher.now host conn answer new.watcher.now };
+    ghost showed = { λ old host conn answer new. W.showed old.watcher.now host conn answer new.watcher.now × (new.metrics ≡ with_paint old.metrics) };
 
     ghost reported = { λ old client fault answer new. W.reported old.watcher.now client fault answer new.watcher.now × (new.metrics ≡ old.metrics) };
 
@@ -85,10 +80,7 @@ impl<W: Watcher> Watcher for Metered<'_, W> {
     }
 
     fn shown(&mut self, host: &Host, conn: usize) -> Result<(), Fault> {
-        match host.whole_length(conn, &mut self.measure) {
-            Some(length) => self.metrics.count_paint(length as u64),
-            None => {}
-        }
+        self.metrics.count_paint();
         self.watcher.shown(host, conn)
     }
 

@@ -27,7 +27,7 @@ nothing_counted = record {
   rejected = record { device_in_use = 0; inv_name = 0; inv_device_type = 0; unsupported_req = 0; other = 0 };
   dropped_keys = 0;
   rule_breaks = 0;
-  traffic = record { turns = 0; paints = 0; received = 0; sent = 0; whole_screens = 0 };
+  traffic = record { turns = 0; paints = 0; received = 0; sent = 0 };
 }
 
 -- a count stays at its last value, 2^64 - 1
@@ -69,10 +69,9 @@ used turns received sent counts =
 abbrev pub with_usage : (turns received sent : ℕ) → Metrics → Metrics
 with_usage turns received sent counts = record counts { traffic = used turns received sent counts.traffic }
 
--- a screen was sent, whose record would have had `whole` bytes, had nothing been known of what the terminal showed
-abbrev pub with_paint : (whole : ℕ) → Metrics → Metrics
-with_paint whole counts =
-    record counts { traffic = record counts.traffic { paints = raised counts.traffic.paints 1; whole_screens = raised counts.traffic.whole_screens whole } }
+-- a screen was sent
+abbrev pub with_paint : Metrics → Metrics
+with_paint counts = record counts { traffic = record counts.traffic { paints = raised counts.traffic.paints 1 } }
 
 -- one connection fewer, and one more that ended so
 abbrev pub with_end : Ending → Metrics → Metrics

@@ -52,8 +52,6 @@ pub struct TrafficCounts {
     pub received: u64,
     /// Bytes sent.
     pub sent: u64,
-    /// Bytes of the records of all screens sent, had nothing been known of what the terminals showed.
-    pub whole_screens: u64,
 }
 
 /// What a service counts since it began. A count stays at its last value, 2^64 - 1. Prints as the page in Prometheus' text format,
@@ -178,7 +176,6 @@ impl Metrics {
                 paints: 0,
                 received: 0,
                 sent: 0,
-                whole_screens: 0,
             },
         }
     }
@@ -218,13 +215,11 @@ impl Metrics {
         }
     }
 
-    /// Counts a screen that was sent. Its record would have had this number of bytes on the wire, had nothing been known of what the
-    /// terminal showed.
-    pub fn count_paint(&mut self, whole: u64)
-        ensures { self.new ≡ with_paint whole self.old }
+    /// Counts a screen that was sent.
+    pub fn count_paint(&mut self)
+        ensures { self.new ≡ with_paint self.old }
     {
         raise(&mut self.traffic.paints, 1);
-        raise(&mut self.traffic.whole_screens, whole);
     }
 
     /// Counts what a connection took: turns, and bytes each way.

@@ -76,10 +76,7 @@ impl fmt::Display for TrafficCounts {
             paints,
             received,
             sent,
-            whole_screens,
         } = *self;
-        let whole =
-            "Bytes of the records of all screens sent, had nothing been known of what the terminals showed.";
         write!(
             f,
             "# HELP panel3270_turns_total Screens sent after the first one of a connection.
@@ -94,9 +91,6 @@ panel3270_received_bytes_total {received}
 # HELP panel3270_sent_bytes_total Bytes sent to terminals.
 # TYPE panel3270_sent_bytes_total counter
 panel3270_sent_bytes_total {sent}
-# HELP panel3270_whole_screen_bytes_total {whole}
-# TYPE panel3270_whole_screen_bytes_total counter
-panel3270_whole_screen_bytes_total {whole_screens}
 "
         )
     }
