@@ -39,6 +39,17 @@ HEADINGS = {
 }
 
 
+def happened(event: str) -> str:
+    """An event as the probe prints it, as the cases say it."""
+    if found := re.fullmatch(r"Rejected (?:None|Some\((.+)\)) Reason\((\d+)\)", event):
+        return " ".join(filter(None, ["rejected", found[1], REASONS[int(found[2])]]))
+    if found := re.fullmatch(r"KeyDropped (\d+)", event):
+        return f"dropped {int(found[1]):02X}"
+    if found := re.fullmatch(r"RuleBroken RuleBreak { rule: (\w+), cell: (\d+).* }", event):
+        return f"broken {found[1]} {found[2]}"
+    return event[0].lower() + event[1:]
+
+
 class Subject:
     """What the lines of a dialogue are for. A line `WORD WORDS` is done by the method of that word,
     `-` being `_`."""
@@ -240,11 +251,11 @@ class Host(Subject):
     note C WHAT TEXT      a note is written: sent, or nothing
     lost C [BYTES]        the connection is lost before these were sent
     restart               the host restarts
-    rejected C WHAT       removes the oldest rejection that wasn't reported yet: [LU] REASON, or
-                          none if there is none
-    dropped C AID         removes the oldest dropped key that wasn't reported yet: its AID, or none
-                          if there is none
-    broken C WHAT         the rule that the terminal broke, and the cell; or none
+    event C WHAT          what the host hands out next that happened: rejected [LU] REASON, bound LU,
+                          dropped AID, broken RULE CELL, or shown; none, if there is no more
+    rejected C WHAT       the same of rejections alone; others are left: [LU] REASON, or none
+    dropped C AID         of dropped keys
+    broken C WHAT         of the rule that the terminal broke, and the cell
     phase C PHASE         free, talking, bound LU, or closed CAUSE
     model C M             the client's model, 2 to 5, or none before it asked for its type
     turn C WHOSE          host or terminal
@@ -265,6 +276,7 @@ class Host(Subject):
         self.is_by_byte, self.cuts = holding == 2, 2
         self.panels: list[str] = []
         self.kept: list[str] | None = None
+        self.unsaid: dict[str, list[str]] = {}
 
     def split(self, words: str) -> tuple[str, str]:
         """A connection's number, and the rest."""
@@ -298,6 +310,7 @@ class Host(Subject):
         self.expect(["done"], made)
 
     def do_open(self, words: str) -> None:
+        self.unsaid[words] = []
         self.expect(["done"], self.ask(f"open {words}"))
 
     def do_client(self, words: str) -> None:
@@ -307,14 +320,6 @@ class Host(Subject):
         conn, rest = self.split(words)
         cause, _, data = rest.partition(" ")
         self.hear(conn, data, f"closed {cause}")
-
-    def do_broken(self, words: str) -> None:
-        conn, wanted = self.split(words)
-        broken = re.match(
-            r"Some\(RuleBreak { rule: (\w+), cell: (\d+) }\)",
-            self.ask(f"broken {conn}")[0],
-        )
-        self.expect(wanted, " ".join(broken.groups()) if broken else "none")
 
     def do_deaf(self, words: str) -> None:
         conn, why = self.split(words)
@@ -350,19 +355,30 @@ class Host(Subject):
 
     def do_restart(self, words: str) -> None:
         self.none(words)
+        self.unsaid.clear()
         self.ask("restart")
 
-    def do_rejected(self, words: str) -> None:
+    def expect_event(self, words: str, kind: str) -> None:
         conn, wanted = self.split(words)
-        rejected = named(self.ask(f"rejected {conn}")[0])
-        found = re.fullmatch(r"Some\(\((None|Some\((.+)\)), Reason\((\d+)\)\)\)", rejected)
-        came = [found[2] or "", REASONS[int(found[3])]] if found else ["none"]
-        self.expect(wanted, " ".join(came).strip())
+        events = self.unsaid.setdefault(conn, [])
+        while (event := named(self.ask(f"event {conn}")[0])) != "None":
+            events.append(happened(event))
+        came = next((it for it in events if it.startswith(kind)), None)
+        if came:
+            events.remove(came)
+        self.expect(wanted, came.removeprefix(kind) if came else "none")
+
+    def do_event(self, words: str) -> None:
+        self.expect_event(words, "")
+
+    def do_rejected(self, words: str) -> None:
+        self.expect_event(words, "rejected ")
 
     def do_dropped(self, words: str) -> None:
-        conn, wanted = self.split(words)
-        aid = re.fullmatch(r"Some\((\d+)\)", self.ask(f"dropped {conn}")[0])
-        self.expect(wanted, f"{int(aid[1]):02X}" if aid else "none")
+        self.expect_event(words, "dropped ")
+
+    def do_broken(self, words: str) -> None:
+        self.expect_event(words, "broken ")
 
     def do_phase(self, words: str) -> None:
         self.expect_state("phase", words)

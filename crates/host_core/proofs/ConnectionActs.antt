@@ -8,8 +8,8 @@ use Rattle.telnet_wire.specs.Reading.{Rest}
 use Rattle.tn3270e_msg.specs.HostTable.{granted}
 use Rattle.host_core.specs.Acts.{Act, Decision, Sent, acted, decided, decision_on, done, may_act}
 use Rattle.host_core.specs.Application.{Application}
-use Rattle.host_core.specs.Does.{AnswerMayWantMemory, Does, DoesAnswer, MayWantMemory}
-use Rattle.host_core.specs.Keeps.{AnswerWantsMemory, AnswersOn, DoesOn, WantsMemory}
+use Rattle.host_core.specs.Does.{AnswerMayWantMemory, Does, DoesAnswer, MayWantMemory, is_paint}
+use Rattle.host_core.specs.Keeps.{AnswerWantsMemory, AnswersOn, DoesOn, WantsMemory, shown_by}
 use Rattle.host_core.specs.Connections.{IsSoundConnection, service_of}
 use Rattle.host_core.specs.Notes.{noted, noted_as, may_note}
 use Rattle.host_core.specs.Questions.{act_by, answered_in, has_its_panel, is_asking, is_ticket, ticket_of}
@@ -21,7 +21,7 @@ use Rattle.host_core.specs.declared.acted.Acted.TheVariants as answer
 use Rattle.host_core.specs.declared.connection.HostEnd.{HostEnd}
 use Rattle.host_core.specs.declared.question.Answer.{Answer}
 use Rattle.host_core.specs.declared.question.Ticket.{Ticket}
-use Rattle.host_core.specs.Reports.{Reports}
+use Rattle.host_core.specs.Reports.{Reports, with_shown}
 use Rattle.host_core.specs.declared.connection.Service.{Service as Kept}
 use Rattle.host_core.specs.declared.connection.Service.TheVariants as kept
 use Rattle.std.proofs.Common.{Box}
@@ -29,10 +29,10 @@ use Rattle.std.proofs.Common.{Box}
 abbrev open_connection : Rest → Conn → List ℕ → Reports → Connection
 open_connection rest conn out reports = record { service = Service.Open rest conn; out = out; reports = reports }
 
-same_connection : (rest : Rest) (one other : Conn) (bytes others : List ℕ) (reports : Reports) → one ≡ other → bytes ≡ others
-    → open_connection rest one bytes reports ≡ open_connection rest other others reports
-same_connection rest one other bytes others reports conns outs =
-    ap (λ c. open_connection rest c bytes reports) conns ∙ ap (λ b. open_connection rest other b reports) outs
+same_connection : (rest : Rest) (one other : Conn) (bytes others : List ℕ) (reports kept : Reports) → one ≡ other → bytes ≡ others → reports ≡ kept
+    → open_connection rest one bytes reports ≡ open_connection rest other others kept
+same_connection rest one other bytes others reports kept conns outs are =
+    ap (λ c. open_connection rest c bytes reports) conns ∙ ap (λ b. open_connection rest other b reports) outs ∙ ap (open_connection rest other others) are
 
 -- more room does as well
 pub still_sound : (service : Kept) (before after : Vec ℕ Global) → vec_capacity before ≤ vec_capacity after → IsSoundConnection service before → IsSoundConnection service after
@@ -54,12 +54,23 @@ may_want sent rest old before reports roomy (WantsMemory.room short) =
     MayWantMemory.room (omega (arith, roomy, short, len))
 may_want sent rest old before reports roomy (WantsMemory.values changes) = MayWantMemory.values changes
 
-on_connection : (what : Option Sent) (rest : Rest) (old new : Conn) (before after : Vec ℕ Global) (answered : Acted) (reports : Reports) → out_room ≤ vec_capacity before → DoesOn what old before answered new after
-    → Does what (open_connection rest old before.items reports) answered (open_connection rest new after.items reports)
-on_connection None rest old new before after answered reports roomy does = (does.0, same_connection rest new old after.items before.items reports does.1 does.2)
-on_connection (Some sent) rest old new before after answer.Sent reports roomy does = same_connection rest new sent.conn after.items _ reports does.conn does.bytes
-on_connection (Some sent) rest old new before after answer.Memory reports roomy does = (same_connection rest new old after.items before.items reports does.0 does.1, may_want sent rest old before reports roomy does.2)
-on_connection (Some sent) rest old new before after answer.Nothing reports roomy does = absurd does
+-- where nothing was done nothing is to be reported
+none_shown : (answered : Acted) (new : Conn) (reports kept : Reports) → answered ≡ answer.Nothing → kept ≡ shown_by answered new reports → kept ≡ reports
+none_shown answered new reports kept nothing keeps = keeps ∙ ap (λ a. shown_by a new reports) nothing
+
+sent_shown : (sent : Sent) (new : Conn) (reports kept : Reports) → new ≡ sent.conn → kept ≡ shown_by answer.Sent new reports
+    → kept ≡ with_shown (is_paint sent.conn.pending) reports
+sent_shown sent new reports kept is keeps = keeps ∙ ap (λ (conn : Conn). with_shown (is_paint conn.pending) reports) is
+
+on_connection : (what : Option Sent) (rest : Rest) (old new : Conn) (before after : Vec ℕ Global) (answered : Acted) (reports kept : Reports) → out_room ≤ vec_capacity before → DoesOn what old before answered new after
+    → kept ≡ shown_by answered new reports → Does what (open_connection rest old before.items reports) answered (open_connection rest new after.items kept)
+on_connection None rest old new before after answered reports kept roomy does keeps =
+    (does.0, same_connection rest new old after.items before.items kept reports does.1 does.2 (none_shown answered new reports kept does.0 keeps))
+on_connection (Some sent) rest old new before after answer.Sent reports kept roomy does keeps =
+    same_connection rest new sent.conn after.items _ kept _ does.conn does.bytes (sent_shown sent new reports kept does.conn keeps)
+on_connection (Some sent) rest old new before after answer.Memory reports kept roomy does keeps =
+    (same_connection rest new old after.items before.items kept reports does.0 does.1 keeps, may_want sent rest old before reports roomy does.2)
+on_connection (Some sent) rest old new before after answer.Nothing reports kept roomy does keeps = absurd does
 
 -- the line of an open connection, from its parts
 connection_is : (now : Connection) (service : Kept) (box : Box HostEnd Global) (old : HostEnd) (before : Vec ℕ Global) (reports : Reports)
@@ -69,13 +80,13 @@ connection_is now service box old before reports view is value =
     view ∙ ap (λ (s : Kept). record { service = service_of s; out = before.items; reports = reports }) is
     ∙ ap (λ (x : HostEnd). open_connection x.decoder.rest x.session before.items reports) (sym value)
 
-pub does_connection : (what : Service → Option Sent) (now : Connection) (service : Kept) (box : Box HostEnd Global) (old : HostEnd) (new : Conn) (before after : Vec ℕ Global) (answered : Acted) (reports : Reports)
+pub does_connection : (what : Service → Option Sent) (now : Connection) (service : Kept) (box : Box HostEnd Global) (old : HostEnd) (new : Conn) (before after : Vec ℕ Global) (answered : Acted) (reports left : Reports)
     → now ≡ record { service = service_of service; out = before.items; reports = reports } → IsSoundConnection service before → service ≡ kept.Open box → old ≡ box.value
-    → DoesOn (what (Service.Open old.decoder.rest old.session)) old.session before answered new after
-    → Does (what now.service) now answered (open_connection old.decoder.rest new after.items reports)
-does_connection what now service box old new before after answered reports view sound is value does =
-    subst (λ (l : Connection). Does (what l.service) l answered (open_connection old.decoder.rest new after.items reports)) (sym (connection_is now service box old before reports view is value))
-    (on_connection (what (Service.Open old.decoder.rest old.session)) old.decoder.rest old.session new before after answered reports (subst (λ (s : Kept). IsSoundConnection s before) is sound).1 does)
+    → DoesOn (what (Service.Open old.decoder.rest old.session)) old.session before answered new after → left ≡ shown_by answered new reports
+    → Does (what now.service) now answered (open_connection old.decoder.rest new after.items left)
+does_connection what now service box old new before after answered reports left view sound is value does keeps =
+    subst (λ (l : Connection). Does (what l.service) l answered (open_connection old.decoder.rest new after.items left)) (sym (connection_is now service box old before reports view is value))
+    (on_connection (what (Service.Open old.decoder.rest old.session)) old.decoder.rest old.session new before after answered reports left (subst (λ (s : Kept). IsSoundConnection s before) is sound).1 does keeps)
 
 -- an answer, likewise
 answer_may_want : (app : Application) (said : Answer) (sent : Sent) (rest : Rest) (old : Conn) (before : Vec ℕ Global) (reports : Reports) → out_room ≤ vec_capacity before
@@ -85,21 +96,24 @@ answer_may_want app said sent rest old before reports roomy (AnswerWantsMemory.r
     AnswerMayWantMemory.room (omega (arith, roomy, short, len))
 answer_may_want app said sent rest old before reports roomy (AnswerWantsMemory.values want) = AnswerMayWantMemory.values want
 
-answer_on_connection : (app : Application) (said : Answer) (what : Option Sent) (rest : Rest) (old new : Conn) (before after : Vec ℕ Global) (did : Acted) (reports : Reports) → out_room ≤ vec_capacity before
-    → AnswersOn app said what old before did new after → DoesAnswer app said what (open_connection rest old before.items reports) did (open_connection rest new after.items reports)
-answer_on_connection app said None rest old new before after did reports roomy does = (does.0, same_connection rest new old after.items before.items reports does.1 does.2)
-answer_on_connection app said (Some sent) rest old new before after answer.Sent reports roomy does = same_connection rest new sent.conn after.items _ reports does.conn does.bytes
-answer_on_connection app said (Some sent) rest old new before after answer.Memory reports roomy does =
-    (same_connection rest new old after.items before.items reports does.0 does.1, answer_may_want app said sent rest old before reports roomy does.2)
-answer_on_connection app said (Some sent) rest old new before after answer.Nothing reports roomy does = absurd does
+answer_on_connection : (app : Application) (said : Answer) (what : Option Sent) (rest : Rest) (old new : Conn) (before after : Vec ℕ Global) (did : Acted) (reports kept : Reports) → out_room ≤ vec_capacity before
+    → AnswersOn app said what old before did new after → kept ≡ shown_by did new reports
+    → DoesAnswer app said what (open_connection rest old before.items reports) did (open_connection rest new after.items kept)
+answer_on_connection app said None rest old new before after did reports kept roomy does keeps =
+    (does.0, same_connection rest new old after.items before.items kept reports does.1 does.2 (none_shown did new reports kept does.0 keeps))
+answer_on_connection app said (Some sent) rest old new before after answer.Sent reports kept roomy does keeps =
+    same_connection rest new sent.conn after.items _ kept _ does.conn does.bytes (sent_shown sent new reports kept does.conn keeps)
+answer_on_connection app said (Some sent) rest old new before after answer.Memory reports kept roomy does keeps =
+    (same_connection rest new old after.items before.items kept reports does.0 does.1 keeps, answer_may_want app said sent rest old before reports roomy does.2)
+answer_on_connection app said (Some sent) rest old new before after answer.Nothing reports kept roomy does keeps = absurd does
 
-pub answers_connection : (app : Application) (said : Answer) (what : Service → Option Sent) (now : Connection) (service : Kept) (box : Box HostEnd Global) (old : HostEnd) (new : Conn) (before after : Vec ℕ Global) (did : Acted) (reports : Reports)
+pub answers_connection : (app : Application) (said : Answer) (what : Service → Option Sent) (now : Connection) (service : Kept) (box : Box HostEnd Global) (old : HostEnd) (new : Conn) (before after : Vec ℕ Global) (did : Acted) (reports left : Reports)
     → now ≡ record { service = service_of service; out = before.items; reports = reports } → IsSoundConnection service before → service ≡ kept.Open box → old ≡ box.value
-    → AnswersOn app said (what (Service.Open old.decoder.rest old.session)) old.session before did new after
-    → DoesAnswer app said (what now.service) now did (open_connection old.decoder.rest new after.items reports)
-answers_connection app said what now service box old new before after did reports view sound is value does =
-    subst (λ (l : Connection). DoesAnswer app said (what l.service) l did (open_connection old.decoder.rest new after.items reports)) (sym (connection_is now service box old before reports view is value))
-    (answer_on_connection app said (what (Service.Open old.decoder.rest old.session)) old.decoder.rest old.session new before after did reports (subst (λ (s : Kept). IsSoundConnection s before) is sound).1 does)
+    → AnswersOn app said (what (Service.Open old.decoder.rest old.session)) old.session before did new after → left ≡ shown_by did new reports
+    → DoesAnswer app said (what now.service) now did (open_connection old.decoder.rest new after.items left)
+answers_connection app said what now service box old new before after did reports left view sound is value does keeps =
+    subst (λ (l : Connection). DoesAnswer app said (what l.service) l did (open_connection old.decoder.rest new after.items left)) (sym (connection_is now service box old before reports view is value))
+    (answer_on_connection app said (what (Service.Open old.decoder.rest old.session)) old.decoder.rest old.session new before after did reports left (subst (λ (s : Kept). IsSoundConnection s before) is sound).1 does keeps)
 
 -- ---- the talk stays
 

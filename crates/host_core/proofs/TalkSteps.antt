@@ -38,8 +38,8 @@ use Rattle.host_core.specs.Parts.{TalkTaken}
 use Rattle.host_core.specs.Messages.{ToTerminal}
 use Rattle.host_core.specs.Rejections.{lu_asked, rejection_by}
 use Rattle.host_core.specs.Says.{item_sent}
-use Rattle.host_core.specs.Session.{Conn, is_agreed}
-use Rattle.host_core.specs.Reports.{Reports, reported}
+use Rattle.host_core.specs.Session.{Conn, agreed_lu, is_agreed}
+use Rattle.host_core.specs.Reports.{Reports, newly_bound, reported, with_bound}
 use Rattle.host_core.specs.Takes.{Answers, HostStep, asked, granted_by, quiet, replied, talked, talked_on, with_talk}
 
 -- ---- the table
@@ -385,11 +385,26 @@ for_talk pool conn (Opt verb code) step other talks = talks
 for_talk pool conn (Sub bytes) step other talks = talks
 for_talk pool conn (Other code) step other talks = talks
 
+-- a terminal that was bound before isn't bound anew
+not_anew : (state : HostState) (after : Option (List ℕ)) → is_agreed state ≡ true → newly_bound (agreed_lu state) after ≡ None
+not_anew (at.Agreed device lu) after agreed = refl
+not_anew at.Offered after agreed = cc
+not_anew at.Asked after agreed = cc
+not_anew (at.Asking device) after agreed = cc
+not_anew (at.Named device lu) after agreed = cc
+not_anew (at.Countered device lu) after agreed = cc
+not_anew (at.Closed cause) after agreed = cc
+
+not_by_nothing : (lu : Option (List ℕ)) → newly_bound lu lu ≡ None
+not_by_nothing None = refl
+not_by_nothing (Some lu) = refl
+
 -- all but a record is for the talk
 pub talk_taken : (number : ℕ) (pool left : List Entry) (before old new : Conn) (talk : Talk HostState) (item : WireItem) (said out : Vec ℕ Global) (closes : Option Cause)
-    → ((bytes : List ℕ) → item ≡ Record bytes → ⊥) → before ≡ old → (kept keeps : Reports) → TalkTaken number pool before.talk item said out closes left talk kept keeps → new ≡ with_talk before talk
+    → ((bytes : List ℕ) → item ≡ Record bytes → ⊥) → before ≡ old → (kept mid keeps : Reports) → TalkTaken number pool before.talk item said out closes left talk kept mid → new ≡ with_talk before talk
+    → (was now : Option (List ℕ)) → was ≡ agreed_lu old.talk.state → now ≡ agreed_lu new.talk.state → keeps ≡ with_bound (newly_bound was now) mid
     → ItemTaken number pool old item said out closes left new kept keeps
-talk_taken number pool left before old new talk item said out closes other same kept keeps taken is =
+talk_taken number pool left before old new talk item said out closes other same kept mid keeps taken is was now was_is now_is bound =
     subst (λ (from : Conn). ItemTaken number pool from item said out closes left new kept keeps) same
     (record {
       step = record { conn = with_talk before talk; sends = taken.sends; grants = taken.grants; rejects = taken.rejects; drops = None; breaks = None; closes = closes };
@@ -398,7 +413,9 @@ talk_taken number pool left before old new talk item said out closes other same 
       ends = refl;
       pool_is = taken.pool_is;
       sent = taken.sent;
-      reports = taken.reports;
+      reports = bound ∙ ap (λ lu. with_bound (newly_bound lu now) mid) (was_is ∙ ap (λ (conn : Conn). agreed_lu conn.talk.state) (sym same))
+          ∙ ap (λ lu. with_bound (newly_bound (agreed_lu before.talk.state) lu) mid) (now_is ∙ ap (λ (conn : Conn). agreed_lu conn.talk.state) is)
+          ∙ ap (with_bound (newly_bound (agreed_lu before.talk.state) (agreed_lu talk.state))) taken.reports;
     })
 
 if_agreed : (state : HostState) (bytes : List ℕ) (old : Conn) (step : HostStep) → is_agreed state ≡ true → TakesRecord old bytes step → TakesRecordIf (is_agreed state) old bytes step
@@ -424,7 +441,7 @@ record_taken number pool old new item bytes out GoesOn closes kept keeps is agre
   ends = ends;
   pool_is = refl;
   sent = none_sent out.items;
-  reports = reports;
+  reports = reports ∙ ap (λ lu. with_bound lu (reported None (step_of new GoesOn).drops (step_of new GoesOn).breaks kept)) (sym (not_anew old.talk.state (agreed_lu new.talk.state) agreed));
 }
 record_taken number pool old new item bytes out (Closes cause) closes kept keeps is agreed takes ends reports = record {
   step = step_of new (Closes cause);
@@ -433,7 +450,7 @@ record_taken number pool old new item bytes out (Closes cause) closes kept keeps
   ends = ends;
   pool_is = refl;
   sent = none_sent out.items;
-  reports = reports;
+  reports = reports ∙ ap (λ lu. with_bound lu (reported None (step_of new (Closes cause)).drops (step_of new (Closes cause)).breaks kept)) (sym (not_anew old.talk.state (agreed_lu new.talk.state) agreed));
 }
 record_taken number pool old new item bytes out (Drops aid) closes kept keeps is agreed takes ends reports = record {
   step = step_of new (Drops aid);
@@ -442,7 +459,7 @@ record_taken number pool old new item bytes out (Drops aid) closes kept keeps is
   ends = ends;
   pool_is = refl;
   sent = none_sent out.items;
-  reports = reports;
+  reports = reports ∙ ap (λ lu. with_bound lu (reported None (step_of new (Drops aid)).drops (step_of new (Drops aid)).breaks kept)) (sym (not_anew old.talk.state (agreed_lu new.talk.state) agreed));
 }
 record_taken number pool old new item bytes out (Breaks broken) closes kept keeps is agreed takes ends reports = record {
   step = step_of new (Breaks broken);
@@ -451,7 +468,7 @@ record_taken number pool old new item bytes out (Breaks broken) closes kept keep
   ends = ends;
   pool_is = refl;
   sent = none_sent out.items;
-  reports = reports;
+  reports = reports ∙ ap (λ lu. with_bound lu (reported None (step_of new (Breaks broken)).drops (step_of new (Breaks broken)).breaks kept)) (sym (not_anew old.talk.state (agreed_lu new.talk.state) agreed));
 }
 
 -- one that is dropped
@@ -464,7 +481,7 @@ record_dropped number pool old item bytes out kept is other = record {
   ends = refl;
   pool_is = refl;
   sent = none_sent out.items;
-  reports = refl;
+  reports = ap (λ lu. with_bound lu kept) (sym (not_by_nothing (agreed_lu old.talk.state)));
 }
 
 pub same_talk : (number : ℕ) (pool : List Entry) (old new : Conn) → new.talk ≡ old.talk → HoldsJust number pool (granted old.talk.state) → HoldsJust number pool (granted new.talk.state)

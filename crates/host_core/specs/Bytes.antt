@@ -11,9 +11,9 @@ use Rattle.tn3270e_msg.specs.Header.{record_limit}
 use Rattle.tn3270e_msg.specs.declared.cause.Cause.{Cause}
 use Rattle.tn3270e_msg.specs.declared.cause.Cause.TheVariants.{Wire}
 use Rattle.host_core.specs.Items.{TakesItem}
-use Rattle.host_core.specs.Reports.{reported}
+use Rattle.host_core.specs.Reports.{newly_bound, reported, with_bound}
 use Rattle.host_core.specs.Says.{item_sent}
-use Rattle.host_core.specs.Session.{Conn}
+use Rattle.host_core.specs.Session.{Conn, agreed_lu}
 use Rattle.host_core.specs.State.{Service, Connection}
 use Rattle.host_core.specs.Takes.{HostStep, pool_after}
 
@@ -26,14 +26,20 @@ abbrev pub service_after : Rest → Conn → Option Cause → Service
 service_after rest conn None = Service.Open rest conn
 service_after rest conn (Some cause) = Service.Closed cause
 
--- after an item: what is said is behind what is still to be sent, and a rejection or a dropped key behind those that weren't reported
+-- the LU that both ends of a connection agreed on
+abbrev pub bound_lu : Service → Option (List ℕ)
+bound_lu Service.Free = None
+bound_lu (Service.Open rest conn) = agreed_lu conn.talk.state
+bound_lu (Service.Closed cause) = None
+
+-- After an item: what is said is behind what is still to be sent, and what is to be reported of the item with what wasn't reported yet.
 abbrev pub stepped : ℕ → Rest → HostStep → Counter → Counter
 stepped number rest step old = record {
   pool = pool_after number step old.pool;
   connection = record {
     service = service_after rest step.conn step.closes;
     out = old.connection.out ++ sent_bytes (map item_sent step.sends);
-    reports = reported step.rejects step.drops step.breaks old.connection.reports;
+    reports = with_bound (newly_bound (bound_lu old.connection.service) (agreed_lu step.conn.talk.state)) (reported step.rejects step.drops step.breaks old.connection.reports);
   };
 }
 

@@ -1,5 +1,5 @@
 -- What acts and notes make of a connection number (our profile).
-use Rattle.std.specs.Prelude.{◌≡◌, ◌≢◌, ◌<◌, ◌+◌, ℕ, List, [], ◌∷◌, ◌++◌, length, Option, Some, None}
+use Rattle.std.specs.Prelude.{◌≡◌, ◌≢◌, ◌<◌, ◌+◌, ℕ, Bool, true, false, List, [], ◌∷◌, ◌++◌, length, Option, Some, None}
 use Rattle.panels.specs.Screen.{Values}
 use Rattle.panels.specs.Values.{HasToGrow, value_of}
 use Rattle.telnet_wire.specs.Items.{sent_bytes}
@@ -8,7 +8,8 @@ use Rattle.host_core.specs.Application.{Application}
 use Rattle.host_core.specs.Notes.{noted}
 use Rattle.host_core.specs.Rooms.{out_room, room_for}
 use Rattle.host_core.specs.Says.{item_sent}
-use Rattle.host_core.specs.Session.{Conn}
+use Rattle.host_core.specs.Reports.{with_shown}
+use Rattle.host_core.specs.Session.{Conn, Pending}
 use Rattle.host_core.specs.State.{Service, Connection}
 use Rattle.host_core.specs.declared.question.Answer.{Answer}
 use Rattle.host_core.specs.declared.acted.Acted.{Acted}
@@ -31,9 +32,20 @@ with_conn conn Service.Free = Service.Free
 with_conn conn (Service.Open rest old) = Service.Open rest conn
 with_conn conn (Service.Closed cause) = Service.Closed cause
 
--- what is sent is appended to what is still to be sent
+-- a screen was sent
+abbrev pub is_paint : Pending → Bool
+is_paint Pending.Nothing = false
+is_paint (Pending.Writing number command) = true
+is_paint (Pending.Reading number) = false
+is_paint (Pending.Noting number command) = false
+
+-- what is sent is appended to what is still to be sent; that a screen is shown is to be reported
 abbrev pub sent_on : Sent → Connection → Connection
-sent_on sent connection = record connection { service = with_conn sent.conn connection.service; out = connection.out ++ sent_bytes (item_sent sent.message ∷ []) }
+sent_on sent connection = record {
+  service = with_conn sent.conn connection.service;
+  out = connection.out ++ sent_bytes (item_sent sent.message ∷ []);
+  reports = with_shown (is_paint sent.conn.pending) connection.reports;
+}
 
 abbrev pub values_of : Service → Values
 values_of Service.Free = []

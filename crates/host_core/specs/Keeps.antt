@@ -22,13 +22,13 @@ use Rattle.tn3270e_msg.specs.declared.cause.Stop.{Stop}
 use Rattle.tn3270e_msg.specs.declared.cause.Stop.TheVariants.{Going, Memory, Closed as ClosedStop}
 use Rattle.host_core.specs.Acts.{Sent}
 use Rattle.host_core.specs.Application.{Application}
-use Rattle.host_core.specs.Does.{Grow, ValuesMayWantMemory}
+use Rattle.host_core.specs.Does.{Grow, ValuesMayWantMemory, is_paint}
 use Rattle.host_core.specs.Bytes.{Counter, service_after}
 use Rattle.host_core.specs.Items.{TakesItem}
-use Rattle.host_core.specs.Reports.{Reports, reported}
+use Rattle.host_core.specs.Reports.{Reports, newly_bound, reported, with_bound, with_shown}
 use Rattle.host_core.specs.Rooms.{room_for}
 use Rattle.host_core.specs.Says.{item_sent}
-use Rattle.host_core.specs.Session.{Conn, Pending}
+use Rattle.host_core.specs.Session.{Conn, Pending, agreed_lu}
 use Rattle.host_core.specs.Takes.{HostStep, breaking, closed_by, dropping, pool_after, quiet}
 use Rattle.host_core.specs.declared.question.Answer.{Answer}
 use Rattle.host_core.specs.declared.acted.Acted.{Acted}
@@ -107,7 +107,7 @@ pub record ItemTaken (number : ℕ) (pool : List Entry) (old : Conn) (item : Wir
   pub ends : closes ≡ step.closes
   pub pool_is : left ≡ pool_after number (record step { closes = None }) pool
   pub sent : after.items ≡ before.items ++ sent_bytes (map item_sent step.sends)
-  pub reports : keeps ≡ reported step.rejects step.drops step.breaks kept
+  pub reports : keeps ≡ with_bound (newly_bound (agreed_lu old.talk.state) (agreed_lu step.conn.talk.state)) (reported step.rejects step.drops step.breaks kept)
 
 -- the LU that was granted to a connection, which is free once the connection is closed
 abbrev pub claim : Option Cause → Conn → Option (List ℕ)
@@ -145,6 +145,12 @@ cause_of (ClosedStop cause) = Some cause
 pub record IsSentOn (sent : Sent) (before after : Vec ℕ Global) (new : Conn) : Type 0 where
   pub conn : new ≡ sent.conn
   pub bytes : after.items ≡ before.items ++ sent_bytes (item_sent sent.message ∷ [])
+
+-- what is to be reported of it
+abbrev pub shown_by : Acted → Conn → Reports → Reports
+shown_by IsSent new reports = with_shown (is_paint new.pending) reports
+shown_by Nothing new reports = reports
+shown_by NoMemory new reports = reports
 
 -- why memory was wanted: the room didn't do, or the value of some field had to grow
 pub data WantsMemory (sent : Sent) (old : Conn) (before : Vec ℕ Global) : Type 0 where

@@ -1,21 +1,27 @@
--- What a connection keeps until it is reported (our profile): the requests for an LU that the host rejected, the keys
--- that it dropped, and the rule that the terminal broke.
-use Rattle.std.specs.Prelude.{ℕ, List, [], ◌∷◌, ◌++◌, Option, Some, None, length, ltb, if◌then◌else◌}
+-- What a connection keeps until it is reported (our profile): the requests for an LU that the host rejected, the LU that the terminal
+-- was bound to, the keys that the host dropped, the rule that the terminal broke, and whether a screen was shown.
+use Rattle.std.specs.Prelude.{ℕ, Bool, true, false, ◌||◌, List, [], ◌∷◌, ◌++◌, map, Option, Some, None, length, ltb, if◌then◌else◌}
 use Rattle.std.specs.Option.{option_or}
 use Rattle.shadow.specs.declared.rule_break.RuleBreak.{RuleBreak}
 use Rattle.host_core.specs.declared.dropped_key.DroppedKey.{DroppedKey}
+use Rattle.host_core.specs.declared.event.HostEvent.{HostEvent}
+use Rattle.host_core.specs.declared.event.HostEvent.TheVariants as event
 use Rattle.host_core.specs.declared.rejection.Rejection.{Rejection}
 
 -- the oldest first
 pub record Reports : Type 0 where
   pub rejections : List Rejection
+  pub bound : Option (List ℕ)
   pub dropped_keys : List DroppedKey
   pub rule_break : Option RuleBreak
+  pub shown : Bool
 
 abbrev pub no_reports : Reports
-no_reports = record { rejections = []; dropped_keys = []; rule_break = None }
+no_reports = record { rejections = []; bound = None; dropped_keys = []; rule_break = None; shown = false }
 
--- the most of each kind: a talk sends no more rejections
+-- ---- what is kept
+
+-- the most rejections, and the most keys: a talk sends no more rejections
 abbrev pub most_reports : ℕ
 most_reports = 8
 
@@ -25,13 +31,43 @@ kept_with None kept = kept
 kept_with (Some one) kept = if ltb (length kept) most_reports then kept ++ one ∷ [] else kept
 
 abbrev pub reported : Option Rejection → Option DroppedKey → Option RuleBreak → Reports → Reports
-reported rejection dropped broken reports = record {
+reported rejection dropped broken reports = record reports {
   rejections = kept_with rejection reports.rejections;
   dropped_keys = kept_with dropped reports.dropped_keys;
   rule_break = option_or broken reports.rule_break;
 }
 
--- the one that is reported next
+-- the LU that both ends agreed on, if they hadn't agreed before
+abbrev pub newly_bound : (before after : Option (List ℕ)) → Option (List ℕ)
+newly_bound None after = after
+newly_bound (Some lu) after = None
+
+abbrev pub with_bound : Option (List ℕ) → Reports → Reports
+with_bound lu reports = record reports { bound = option_or lu reports.bound }
+
+abbrev pub with_shown : Bool → Reports → Reports
+with_shown shown reports = record reports { shown = shown || reports.shown }
+
+-- ---- what is handed out
+
+-- of what there may be
+abbrev pub event_if : {A : Type 0} → (A → HostEvent) → Option A → List HostEvent
+event_if event None = []
+event_if event (Some one) = event one ∷ []
+
+abbrev pub shown_if : Bool → List HostEvent
+shown_if shown = if shown then event.Shown ∷ [] else []
+
+-- all that wasn't reported yet, in the order in which it is handed out
+abbrev pub events_of : Reports → List HostEvent
+events_of reports =
+    map event.Rejected reports.rejections
+    ++ (event_if event.Bound reports.bound
+    ++ (map event.KeyDropped reports.dropped_keys
+    ++ (event_if event.RuleBroken reports.rule_break
+    ++ shown_if reports.shown)))
+
+-- the one that is handed out next
 abbrev pub oldest : {A : Type 0} → List A → Option A
 oldest [] = None
 oldest (one ∷ others) = Some one
@@ -40,9 +76,3 @@ oldest (one ∷ others) = Some one
 abbrev pub without_oldest : {A : Type 0} → List A → List A
 without_oldest [] = []
 without_oldest (one ∷ others) = others
-
-abbrev pub without_rejection : Reports → Reports
-without_rejection reports = record reports { rejections = without_oldest reports.rejections }
-
-abbrev pub without_dropped_key : Reports → Reports
-without_dropped_key reports = record reports { dropped_keys = without_oldest reports.dropped_keys }

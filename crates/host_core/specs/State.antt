@@ -107,6 +107,13 @@ service_at number host = (connection_at number host).service
 abbrev pub with_connection : ℕ → Connection → Host → Host
 with_connection number connection host = record host { connections = slice_set host.connections number connection }
 
+abbrev pub reports_at : ℕ → Host → Reports
+reports_at number host = (connection_at number host).reports
+
+-- the host with something else to report of a connection
+abbrev pub with_reports : ℕ → Reports → Host → Host
+with_reports number reports host = with_connection number (record (connection_at number host) { reports = reports }) host
+
 -- ---- sessions
 
 -- a connection number is opened for the next session; the count has 64 bits

@@ -7,22 +7,21 @@ ghost use Rattle.tn3270e_msg.specs.HostTable.{granted};
 ghost use Rattle.host_core.specs.Does.{Does, DoesAnswer, acted_by, noted_by};
 ghost use Rattle.host_core.specs.Feeds.{Feeds};
 ghost use Rattle.host_core.specs.KeepAlive.{kept_alive, kept_alive_answer, may_keep_alive, no_operation};
-ghost use Rattle.host_core.specs.Keeps.{IsRunning, IsLeft, OthersHold, counter_of, cause_of, claim};
+ghost use Rattle.host_core.specs.Keeps.{IsRunning, IsLeft, OthersHold, counter_of, cause_of, claim, shown_by};
 ghost use Rattle.host_core.specs.Connections.{StaysShown, ShadowIf};
 ghost use Rattle.host_core.specs.Notes.{IsNoteText};
 ghost use Rattle.host_core.specs.Questions.{HasTexts, answered_by, question_of};
-ghost use Rattle.host_core.specs.Reports.{oldest, without_dropped_key, without_rejection};
+ghost use Rattle.host_core.specs.Reports.{events_of, oldest, without_oldest};
 ghost use Rattle.host_core.specs.Rooms.{HasRoomFor, out_room};
 ghost use Rattle.host_core.specs.Sound.{HoldsJust, IsShown};
 ghost use Rattle.host_core.specs.State.Service.{Free};
 ghost use Rattle.host_core.specs.State.{opened, unused, lu_of, model_of, phase_of, turn_of, pending_of};
 
 use crate::acted::Acted;
-use crate::dropped_key::DroppedKey;
+use crate::event::HostEvent;
 use crate::feeding::feed_open;
 use crate::phase::Phase;
 use crate::question::{Answer, Question, Ticket};
-use crate::rejection::Rejection;
 use crate::reports::Reports;
 use crate::room::OUT_ROOM;
 use crate::session::Session;
@@ -31,7 +30,7 @@ use crate::turn::Turn;
 use codes3270::Model as TerminalModel;
 use lu_pool::Pool;
 use panels::PanelSet;
-use shadow::{RuleBreak, Shadow};
+use shadow::Shadow;
 use std::alloc::{AllocError, Global};
 use std::marker::Model;
 use telnet_wire::{Decoder, Memory};
@@ -103,6 +102,17 @@ fn put_nop(out: &mut Vec<u8>)
     ensures capacity { vec_capacity out.old ≤ vec_capacity out.new }
 {
     out.extend_from_slice(&IAC_NOP).unwrap();
+}
+
+/// Keeps that a screen was shown, if something was sent, and that is a screen.
+fn keep_shown(reports: &mut Reports, acted: Acted, session: &Session)
+    ensures { reports.new ≡ shown_by acted session.now reports.old }
+{
+    match acted {
+        Acted::Sent => reports.keep_shown(session.pending.is_paint()),
+        Acted::Nothing => {}
+        Acted::Memory => {}
+    }
 }
 
 /// A connection number, with what is still to be sent there, and what wasn't reported yet.
@@ -200,7 +210,11 @@ impl Connection {
     {
         match &mut self.service {
             Service::Free | Service::Closed(_) => Acted::Nothing,
-            Service::Open(end) => end.session.act(panels, &mut self.out),
+            Service::Open(end) => {
+                let acted = end.session.act(panels, &mut self.out);
+                keep_shown(&mut self.reports, acted, &end.session);
+                acted
+            }
         }
     }
 
@@ -236,8 +250,11 @@ impl Connection {
         match &mut self.service {
             Service::Free | Service::Closed(_) => Acted::Nothing,
             Service::Open(end) => {
-                end.session
-                    .answer_to(panels, session, ticket, answer, &mut self.out)
+                let acted = end
+                    .session
+                    .answer_to(panels, session, ticket, answer, &mut self.out);
+                keep_shown(&mut self.reports, acted, &end.session);
+                acted
             }
         }
     }
@@ -251,7 +268,11 @@ impl Connection {
     {
         match &mut self.service {
             Service::Free | Service::Closed(_) => Acted::Nothing,
-            Service::Open(end) => end.session.note(text, &mut self.out),
+            Service::Open(end) => {
+                let acted = end.session.note(text, &mut self.out);
+                keep_shown(&mut self.reports, acted, &end.session);
+                acted
+            }
         }
     }
 
@@ -294,27 +315,13 @@ impl Connection {
         self.out.truncate(left);
     }
 
-    /// Removes the oldest rejection that wasn't reported yet, and hands it out.
-    pub(crate) fn next_rejection(&mut self) -> Option<Rejection>
-        ensures next { result ≡ oldest self.old.reports.rejections }
-        ensures removed { self.new ≡ record self.old { reports = without_rejection self.old.reports } }
+    /// Removes what is to be reported next, and hands it out.
+    pub(crate) fn next_event(&mut self) -> Option<HostEvent>
+        ensures next { result ≡ oldest (events_of self.old.reports) }
+        ensures removed { events_of self.new.reports ≡ without_oldest (events_of self.old.reports) }
+        ensures others { self.new ≡ record self.old { reports = self.new.reports } }
     {
-        self.reports.next_rejection()
-    }
-
-    /// Removes the oldest dropped key that wasn't reported yet, and hands it out.
-    pub(crate) fn next_dropped_key(&mut self) -> Option<DroppedKey>
-        ensures next { result ≡ oldest self.old.reports.dropped_keys }
-        ensures removed { self.new ≡ record self.old { reports = without_dropped_key self.old.reports } }
-    {
-        self.reports.next_dropped_key()
-    }
-
-    /// The rule that the terminal broke, by which the connection closed.
-    pub(crate) fn rule_break(&self) -> Option<RuleBreak>
-        ensures { result ≡ self.now.reports.rule_break }
-    {
-        self.reports.rule_break()
+        self.reports.next_event()
     }
 
     /// Frees the number, and hands back what wasn't sent.

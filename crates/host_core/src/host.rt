@@ -6,24 +6,23 @@ ghost use Rattle.host_core.specs.Feeds.{Feeds, counter_at, with_counter};
 ghost use Rattle.host_core.specs.KeepAlive.{kept_alive, kept_alive_answer};
 ghost use Rattle.host_core.specs.Notes.{IsNoteText};
 ghost use Rattle.host_core.specs.Questions.{HasTexts, answered_by, question_of};
-ghost use Rattle.host_core.specs.Reports.{oldest, without_dropped_key, without_rejection};
+ghost use Rattle.host_core.specs.Reports.{events_of, oldest, without_oldest};
 ghost use Rattle.host_core.specs.Sound.{IsSound, NobodyShares};
-ghost use Rattle.host_core.specs.State.{host_for, new_host, most_connections, restarted, session_at, unused, given_up, connection_at, service_at, with_connection, with_opened, model_of, phase_of, turn_of, pending_of, shadow_of};
+ghost use Rattle.host_core.specs.State.{host_for, new_host, most_connections, restarted, session_at, unused, given_up, connection_at, reports_at, service_at, with_connection, with_opened, with_reports, model_of, phase_of, turn_of, pending_of, shadow_of};
 ghost use Rattle.host_core.specs.declared.phase.Phase.TheVariants as phase;
 
 use crate::acted::Acted;
 use crate::connection::Connection;
-use crate::dropped_key::DroppedKey;
+use crate::event::HostEvent;
 use crate::phase::Phase;
 use crate::question::{Answer, Question, Ticket};
-use crate::rejection::Rejection;
 use crate::sessions::Sessions;
 use crate::terminals::Terminals;
 use crate::turn::Turn;
 use codes3270::Model as TerminalModel;
 use lu_pool::Pool;
 use panels::PanelSet;
-use shadow::{RuleBreak, Shadow};
+use shadow::Shadow;
 use std::alloc::Global;
 use std::marker::Model;
 use telnet_wire::Memory;
@@ -234,34 +233,19 @@ impl Host {
         self.connections[conn].sent(count);
     }
 
-    /// Removes the oldest rejection on a connection that wasn't reported yet, and hands it out. A connection keeps those that its
-    /// talk sent, at most 8, until its number is opened again or freed.
-    pub fn next_rejection(&mut self, conn: usize) -> Option<Rejection>
+    /// Hands out what happened on a connection, each event once; None if there is no more. Of what happened since the last call the
+    /// rejections come first, then the LU that the terminal was bound to, the keys that were dropped, the rule that the terminal
+    /// broke, and that a screen was sent.
+    ///
+    /// A connection keeps this until its number is opened again or freed: at most 8 rejections, the first 8 keys, and one of each
+    /// other kind, so that none displaces another kind.
+    pub fn next_event(&mut self, conn: usize) -> Option<HostEvent>
         requires number { conn < most_connections }
-        ensures next { result ≡ oldest (connection_at conn self.old).reports.rejections }
-        ensures removed { self.new ≡ with_connection conn (record (connection_at conn self.old) { reports = without_rejection (connection_at conn self.old).reports }) self.old }
+        ensures next { result ≡ oldest (events_of (reports_at conn self.old)) }
+        ensures removed { events_of (reports_at conn self.new) ≡ without_oldest (events_of (reports_at conn self.old)) }
+        ensures others { self.new ≡ with_reports conn (reports_at conn self.new) self.old }
     {
-        self.connections[conn].next_rejection()
-    }
-
-    /// Removes the oldest key on a connection that was pressed out of turn, was dropped and wasn't reported yet, and hands it out. Only
-    /// a host for any terminal drops keys. A connection keeps the first 8, until its number is opened again or freed; further ones
-    /// are dropped all the same.
-    pub fn next_dropped_key(&mut self, conn: usize) -> Option<DroppedKey>
-        requires number { conn < most_connections }
-        ensures next { result ≡ oldest (connection_at conn self.old).reports.dropped_keys }
-        ensures removed { self.new ≡ with_connection conn (record (connection_at conn self.old) { reports = without_dropped_key (connection_at conn self.old).reports }) self.old }
-    {
-        self.connections[conn].next_dropped_key()
-    }
-
-    /// The rule that the terminal of a connection has broken, by which the host closed it. Only a host that verifies its terminals
-    /// looks for that.
-    pub fn rule_break(&self, conn: usize) -> Option<RuleBreak>
-        requires number { conn < most_connections }
-        ensures { result ≡ (connection_at conn self.now).reports.rule_break }
-    {
-        self.connections[conn].rule_break()
+        self.connections[conn].next_event()
     }
 
     /// A connection is lost, or its peer left: frees its number and its LU, and hands back what wasn't sent.

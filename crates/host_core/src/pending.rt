@@ -1,5 +1,6 @@
 ghost use Rattle.std.specs.Prelude.{◌≡◌, ℕ, List};
 ghost use Rattle.codes3270.specs.Size.{Shape};
+ghost use Rattle.host_core.specs.Does.{is_paint};
 ghost use Rattle.host_core.specs.Items.{is_paint_or_read};
 ghost use Rattle.host_core.specs.Keeps.{number_kept, pending_in};
 
@@ -26,6 +27,16 @@ impl Pending {
             Pending::Writing(number) | Pending::Reading(number) | Pending::Noting(number) => {
                 Some(number)
             }
+        }
+    }
+
+    /// Whether a paint waits for its answer.
+    pub(crate) fn is_paint(self) -> bool
+        ensures { (shape : Shape) (sent : List ℕ) → result ≡ is_paint (pending_in shape self sent) }
+    {
+        match self {
+            Pending::Writing(_) => true,
+            Pending::Nothing | Pending::Reading(_) | Pending::Noting(_) => false,
         }
     }
 

@@ -1,8 +1,9 @@
 //! What a connection keeps until it is reported.
-ghost use Rattle.std.specs.Prelude.{◌≡◌, None, Some};
-ghost use Rattle.host_core.specs.Reports.{kept_with, no_reports, oldest, reported, without_dropped_key, without_rejection};
+ghost use Rattle.std.specs.Prelude.{◌≡◌, None, Some, false};
+ghost use Rattle.host_core.specs.Reports.{events_of, kept_with, newly_bound, no_reports, oldest, reported, with_bound, with_shown, without_oldest};
 
 use crate::dropped_key::DroppedKey;
+use crate::event::HostEvent;
 use crate::rejection::Rejection;
 use arrayvec::ArrayVec;
 use codes3270::Aid;
@@ -10,16 +11,18 @@ use shadow::RuleBreak;
 use std::marker::Model;
 use tn3270e_msg::{Lu, Reason};
 
-/// The most of each kind: a talk sends no more rejections.
+/// The most rejections, and the most keys: a talk sends no more rejections.
 const MOST_REPORTS: usize = 8;
 
-/// The requests for an LU that the host rejected, and the keys that it dropped, the oldest first, until they are reported; and the
-/// rule that the terminal broke.
+/// What happened on a connection and wasn't reported yet: requests for an LU that were rejected, and keys that were dropped, the
+/// oldest first; the LU that the terminal was bound to, the rule that it broke, and whether a screen was shown.
 #[derive(Drop)]
 pub(crate) struct Reports {
     rejections: ArrayVec<Rejection, MOST_REPORTS>,
+    bound: Option<Lu>,
     dropped_keys: ArrayVec<DroppedKey, MOST_REPORTS>,
     rule_break: Option<RuleBreak>,
+    shown: bool,
 }
 
 impl Model for Reports {
@@ -27,7 +30,7 @@ impl Model for Reports {
 
     ghost Value = { Kept };
 
-    ghost view = { λ reports. record { rejections = reports.rejections.items; dropped_keys = reports.dropped_keys.items; rule_break = reports.rule_break } };
+    ghost view = { λ reports. record { rejections = reports.rejections.items; bound = reports.bound; dropped_keys = reports.dropped_keys.items; rule_break = reports.rule_break; shown = reports.shown } };
 }
 
 /// Keeps a rejection behind the others.
@@ -55,8 +58,10 @@ impl Reports {
     {
         Reports {
             rejections: ArrayVec::new(),
+            bound: None,
             dropped_keys: ArrayVec::new(),
             rule_break: None,
+            shown: false,
         }
     }
 
@@ -81,27 +86,83 @@ impl Reports {
         self.rule_break = Some(broken);
     }
 
-    /// The rule that the terminal broke.
-    pub(crate) fn rule_break(&self) -> Option<RuleBreak>
-        ensures { result ≡ self.now.rule_break }
+    /// Keeps the LU that both ends agreed on, if they hadn't agreed before.
+    pub(crate) fn keep_bound(&mut self, before: Option<Lu>, after: Option<Lu>)
+        ensures { self.new ≡ with_bound (newly_bound before after) self.old }
     {
-        self.rule_break
+        if before.is_none() && after.is_some() {
+            self.bound = after;
+        }
+    }
+
+    /// Keeps that a screen was shown, if it was.
+    pub(crate) fn keep_shown(&mut self, shown: bool)
+        ensures { self.new ≡ with_shown shown self.old }
+    {
+        self.shown = shown || self.shown;
     }
 
     /// Removes the oldest rejection, and hands it out.
-    pub(crate) fn next_rejection(&mut self) -> Option<Rejection>
+    fn next_rejection(&mut self) -> Option<Rejection>
         ensures next { result ≡ oldest self.old.rejections }
-        ensures removed { self.new ≡ without_rejection self.old }
+        ensures removed { self.new ≡ record self.old { rejections = without_oldest self.old.rejections } }
     {
         self.rejections.pop_at(0)
     }
 
+    /// Removes the LU that the terminal was bound to, and hands it out.
+    fn next_bound(&mut self) -> Option<Lu>
+        ensures next { result ≡ self.old.bound }
+        ensures removed { self.new ≡ record self.old { bound = None } }
+    {
+        std::mem::replace(&mut self.bound, None)
+    }
+
     /// Removes the oldest dropped key, and hands it out.
-    pub(crate) fn next_dropped_key(&mut self) -> Option<DroppedKey>
+    fn next_dropped_key(&mut self) -> Option<DroppedKey>
         ensures next { result ≡ oldest self.old.dropped_keys }
-        ensures removed { self.new ≡ without_dropped_key self.old }
+        ensures removed { self.new ≡ record self.old { dropped_keys = without_oldest self.old.dropped_keys } }
     {
         self.dropped_keys.pop_at(0)
+    }
+
+    /// Removes the rule that the terminal broke, and hands it out.
+    fn next_rule_break(&mut self) -> Option<RuleBreak>
+        ensures next { result ≡ self.old.rule_break }
+        ensures removed { self.new ≡ record self.old { rule_break = None } }
+    {
+        std::mem::replace(&mut self.rule_break, None)
+    }
+
+    /// Forgets that a screen was shown, and answers whether it was.
+    fn next_shown(&mut self) -> bool
+        ensures next { result ≡ self.old.shown }
+        ensures removed { self.new ≡ record self.old { shown = false } }
+    {
+        std::mem::replace(&mut self.shown, false)
+    }
+
+    /// Removes what is handed out next, and hands it out: rejections, the LU, keys, the rule, the screen.
+    pub(crate) fn next_event(&mut self) -> Option<HostEvent>
+        ensures next { result ≡ oldest (events_of self.old) }
+        ensures removed { events_of self.new ≡ without_oldest (events_of self.old) }
+    {
+        if let Some(rejection) = self.next_rejection() {
+            return Some(HostEvent::Rejected(rejection));
+        }
+        if let Some(lu) = self.next_bound() {
+            return Some(HostEvent::Bound(lu));
+        }
+        if let Some(key) = self.next_dropped_key() {
+            return Some(HostEvent::KeyDropped(key));
+        }
+        if let Some(broken) = self.next_rule_break() {
+            return Some(HostEvent::RuleBroken(broken));
+        }
+        if self.next_shown() {
+            return Some(HostEvent::Shown);
+        }
+        None
     }
 
     /// Forgets all.
@@ -109,7 +170,9 @@ impl Reports {
         ensures { self.new ≡ no_reports }
     {
         self.rejections.clear();
+        self.bound = None;
         self.dropped_keys.clear();
         self.rule_break = None;
+        self.shown = false;
     }
 }

@@ -42,7 +42,10 @@ pub(crate) fn take_item(
     ensures capacity { vec_capacity out.old ≤ vec_capacity out.new }
 {
     let Item::Record(bytes) = item else {
-        return talk_on(pool, number, &mut session.talk, out, reports, item);
+        let before = session.lu();
+        let closes = talk_on(pool, number, &mut session.talk, out, reports, item);
+        reports.keep_bound(before, session.lu());
+        return closes;
     };
     if session.talk.is_agreed() {
         let after = session.take_record(bytes);

@@ -1,5 +1,7 @@
 -- What a server knows of a connection (our profile). Times are milliseconds of the server's time.
-use Rattle.std.specs.Prelude.{◌-◌, ◌/◌, ℕ, Bool, List, None, Option, if◌then◌else◌, option_map, slice_index_or, slice_set}
+use Rattle.std.specs.Prelude.{◌-◌, ◌/◌, ℕ, Bool, true, false, List, [], ◌∷◌}
+use Rattle.host_core.specs.declared.event.HostEvent.{HostEvent}
+use Rattle.host_core.specs.declared.event.HostEvent.TheVariants as event
 use Rattle.service_events.specs.Metrics.{raised}
 use Rattle.service_events.specs.Timing.{new_activity}
 use Rattle.service_events.specs.declared.notice.Client.{Client}
@@ -8,17 +10,21 @@ use Rattle.service.specs.declared.connection_info.ConnectionInfo.{ConnectionInfo
 
 -- of a connection that begins
 abbrev pub new_info : Client → (now : ℕ) → ConnectionInfo
-new_info client now = record { client = client; activity = new_activity now; turns = 0 }
+new_info client now = record { client = client; activity = new_activity now; bound = false; screens = 0 }
 
--- a screen that was shown after the first one is counted
-abbrev pub with_turn : Bool → ConnectionInfo → ConnectionInfo
-with_turn counted info = if counted then record info { turns = raised info.turns 1 } else info
+-- once something happened on it
+abbrev pub with_event : HostEvent → ConnectionInfo → ConnectionInfo
+with_event (event.Rejected rejection) info = info
+with_event (event.Bound lu) info = record info { bound = true }
+with_event (event.KeyDropped key) info = info
+with_event (event.RuleBroken broken) info = info
+with_event event.Shown info = record info { screens = raised info.screens 1 }
 
--- the same for a number, if it ever had a connection
-abbrev pub with_turn_at : ℕ → Bool → List (Option ConnectionInfo) → List (Option ConnectionInfo)
-with_turn_at conn counted infos = slice_set infos conn (option_map (with_turn counted) (slice_index_or infos conn None))
+abbrev pub with_events : List HostEvent → ConnectionInfo → ConnectionInfo
+with_events [] info = info
+with_events (one ∷ events) info = with_events events (with_event one info)
 
--- what the connection took until now; its duration is in seconds
-abbrev pub usage_of : (now : ℕ) → (bound : Bool) → (sent received : ℕ) → ConnectionInfo → Usage
-usage_of now bound sent received info =
-    record { bound = bound; duration = (now - info.activity.began) / 1000; turns = info.turns; sent = sent; received = received }
+-- What the connection took until now; its duration is in seconds, and its turns are the screens after the first one.
+abbrev pub usage_of : (now : ℕ) → (sent received : ℕ) → ConnectionInfo → Usage
+usage_of now sent received info =
+    record { bound = info.bound; duration = (now - info.activity.began) / 1000; turns = info.screens - 1; sent = sent; received = received }

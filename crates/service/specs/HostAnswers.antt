@@ -1,23 +1,24 @@
 -- What a server does for an exchange with an application: it asks its host, and hands it the answer (our profile).
-use Rattle.std.specs.Prelude.{◌≡◌, ◌&&◌, ℕ, Option, Result, Ok, Err}
+use Rattle.std.specs.Prelude.{◌≡◌, ℕ, Option, Some, None, Result, Ok, Err, slice_index_or, slice_set}
 use Rattle.std.specs.Option.{option_map}
 use Rattle.host_core.specs.Application.{application_of}
 use Rattle.host_core.specs.Does.{DoesAnswer}
 use Rattle.host_core.specs.Questions.{HasTexts, answered_by, question_of}
-use Rattle.host_core.specs.State.{Host, connection_at, phase_of, service_at, session_at, with_connection}
+use Rattle.host_core.specs.Reports.{Reports}
+use Rattle.host_core.specs.State.{Host, connection_at, service_at, session_at, with_connection, with_reports}
 use Rattle.host_core.specs.declared.acted.Acted.{Acted}
 use Rattle.host_core.specs.declared.question.Answer.{Answer}
 use Rattle.host_core.specs.declared.question.Question.{Question}
 use Rattle.host_core.specs.declared.question.Ticket.{Ticket}
 use Rattle.job_streams.specs.declared.fault.Fault.{Fault}
 use Rattle.job_streams.specs.declared.fault.Fault.TheVariants as fault
-use Rattle.service_events.specs.Notices.{is_bound}
 use Rattle.service_events.specs.declared.notice.Notice.{Notice}
 use Rattle.service_events.specs.declared.notice.Usage.{Usage}
 use Rattle.socket_links.specs.Sockets.{slot_at}
-use Rattle.service.specs.ConnectionInfos.{usage_of, with_turn_at}
-use Rattle.service.specs.NumberTurns.{open_at, screen_shown, shows, was_bound}
-use Rattle.service.specs.Watching.{Told}
+use Rattle.service.specs.ConnectionInfos.{usage_of}
+use Rattle.service.specs.NumberTurns.{info_after, open_at, reported, reports_of}
+use Rattle.service.specs.Watching.{FailsAmong, HearsEach}
+use Rattle.service.specs.declared.connection_info.ConnectionInfo.{ConnectionInfo}
 use Rattle.service.specs.declared.server_core.ServerCore.{ServerCore}
 
 -- the question that is open on a connection, if one is; what its texts need of memory may be refused
@@ -38,23 +39,33 @@ pub record TakesAnswer (conn : ℕ) (ticket : Ticket) (answer : Answer) (old : H
   pub others : new ≡ with_connection conn (connection_at conn new) old
 
 module _ {S : Type 0} where
-  -- the server once its host took an answer; a screen that was shown is counted unless it is the first
-  abbrev pub core_answered : ℕ → ServerCore S → Host → ServerCore S
-  core_answered conn old host = record old { host = host; infos = with_turn_at conn (shows conn old.host host && was_bound conn old.host) old.infos }
+  -- the server once its host took an answer, and all that it kept of it was reported
+  abbrev pub core_answered : ℕ → ConnectionInfo → (old : ServerCore S) → Host → ServerCore S
+  core_answered conn info old host = record old { host = reported conn host; infos = slice_set old.infos conn (Some (info_after conn host info)) }
 
   -- what an open connection took so far
   abbrev pub usage_at : ℕ → ServerCore S → Option Usage
   usage_at conn core =
-      option_map (usage_of core.now (is_bound (phase_of (service_at conn core.host))) (slot_at conn core.sockets).sent (slot_at conn core.sockets).received) (open_at conn core)
+      option_map (usage_of core.now (slot_at conn core.sockets).sent (slot_at conn core.sockets).received) (open_at conn core)
 
 module _ {S W : Type 0} (noticed : W → Notice → Result Unit Fault → W → Type 0) (showed : W → Host → ℕ → Result Unit Fault → W → Type 0) where
-  -- The host takes an answer. If it showed a screen the watcher hears so, and nothing else; a fault of the watcher is returned.
+  -- What happened on a number's last connection is handed to the watcher, each event once and in order, and is known then; nothing, if the
+  -- number never had a connection. The first fault of the watcher ends that, and nothing is known of it.
+  abbrev pub ReportsOf : Option ConnectionInfo → (conn : ℕ) → ServerCore S → Host → W → Result Unit Fault → ServerCore S → W → Type 0
+  ReportsOf None conn old host watcher (Ok done) new after = (new ≡ record old { host = host }) × (after ≡ watcher)
+  ReportsOf None conn old host watcher (Err why) new after = ⊥
+  ReportsOf (Some info) conn old host watcher (Ok done) new after =
+      HearsEach noticed showed (reports_of info.client conn host) watcher after × (new ≡ core_answered conn info old host)
+  ReportsOf (Some info) conn old host watcher (Err why) new after =
+      FailsAmong noticed showed (reports_of info.client conn host) watcher why after
+      × ((reports : Reports) × (new ≡ record old { host = with_reports conn reports host }))
+
+  -- The host takes an answer. What happened then is handed to the watcher; a fault of the watcher is returned.
   pub record HandsAnswer (conn : ℕ) (ticket : Ticket) (answer : Answer) (old : ServerCore S) (watcher : W) (result : Result Acted Fault) (new : ServerCore S) (after : W)
       : Type 0 where
     pub acted : Acted
     pub host : Host
     pub heard : Result Unit Fault
     pub takes : TakesAnswer conn ticket answer old.host acted host
-    pub hears : Told noticed showed (screen_shown (shows conn old.host host) conn host) watcher heard after
-    pub becomes : new ≡ core_answered conn old host
+    pub reports : ReportsOf (slice_index_or old.infos conn None) conn old host watcher heard new after
     pub result_is : result ≡ unless_failed acted heard

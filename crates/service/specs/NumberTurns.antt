@@ -1,73 +1,47 @@
 -- A turn of one connection (our profile): it is served, what happened is reported, and it is given back if it is over.
-use Rattle.std.specs.Prelude.{◌≡◌, ◌≢◌, ◌==◌, ◌&&◌, not, ℕ, Bool, false, List, [], ◌∷◌, ◌++◌, length, map, slice_index_or, slice_set, Option, Some, None, Result, Ok, Err, if◌then◌else◌}
-use Rattle.std.specs.Option.{option_map}
+use Rattle.std.specs.Prelude.{◌≡◌, ◌≢◌, ◌==◌, not, ℕ, Bool, false, List, [], ◌∷◌, ◌++◌, length, map, slice_index_or, slice_set, Option, Some, None, Result, Ok, Err, if◌then◌else◌}
 use Rattle.std.specs.declared.io.Error.{Error}
-use Rattle.host_core.specs.Reports.{Reports}
+use Rattle.host_core.specs.Reports.{Reports, events_of, no_reports}
 use Rattle.host_core.specs.Serves.{Serves}
-use Rattle.host_core.specs.State.{Host, connection_at, given_up, pending_of, phase_of, service_at, turn_of, with_connection}
-use Rattle.host_core.specs.declared.phase.Phase.{Phase}
+use Rattle.host_core.specs.State.{Host, connection_at, given_up, phase_of, reports_at, service_at, with_reports}
+use Rattle.host_core.specs.declared.event.HostEvent.{HostEvent}
+use Rattle.host_core.specs.declared.event.HostEvent.TheVariants as event
 use Rattle.host_core.specs.declared.serving.Served.{Served}
 use Rattle.host_core.specs.declared.serving.Served.TheVariants as served
 use Rattle.job_streams.specs.declared.fault.Fault.{Fault}
 use Rattle.job_streams.specs.declared.fault.Fault.TheVariants as fault
-use Rattle.service_events.specs.Notices.{bound_in_turn, ending_of, is_bound, is_shown}
+use Rattle.service_events.specs.Notices.{ending_of}
 use Rattle.service_events.specs.declared.notice.Client.{Client}
 use Rattle.service_events.specs.declared.notice.Ending.{Ending}
 use Rattle.service_events.specs.declared.notice.Notice.{Notice}
 use Rattle.service_events.specs.declared.notice.Notice.TheVariants as notice
 use Rattle.socket_links.specs.Sockets.{GivesAt, Sockets, TakesAt, emptied, is_connected, slot_at, with_slot, with_waiting}
 use Rattle.service.specs.Watching.{Event, FailsAmong, HearsEach, Noticed, Showed, if_any}
-use Rattle.service.specs.ConnectionInfos.{usage_of, with_turn}
+use Rattle.service.specs.ConnectionInfos.{usage_of, with_events}
 use Rattle.service.specs.declared.connection_info.ConnectionInfo.{ConnectionInfo}
 use Rattle.service.specs.declared.server_core.ServerCore.{ServerCore}
 
 -- ---- reports
 
-abbrev pub reports_at : ℕ → Host → Reports
-reports_at conn host = (connection_at conn host).reports
-
--- the host with these reports of a connection, and all else as it was
-abbrev pub with_reports : ℕ → Reports → Host → Host
-with_reports conn reports host = with_connection conn (record (connection_at conn host) { reports = reports }) host
-
-abbrev pub without_rejections : Reports → Reports
-without_rejections reports = record reports { rejections = [] }
-
-abbrev pub without_keys : Reports → Reports
-without_keys reports = record reports { dropped_keys = [] }
-
--- all that a connection had to report was reported; a broken rule stays
-abbrev pub all_reported : Reports → Reports
-all_reported reports = without_keys (without_rejections reports)
-
+-- nothing is left to report of a connection; all else is as it was
 abbrev pub reported : ℕ → Host → Host
-reported conn host = with_reports conn (all_reported (reports_at conn host)) host
+reported conn host = with_reports conn no_reports host
 
-abbrev pub rejected : Client → Reports → List Event
-rejected client reports = map (λ rejection. Noticed (notice.Rejected client rejection)) reports.rejections
+-- What the watcher hears of an event on a connection. `host`: the one that it sees.
+abbrev pub told_of : Client → ℕ → Host → HostEvent → Event
+told_of client conn host (event.Rejected rejection) = Noticed (notice.Rejected client rejection)
+told_of client conn host (event.Bound lu) = Noticed (notice.Bound client lu)
+told_of client conn host (event.KeyDropped key) = Noticed (notice.KeyDropped client key)
+told_of client conn host (event.RuleBroken broken) = Noticed (notice.RuleBroken client broken)
+told_of client conn host event.Shown = Showed host conn
 
-abbrev pub keys_dropped : Client → Reports → List Event
-keys_dropped client reports = map (λ key. Noticed (notice.KeyDropped client key)) reports.dropped_keys
+-- what it hears of a connection: each event that the host kept, in its order
+abbrev pub reports_of : Client → ℕ → Host → List Event
+reports_of client conn host = map (told_of client conn (reported conn host)) (events_of (reports_at conn host))
 
-abbrev pub bound : Client → (before after : Phase) → Option Notice
-bound client before after = option_map (notice.Bound client) (bound_in_turn before after)
-
-abbrev pub rule_broken : Client → Reports → Option Notice
-rule_broken client reports = option_map (notice.RuleBroken client) reports.rule_break
-
-abbrev pub screen_shown : Bool → ℕ → Host → List Event
-screen_shown shown conn host = if shown then Showed host conn ∷ [] else []
-
--- What is reported of a turn, in this order: each rejection of an LU, the LU that the terminal was bound to, each key that the host
--- dropped, the rule that the terminal broke, and that the host showed a screen. `before`: the phase before the turn; `host`: as it was
--- after it.
-abbrev pub reports_of : Client → ℕ → (before : Phase) → (shown : Bool) → (host : Host) → List Event
-reports_of client conn before shown host =
-    rejected client (reports_at conn host)
-    ++ (if_any Noticed (bound client before (phase_of (service_at conn host)))
-    ++ (keys_dropped client (reports_at conn host)
-    ++ (if_any Noticed (rule_broken client (reports_at conn host))
-    ++ screen_shown shown conn (reported conn host))))
+-- what is known of the connection then
+abbrev pub info_after : ℕ → Host → ConnectionInfo → ConnectionInfo
+info_after conn host info = with_events (events_of (reports_at conn host)) info
 
 -- ---- a connection that is open, and how it ends
 
@@ -90,24 +64,10 @@ module _ {S : Type 0} where
   given_back_if (Some ending) conn core = given_back conn core
 
   -- the watcher hears that a connection is over, why, and what it took
-  abbrev pub ended : ℕ → (bound : Bool) → ConnectionInfo → ServerCore S → Ending → Event
-  ended conn bound info core ending = Noticed (notice.Ended info.client ending (usage_of core.now bound (slot_at conn core.sockets).sent (slot_at conn core.sockets).received info))
+  abbrev pub ended : ℕ → ConnectionInfo → ServerCore S → Ending → Event
+  ended conn info core ending = Noticed (notice.Ended info.client ending (usage_of core.now (slot_at conn core.sockets).sent (slot_at conn core.sockets).received info))
 
 -- ---- a turn of one connection
-
--- whether the host showed a screen, by the host before and after it served the connection
-abbrev pub shows : ℕ → (before after : Host) → Bool
-shows conn before after = is_shown (pending_of (service_at conn before)) (pending_of (service_at conn after)) (turn_of (service_at conn after))
-
-abbrev pub was_bound : ℕ → (before : Host) → Bool
-was_bound conn before = is_bound (phase_of (service_at conn before))
-
--- a screen is counted unless it is the first
-abbrev pub info_after : ℕ → (before after : Host) → ConnectionInfo → ConnectionInfo
-info_after conn before after info = with_turn (shows conn before after && was_bound conn before) info
-
-abbrev pub reports_in_turn : ℕ → (before after : Host) → Client → List Event
-reports_in_turn conn before after client = reports_of client conn (phase_of (service_at conn before)) (shows conn before after) after
 
 -- why the connection is over after the turn, if it is
 abbrev pub ending_after : ℕ → Served → (after : Host) → Option Ending
@@ -117,12 +77,12 @@ module _ {S : Type 0} where
   -- the server once the host has served a connection, and all was reported
   abbrev pub core_reported : ℕ → ConnectionInfo → (old : ServerCore S) → Host → Sockets S → ServerCore S
   core_reported conn info old host sockets =
-      record old { host = reported conn host; sockets = sockets; infos = slice_set old.infos conn (Some (info_after conn old.host host info)) }
+      record old { host = reported conn host; sockets = sockets; infos = slice_set old.infos conn (Some (info_after conn host info)) }
 
   -- the watcher hears last that the connection is over
   abbrev pub end_in_turn : ℕ → ConnectionInfo → (old : ServerCore S) → Served → Host → Sockets S → List Event
   end_in_turn conn info old answer host sockets =
-      if_any (ended conn (was_bound conn old.host) (info_after conn old.host host info) (core_reported conn info old host sockets)) (ending_after conn answer host)
+      if_any (ended conn (info_after conn host info) (core_reported conn info old host sockets)) (ending_after conn answer host)
 
 module _ {S W : Type 0} (gave : S → ℕ → List ℕ → Result ℕ Error → S → Type 0) (took : S → List ℕ → Result ℕ Error → S → Type 0)
     (noticed : W → Notice → Result Unit Fault → W → Type 0) (showed : W → Host → ℕ → Result Unit Fault → W → Type 0) where
@@ -139,7 +99,7 @@ module _ {S W : Type 0} (gave : S → ℕ → List ℕ → Result ℕ Error → 
     pub serves : IsServed conn old answer host sockets
     pub fed : answer ≢ served.Memory
     pub acts : acted ≡ not (length (connection_at conn host).out == length (connection_at conn old.host).out)
-    pub hears : HearsEach noticed showed (reports_in_turn conn old.host host info.client ++ end_in_turn conn info old answer host sockets) watcher after
+    pub hears : HearsEach noticed showed (reports_of info.client conn host ++ end_in_turn conn info old answer host sockets) watcher after
     pub becomes : new ≡ given_back_if (ending_after conn answer host) conn (core_reported conn info old host sockets)
 
   -- How that breaks off: memory was refused while the host served the connection, and the watcher hears nothing; or the watcher failed.
@@ -148,11 +108,11 @@ module _ {S W : Type 0} (gave : S → ℕ → List ℕ → Result ℕ Error → 
     starved : (host : Host) (sockets : Sockets S) → IsServed conn old served.Memory host sockets → why ≡ fault.NoMemory
         → new ≡ record old { host = host; sockets = sockets } → after ≡ watcher → BreaksOffAt conn info old watcher why new after
     report_failed : (answer : Served) (host : Host) (sockets : Sockets S) (reports : Reports) → IsServed conn old answer host sockets → answer ≢ served.Memory
-        → FailsAmong noticed showed (reports_in_turn conn old.host host info.client) watcher why after
-        → new ≡ record (core_reported conn info old host sockets) { host = with_reports conn reports host }
+        → FailsAmong noticed showed (reports_of info.client conn host) watcher why after
+        → new ≡ record old { host = with_reports conn reports host; sockets = sockets }
         → BreaksOffAt conn info old watcher why new after
     end_failed : (answer : Served) (host : Host) (sockets : Sockets S) (told : W) → IsServed conn old answer host sockets → answer ≢ served.Memory
-        → HearsEach noticed showed (reports_in_turn conn old.host host info.client) watcher told
+        → HearsEach noticed showed (reports_of info.client conn host) watcher told
         → FailsAmong noticed showed (end_in_turn conn info old answer host sockets) told why after
         → new ≡ given_back_if (ending_after conn answer host) conn (core_reported conn info old host sockets)
         → BreaksOffAt conn info old watcher why new after

@@ -12,7 +12,7 @@ use Rattle.service_events.specs.declared.limits.Due.TheVariants as due_now
 use Rattle.service_events.specs.declared.notice.Ending.TheVariants as ending
 use Rattle.service_events.specs.declared.notice.Notice.{Notice}
 use Rattle.socket_links.specs.Sockets.{slot_at}
-use Rattle.service.specs.NumberTurns.{ended, given_back, open_at, was_bound}
+use Rattle.service.specs.NumberTurns.{ended, given_back, open_at}
 use Rattle.service.specs.Visits.{VisitsEach}
 use Rattle.service.specs.Watching.{Told}
 use Rattle.service.specs.declared.connection_info.ConnectionInfo.{ConnectionInfo}
@@ -62,7 +62,7 @@ module _ {S W : Type 0} (noticed : W → Notice → Result Unit Fault → W → 
   -- What is due on a connection is done, and nothing else: it is given back, and the watcher hears so; or IAC NOP is sent.
   abbrev pub DoesDue : Due → ℕ → ConnectionInfo → ServerCore S → W → Result Bool Fault → ServerCore S → W → Type 0
   DoesDue (due_now.Disconnect overdue) conn info old watcher answer new after =
-      Told noticed showed (ended conn (was_bound conn old.host) info old (ending.Dropped overdue) ∷ []) watcher (done answer) after
+      Told noticed showed (ended conn info old (ending.Dropped overdue) ∷ []) watcher (done answer) after
       × (new ≡ given_back conn old) × HasDone answer
   DoesDue due_now.KeepAlive conn info old watcher answer new after =
       (answer ≡ Ok (sends_nop conn old)) × (after ≡ watcher)

@@ -1,9 +1,9 @@
 //! What a server knows of the connections of its host.
-ghost use Rattle.std.specs.Prelude.{◌≡◌, ◌<◌, IfOk, None, Some, length, option_map, replicate, slice_index_or, slice_set};
+ghost use Rattle.std.specs.Prelude.{◌≡◌, ◌<◌, IfOk, None, Some, length, replicate, slice_index_or, slice_set};
 ghost use Rattle.host_core.specs.State.{most_connections};
-ghost use Rattle.service.specs.ConnectionInfos.{new_info, usage_of, with_turn, with_turn_at};
+ghost use Rattle.service.specs.ConnectionInfos.{new_info, usage_of, with_event};
 
-use host_core::MOST_CONNECTIONS;
+use host_core::{HostEvent, MOST_CONNECTIONS};
 use service_events::{Activity, Client, Usage};
 use std::alloc::{AllocError, Global};
 use std::marker::Model;
@@ -15,8 +15,10 @@ pub struct ConnectionInfo {
     pub client: Client,
     /// When it began, and when it did something.
     pub activity: Activity,
-    /// How many screens were shown after the first one.
-    pub turns: u64,
+    /// Whether its terminal was bound to an LU.
+    pub bound: bool,
+    /// How many screens were shown.
+    pub screens: u64,
 }
 
 impl ConnectionInfo {
@@ -27,33 +29,32 @@ impl ConnectionInfo {
         ConnectionInfo {
             client,
             activity: Activity::new(now),
-            turns: 0,
+            bound: false,
+            screens: 0,
         }
     }
 
-    /// The same, with a screen more if it is counted.
-    pub(crate) fn with_turn(self, counted: bool) -> ConnectionInfo
-        ensures { result ≡ with_turn counted self }
+    /// Takes down what happened on the connection.
+    pub(crate) fn take_down(&mut self, event: &HostEvent)
+        ensures { self.new ≡ with_event event.now self.old }
     {
-        if counted {
-            ConnectionInfo {
-                turns: self.turns.saturating_add(1),
-                ..self
-            }
-        } else {
-            self
+        match event {
+            HostEvent::Bound(_) => self.bound = true,
+            HostEvent::Shown => self.screens = self.screens.saturating_add(1),
+            HostEvent::Rejected(_) => {}
+            HostEvent::KeyDropped(_) => {}
+            HostEvent::RuleBroken(_) => {}
         }
     }
 
-    /// What the connection took until now, by the bytes that were sent and that came. `bound`: whether its terminal is bound to an LU,
-    /// or was at its end.
-    pub(crate) fn usage(&self, now: u64, bound: bool, sent: u64, received: u64) -> Usage
-        ensures { result ≡ usage_of now bound sent received self.now }
+    /// What the connection took until now, by the bytes that were sent and that came.
+    pub(crate) fn usage(&self, now: u64, sent: u64, received: u64) -> Usage
+        ensures { result ≡ usage_of now sent received self.now }
     {
         Usage {
-            bound,
+            bound: self.bound,
             duration: now.saturating_sub(self.activity.began) / 1000,
-            turns: self.turns,
+            turns: self.screens.saturating_sub(1),
             sent,
             received,
         }
@@ -76,16 +77,6 @@ impl Model for ConnectionInfos {
     ghost view = { λ infos. infos.infos.items };
 
     ghost invariant = { λ infos. length infos.infos.items ≡ most_connections };
-}
-
-/// What is known of a number, with a screen more if it is counted.
-fn counted_in(info: Option<ConnectionInfo>, counted: bool) -> Option<ConnectionInfo>
-    ensures { result ≡ option_map (with_turn counted) info }
-{
-    match info {
-        Some(info) => Some(info.with_turn(counted)),
-        None => None,
-    }
 }
 
 /// 64 numbers that had no connection.
@@ -123,13 +114,5 @@ impl ConnectionInfos {
         ensures { self.new ≡ slice_set self.old conn (Some info) }
     {
         self.infos[conn] = Some(info);
-    }
-
-    /// Counts a screen that was shown on a number's last connection, if it is counted. Nothing if the number never had one.
-    pub(crate) fn count_turn(&mut self, conn: usize, counted: bool)
-        requires { conn < most_connections }
-        ensures { self.new ≡ with_turn_at conn counted self.old }
-    {
-        self.infos[conn] = counted_in(self.at(conn), counted);
     }
 }

@@ -1,10 +1,9 @@
 //! A server without its listener and its poll: the host, its connections, and the server's time.
-ghost use Rattle.std.specs.Prelude.{◌≡◌, ◌<◌, ◌∷◌, [], IfNone, IfOk, IfSome};
+ghost use Rattle.std.specs.Prelude.{◌≡◌, ◌<◌, ◌∷◌, [], IfNone, IfOk, IfSome, None, slice_index_or};
 ghost use Rattle.host_core.specs.State.{most_connections};
-ghost use Rattle.service_events.specs.Notices.{is_bound, is_new, is_shown};
 ghost use Rattle.socket_links.specs.Sockets.{AreTaken};
 ghost use Rattle.service.specs.Accepting.{Admits, AdmitsAll, IsLeastFree, door, most_accepted};
-ghost use Rattle.service.specs.HostAnswers.{HandsAnswer, usage_at};
+ghost use Rattle.service.specs.HostAnswers.{HandsAnswer, ReportsOf, usage_at};
 ghost use Rattle.service.specs.NumberTurns.{ServesAt, ServesIfOpen, ended, given_back, open_at};
 ghost use Rattle.service.specs.ServerTurns.{TakesTurn, new_core};
 ghost use Rattle.service.specs.TimeTurns.{AppliesAt, AppliesIfOpen, KeepsTime, nop_sent, sends_nop};
@@ -13,10 +12,10 @@ ghost use Rattle.service.specs.Watching.{Told};
 
 use crate::accepting::{Accepted, Listener};
 use crate::connection_info::{ConnectionInfo, ConnectionInfos};
-use crate::reporting::{report, report_screen};
+use crate::reporting::report;
 use crate::watcher::Watcher;
 use applications::SessionName;
-use host_core::{Acted, Answer, Host, MOST_CONNECTIONS, Phase, Served, Ticket, Turn, serve_turn};
+use host_core::{Acted, Answer, Host, MOST_CONNECTIONS, Phase, Served, Ticket, serve_turn};
 use job_streams::{Fault, RawRead, RawWrite};
 use jobs::TimeLimits;
 use service_events::{Client, Due, Ending, Notice, Usage, are_applied, awaited_on, ending_of};
@@ -52,37 +51,6 @@ fn free_number(host: &Host) -> Option<usize>
         }
     }
     None
-}
-
-/// Whether a command waits for its answer that didn't before, by the numbers of both commands.
-fn is_new(before: Option<u16>, after: Option<u16>) -> bool
-    ensures { result ≡ is_new before after }
-{
-    match after {
-        Some(number) => match before {
-            Some(earlier) => number != earlier,
-            None => true,
-        },
-        None => false,
-    }
-}
-
-/// Whether the host showed a screen in a turn of serving, by the numbers of the commands that waited for their answers before and
-/// after it, and by who has the turn after it.
-pub(crate) fn is_shown(before: Option<u16>, after: Option<u16>, turn: Turn) -> bool
-    ensures { result ≡ is_shown before after turn }
-{
-    match turn {
-        Turn::Terminal => is_new(before, after),
-        Turn::Host => false,
-    }
-}
-
-/// Whether a terminal is bound to an LU.
-pub(crate) fn is_bound(phase: &Phase) -> bool
-    ensures { result ≡ is_bound phase.now }
-{
-    matches!(phase, Phase::Bound(_))
 }
 
 impl<S: RawRead + RawWrite + Drop> ServerCore<S> {
@@ -157,22 +125,20 @@ impl<S: RawRead + RawWrite + Drop> ServerCore<S> {
         }
     }
 
-    /// Gives a connection back: frees its number and its LU, and closes its socket. Then tells the watcher that it is over. `bound`:
-    /// whether its terminal is bound to an LU, or was before this turn.
+    /// Gives a connection back: frees its number and its LU, and closes its socket. Then tells the watcher that it is over.
     fn end<W: Watcher>(
         &mut self,
         conn: usize,
         info: &ConnectionInfo,
-        bound: bool,
         ending: Ending,
         watcher: &mut W,
     ) -> Result<(), Fault>
         requires number { conn < most_connections }
-        ensures told { Told W.noticed W.showed (ended conn bound info.now self.old ending ∷ []) watcher.old result watcher.new }
+        ensures told { Told W.noticed W.showed (ended conn info.now self.old ending ∷ []) watcher.old result watcher.new }
         ensures given_back { self.new ≡ given_back conn self.old }
     {
         let (sent, received) = (self.sockets.sent(conn), self.sockets.received(conn));
-        let usage = info.usage(self.now, bound, sent, received);
+        let usage = info.usage(self.now, sent, received);
         self.host.closed(conn);
         self.sockets.close(conn);
         watcher.notice(&Notice::Ended(info.client, ending, usage))
@@ -189,8 +155,6 @@ impl<S: RawRead + RawWrite + Drop> ServerCore<S> {
         requires number { conn < most_connections }
         ensures { ServesIfOpen S.read_gave S.write_took W.noticed W.showed (Some info.now) conn self.old watcher.old result self.new watcher.new }
     {
-        let before = self.host.phase(conn);
-        let pending = self.host.pending(conn);
         let waiting = self.host.out(conn).len();
         self.sockets.set_waiting(conn, waiting);
         let served = serve_turn(&mut self.host, &mut self.sockets, conn);
@@ -199,13 +163,11 @@ impl<S: RawRead + RawWrite + Drop> ServerCore<S> {
         }
         let acted = self.host.out(conn).len() != waiting;
         let ending = ending_of(&self.host.phase(conn), served);
-        let shown = is_shown(pending, self.host.pending(conn), self.host.turn(conn));
-        let bound = is_bound(&before);
-        let after = info.with_turn(shown & bound);
+        let mut after = *info;
+        report(&mut self.host, conn, &mut after, watcher)?;
         self.infos.set(conn, after);
-        report(&mut self.host, conn, &info.client, &before, shown, watcher)?;
         if let Some(ending) = ending {
-            self.end(conn, &after, bound, ending, watcher)?;
+            self.end(conn, &after, ending, watcher)?;
         }
         Ok(acted)
     }
@@ -247,7 +209,20 @@ impl<S: RawRead + RawWrite + Drop> ServerCore<S> {
         Ok(self.sockets.take_moved() | acted)
     }
 
-    /// Hands the host the answer to a question. The watcher hears of a screen that it shows; its fault is returned.
+    /// Hands the watcher what happened on a number's last connection, each event once; nothing, if the number never had a connection.
+    /// A fault of the watcher is returned, and nothing is reported after it.
+    fn report_on<W: Watcher>(&mut self, conn: usize, watcher: &mut W) -> Result<(), Fault>
+        requires number { conn < most_connections }
+        ensures { ReportsOf W.noticed W.showed (slice_index_or self.old.infos conn None) conn self.old self.old.host watcher.old result self.new watcher.new }
+    {
+        if let Some(mut info) = self.infos.at(conn) {
+            report(&mut self.host, conn, &mut info, watcher)?;
+            self.infos.set(conn, info);
+        }
+        Ok(())
+    }
+
+    /// Hands the host the answer to a question. The watcher hears what happened then; its fault is returned.
     pub(crate) fn answer<W: Watcher>(
         &mut self,
         conn: usize,
@@ -258,12 +233,8 @@ impl<S: RawRead + RawWrite + Drop> ServerCore<S> {
         requires { conn < most_connections }
         ensures { HandsAnswer W.noticed W.showed conn ticket answer.now self.old watcher.old result self.new watcher.new }
     {
-        let bound = is_bound(&self.host.phase(conn));
-        let pending = self.host.pending(conn);
         let acted = self.host.answer(conn, ticket, answer);
-        let shown = is_shown(pending, self.host.pending(conn), self.host.turn(conn));
-        self.infos.count_turn(conn, shown & bound);
-        report_screen(&self.host, conn, shown, watcher)?;
+        self.report_on(conn, watcher)?;
         Ok(acted)
     }
 
@@ -273,9 +244,8 @@ impl<S: RawRead + RawWrite + Drop> ServerCore<S> {
         ensures { result ≡ usage_at conn self.entry.now }
     {
         let info = self.open_info(conn)?;
-        let bound = is_bound(&self.host.phase(conn));
         let (sent, received) = (self.sockets.sent(conn), self.sockets.received(conn));
-        Some(info.usage(self.now, bound, sent, received))
+        Some(info.usage(self.now, sent, received))
     }
 
     /// Sends IAC NOP on a connection, unless output waits there. Answers whether it did.
@@ -306,13 +276,7 @@ impl<S: RawRead + RawWrite + Drop> ServerCore<S> {
         activity.hear(received, sent, awaited, self.now);
         match activity.due(limits, awaited, self.now) {
             Due::Disconnect(overdue) => {
-                self.end(
-                    conn,
-                    info,
-                    is_bound(&phase),
-                    Ending::Dropped(overdue),
-                    watcher,
-                )?;
+                self.end(conn, info, Ending::Dropped(overdue), watcher)?;
                 Ok(true)
             }
             Due::KeepAlive => {

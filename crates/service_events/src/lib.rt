@@ -15,5 +15,5 @@ mod scrape;
 
 pub use limits::{Activity, Awaited, Due, Overdue, are_applied, awaited_on};
 pub use metrics::{ClosedCounts, EndCounts, Metrics, RejectedCounts, TrafficCounts};
-pub use notice::{Client, Ending, Notice, Usage, bound_in_turn, ending_of};
+pub use notice::{Client, Ending, Notice, Usage, ending_of};
 pub use scrape::{Asked, HttpStatus, is_late, response_of};

@@ -1,6 +1,6 @@
 //! The lines of a server's log: what became of its connections.
 ghost use Rattle.std.specs.Prelude.{◌≡◌};
-ghost use Rattle.service_events.specs.Notices.{bound_in_turn, ending_of};
+ghost use Rattle.service_events.specs.Notices.{ending_of};
 
 use crate::limits::Overdue;
 use applications::{KeyName, SessionName};
@@ -159,18 +159,5 @@ pub fn ending_of(after: &Phase, served: Served) -> Option<Ending>
             Phase::Free | Phase::Talking | Phase::Bound(_) => Some(Ending::Lost),
         },
         Served::Memory => None,
-    }
-}
-
-/// The LU that a terminal was bound to in a turn, by the phases before and after it; None if it wasn't bound in that turn.
-pub fn bound_in_turn(before: &Phase, after: &Phase) -> Option<Lu>
-    ensures { result ≡ bound_in_turn before.now after.now }
-{
-    match before {
-        Phase::Talking => match after {
-            Phase::Bound(lu) => Some(*lu),
-            Phase::Free | Phase::Talking | Phase::Closed(_) => None,
-        },
-        Phase::Free | Phase::Bound(_) | Phase::Closed(_) => None,
     }
 }

@@ -21,14 +21,15 @@ use Rattle.tn3270e_msg.specs.declared.host_talk.HostState.{HostState}
 use Rattle.tn3270e_msg.specs.declared.host_talk.HostState.TheVariants.{Offered, Asked, Asking, Named, Countered, Agreed, Closed}
 use Rattle.host_core.specs.Acts.{Sent}
 use Rattle.host_core.specs.Application.{Application}
-use Rattle.host_core.specs.Bytes.{Counter, TakesByte, TakesBytes, service_after, stepped}
+use Rattle.host_core.specs.Bytes.{Counter, TakesByte, TakesBytes, bound_lu, service_after, stepped}
 use Rattle.host_core.specs.Does.{sent_on, with_conn}
 use Rattle.host_core.specs.Feeds.{IsOpen, counter_at, with_counter}
 use Rattle.host_core.specs.Items.{TakesItem}
 use Rattle.host_core.specs.KeepAlive.{kept_alive, may_keep_alive, no_operation, with_nop}
 use Rattle.host_core.specs.Messages.{ToHost}
 use Rattle.host_core.specs.Says.{item_sent}
-use Rattle.host_core.specs.Session.{Conn, is_agreed}
+use Rattle.host_core.specs.Reports.{Reports, newly_bound, with_bound}
+use Rattle.host_core.specs.Session.{Conn, agreed_lu, is_agreed}
 use Rattle.host_core.specs.State.{Connection, Host, Service, connection_at, service_at, unused, with_connection}
 use Rattle.host_core.specs.Takes.{Answers, HostStep, freed_if, quiet, talked, talked_on, took as host_took}
 use Rattle.host_core.specs.declared.acted.Acted.{Acted}
@@ -50,6 +51,16 @@ use Rattle.world3270.proofs.HostItems.{host_reads}
 use Rattle.world3270.proofs.HostSteps.{just_talks}
 use Rattle.world3270.proofs.ItemsSpelt.{Spells}
 use Rattle.world3270.proofs.LinkUp.{link_behind, never_wrong, none_first, one_first, sends_stand}
+
+-- what leaves the talk as it was binds no terminal
+same_lu : (lu : Option (List ℕ)) (reports : Reports) → with_bound (newly_bound lu lu) reports ≡ reports
+same_lu None reports = refl
+same_lu (Some lu) reports = refl
+
+not_bound_anew : (service : Service) (rest : Rest) (conn : Conn) (reports : Reports) → service ≡ Service.Open rest conn
+    → with_bound (newly_bound (bound_lu service) (agreed_lu conn.talk.state)) reports ≡ reports
+not_bound_anew service rest conn reports is =
+    ap (λ (s : Service). with_bound (newly_bound (bound_lu s) (agreed_lu conn.talk.state)) reports) is ∙ same_lu (agreed_lu conn.talk.state) reports
 
 -- ---- a command that the host takes as nothing
 
@@ -253,7 +264,9 @@ module _ (laws : HearsLaws) (app : Application) (Good : Told → Type 0) (kept :
             let agreed = ap (λ (c : Conn). is_agreed c.talk.state) same ∙ (kept.ready t good).agreed in
             let quietly = is_counter ∙ ap (λ (step : HostStep). stepped number to step (counter_at number old.host)) (command_is_nothing (answer_to old.host.pool) conn item done bare agreed taken) in
             let nothing_out = ap (λ (out : List ℕ). record { pool = old.host.pool; connection = record line { service = Service.Open to conn; out = out } }) (append-nil line.out) in
-            hears_nothing byte behind counter rest to conn (item ∷ []) (kept_if item true bare) queue held delivers (quietly ∙ nothing_out)
+            let nothing_new = ap (λ (reports : Reports). record { pool = old.host.pool; connection = record { service = Service.Open to conn; out = line.out ++ []; reports = reports } })
+            (not_bound_anew line.service rest conn line.reports held) in
+            hears_nothing byte behind counter rest to conn (item ∷ []) (kept_if item true bare) queue held delivers (quietly ∙ nothing_new ∙ nothing_out)
     hears_byte byte behind counter queue (TakesByte.breaks rest conn fault held wrong is_counter) =
         absurd (never_wrong laws.final (link_over number old) link byte behind fault is.stands host_here queue
         (subst (λ (r : Rest). GoesWrong record_limit r (byte ∷ []) fault) (sym (ap rest_of held)) wrong))

@@ -16,8 +16,8 @@ use crate::talk::{Answer, Done, Fault, Words, bytes_of, named, text_of};
 use applications::application_of;
 use codes3270::aid_byte;
 use host_core::{
-    Answer as Reply, Host, MOST_CONNECTIONS, MessageText, PanelSet, Phase, Pool, Question,
-    Terminals, Ticket, Values, serve_turn,
+    Answer as Reply, Host, HostEvent, MOST_CONNECTIONS, MessageText, PanelSet, Phase, Pool,
+    Question, Rejection, Terminals, Ticket, Values, serve_turn,
 };
 use std::alloc::AllocError;
 use world3270::NoteText;
@@ -115,12 +115,18 @@ fn take_on(
     }
 }
 
-fn put_dropped(answer: &mut Answer, host: &mut Host, conn: usize) -> Done
-    requires { conn < most_connections }
-{
-    match host.next_dropped_key(conn) {
-        Some(key) => answer.line(&Some(aid_byte(key.aid))),
-        None => answer.said(&"None"),
+fn put_event(answer: &mut Answer, event: HostEvent) -> Done {
+    match event {
+        HostEvent::Rejected(Rejection { lu, reason }) => {
+            Ok(writeln!(answer.text, "Rejected {lu:?} {reason:?}")?)
+        }
+        HostEvent::Bound(lu) => Ok(writeln!(answer.text, "Bound {lu:?}")?),
+        HostEvent::KeyDropped(key) => {
+            let aid = aid_byte(key.aid);
+            Ok(writeln!(answer.text, "KeyDropped {aid}")?)
+        }
+        HostEvent::RuleBroken(broken) => Ok(writeln!(answer.text, "RuleBroken {broken:?}")?),
+        HostEvent::Shown => answer.said(&"Shown"),
     }
 }
 
@@ -128,9 +134,10 @@ fn look(host: &mut Host, conn: usize, word: &str, answer: &mut Answer) -> Done
     requires { conn < most_connections }
 {
     match word {
-        "rejected" => answer.line(&host.next_rejection(conn).map(|it| (it.lu, it.reason))),
-        "dropped" => put_dropped(answer, host, conn),
-        "broken" => answer.line(&host.rule_break(conn)),
+        "event" => match host.next_event(conn) {
+            Some(event) => put_event(answer, event),
+            None => answer.said(&"None"),
+        },
         "question" => match host.question(conn) {
             Ok(Some(question)) => put_question(answer, host, &question),
             Ok(None) => Ok(()),

@@ -7,12 +7,13 @@ use Rattle.host_core.specs.Session.{Conn}
 use Rattle.host_core.proofs.TalkSteps.{not_record, record_dropped, record_taken, same_talk, talk_taken, unless_closed_then}
 use Rattle.host_core.proofs.talking.take_item.Goals as goal
 
-pub talk_on-requires-clause-holder : goal.talk_on-requires-clause-holder
-talk_on-requires-clause-holder c = subst (λ (conn : Conn). HoldsJust c.args.number c.args.pool.now (granted conn.talk.state)) (sym c.session.view_is) c.requires.holder
+pub talk_on-closes-requires-clause-holder : goal.talk_on-closes-requires-clause-holder
+talk_on-closes-requires-clause-holder c = subst (λ (conn : Conn). HoldsJust c.args.number c.args.pool.now (granted conn.talk.state)) (sym c.session.view_is) c.requires.holder
 
 pub returns-in_default-clause-taken : goal.returns-in_default-clause-taken
 returns-in_default-clause-taken c =
-    talk_taken _ _ _ _ _ _ c.talk_on.new.talk _ _ _ _ (not_record c.args.item.now c.in_default.not-Record) c.session.view_is _ _ c.talk_on.ensures.taken refl
+    talk_taken _ _ _ _ _ _ c.talk_on-closes.new.talk _ _ _ _ (not_record c.args.item.now c.in_default.not-Record) c.session.view_is _ _ _ c.talk_on-closes.ensures.taken refl
+    _ _ c.lu-before.ensures c.lu.ensures c.keep_bound.ensures
 
 pub returns-in_default-clause-panel : goal.returns-in_default-clause-panel
 returns-in_default-clause-panel c = ap (λ (conn : Conn). conn.panel) c.session.view_is

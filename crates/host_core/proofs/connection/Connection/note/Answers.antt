@@ -1,14 +1,17 @@
-use Rattle.std.proofs.Common.{sym}
+use Rattle.std.proofs.Common.{ap, sym, ◌∙◌}
 use Rattle.host_core.specs.Does.{noted_by}
+use Rattle.host_core.specs.Keeps.{shown_by}
+use Rattle.host_core.specs.declared.connection.HostEnd.{HostEnd}
 use Rattle.host_core.proofs.ConnectionActs.{does_connection, note_holds}
 use Rattle.host_core.proofs.connection.Connection.note.Goals as goal
 
 pub returns-in-Open-clause-noted : goal.returns-in-Open-clause-noted
 returns-in-Open-clause-noted c =
-    does_connection (noted_by c.args.text.now) c.args.self.now c.self.inside.service c.in-Open.end c.deref_mut.result.now c.note.new.self c.self.inside.out c.note.new.out c.note.result _
-    (sym c.self.view_is) c.self.invariant c.in-Open.is c.deref_mut.ensures.value c.note.ensures.noted
+    does_connection (noted_by c.args.text.now) c.args.self.now c.self.inside.service c.in-Open.end c.deref_mut.result.now c.note-acted.new.self c.self.inside.out c.note-acted.new.out c.note-acted.result _ _
+    (sym c.self.view_is) c.self.invariant c.in-Open.is c.deref_mut.ensures.value c.note-acted.ensures.noted
+    (c.keep_shown.ensures ∙ ap (λ (x : HostEnd). shown_by c.note-acted.result x.session c.self.inside.reports) c.deref.ensures)
 
 pub returns-in-Open-clause-held : goal.returns-in-Open-clause-held
 returns-in-Open-clause-held c =
-    note_holds c.args.self.now c.self.inside.service c.in-Open.end c.deref_mut.result.now c.note.new.self c.self.inside.out c.note.new.out c.note.result _
-    (sym c.self.view_is) c.in-Open.is c.deref_mut.ensures.value c.args.text.now c.note.ensures.noted
+    note_holds c.args.self.now c.self.inside.service c.in-Open.end c.deref_mut.result.now c.note-acted.new.self c.self.inside.out c.note-acted.new.out c.note-acted.result _
+    (sym c.self.view_is) c.in-Open.is c.deref_mut.ensures.value c.args.text.now c.note-acted.ensures.noted

@@ -1,0 +1,12 @@
+use Rattle.std.proofs.Common.{length}
+use Rattle.host_core.specs.Reports.{events_of}
+use Rattle.host_core.specs.State.{reports_at}
+use Rattle.service.proofs.Reports.{IsReporting}
+use Rattle.service.proofs.reporting.report.Given as goal
+
+abbrev pub invariant-loop-event : goal.invariant-loop-event
+invariant-loop-event g l =
+    IsReporting g.W.Watcher.noticed g.W.Watcher.showed l.conn l.initial.host l.initial.info l.initial.watcher l.host l.info l.watcher
+
+abbrev pub decreases-loop-event : goal.decreases-loop-event
+decreases-loop-event g l = length (events_of (reports_at l.conn l.host))
