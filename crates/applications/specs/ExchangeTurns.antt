@@ -1,7 +1,7 @@
 -- Exchanges with an application (our profile): the request of an open question goes to a connection of its own, and
 -- the reply is read from it. Each exchange ends once: with an answer, with a fault that is reported and of which the
 -- operator is shown a message, or because the operator left.
-use Rattle.std.specs.Prelude.{◌≡◌, ◌<◌, ℕ, ◌+◌, Bool, true, false, List, [], ◌∷◌, ◌++◌, drop, length, if◌then◌else◌, Option, Some, None, Result, Ok, Err, IfErr, IfOk, slice_index_or, slice_set, ⊤}
+use Rattle.std.specs.Prelude.{◌≡◌, ◌<◌, ℕ, ◌+◌, Bool, true, false, List, [], ◌∷◌, ◌++◌, drop, length, if◌then◌else◌, Option, Some, None, Result, Ok, Err, IfErr, IfOk, slice_index_or, slice_set, unwrap_or, ⊤}
 use Rattle.std.specs.IoError.{error_kind}
 use Rattle.std.specs.declared.io.Error.{Error}
 use Rattle.std.specs.declared.io.ErrorKind.{ErrorKind}
@@ -70,6 +70,10 @@ absence_by kind.Interrupted = None
 absence_by kind.ConnectionRefused = Some absence.Refused
 absence_by kind.OutOfMemory = Some absence.NoMemory
 absence_by _ = Some absence.Broken
+
+-- why no exchange begins, by the error of connecting: a call that did nothing this time isn't made again
+abbrev pub unconnected_by : ErrorKind → Absence
+unconnected_by kind = unwrap_or (absence_by kind) absence.Broken
 
 abbrev pub failed_by : Option Absence → Progress
 failed_by None = Still
@@ -182,9 +186,13 @@ module _ {S : Type 0} (gave : ReadCall S) (took : WriteCall S) where
 -- ---- what the end of an exchange asks for
 
 -- What calls of a server did, each between the server before the call and after it: which question is open on a
--- connection, what the host did with an answer, and what was reported of a fault, and of a reply that was shown.
+-- connection, what connecting to the application answered, what the host did with an answer, and what was reported of a
+-- fault, and of a reply that was shown.
 abbrev pub QuestionCall : Type 0 → Type 1
 QuestionCall A = A → ℕ → Result (Option Question) Fault → Type 0
+
+abbrev pub ConnectCall : Type 0 → Type 0 → Type 1
+ConnectCall A S = A → Result S Error → Type 0
 
 abbrev pub AnswerCall : Type 0 → Type 1
 AnswerCall A = A → ℕ → Ticket → Answer → Result Acted Fault → A → Type 0
@@ -195,8 +203,8 @@ FaultCall A = A → ℕ → ApplicationFault → Result Unit Fault → A → Typ
 abbrev pub ReplyCall : Type 0 → Type 1
 ReplyCall A = A → ℕ → Reply → Result Unit Fault → A → Type 0
 
--- what a turn did, unless a report breaks it off
-abbrev pub unless_failed : (did : Bool) → Result Unit Fault → Result Bool Fault
+-- what a call did, unless a report breaks it off
+abbrev pub unless_failed : {A : Type 0} → (did : A) → Result Unit Fault → Result A Fault
 unless_failed did (Ok done) = Ok did
 unless_failed did (Err fault) = Err fault
 
@@ -255,38 +263,47 @@ module _ {A : Type 0} (answered : AnswerCall A) (reported : FaultCall A) where
 
 -- ---- a turn of a connection
 
--- An exchange for a question begins, on a stream of its own. `written`: how a request is written, for the application
--- that it goes to.
+-- An exchange for a question begins, on the stream that the server connected. `written`: how a request is written, for
+-- the application that it goes to.
 pub record BeginsFor {S : Type 0} (written : Request → List ℕ) (boot now : ℕ) (served : Panels → Type 0)
-    (question : Question) (exchange : Exchange S) : Type 0 where
+    (connected : Result S Error → Type 0) (question : Question) (exchange : Exchange S) : Type 0 where
   pub panels : Panels
   pub stream : S
   pub request : List ℕ
   pub are_served : served panels
   pub asks : IsRequestFor written boot panels question (Some request)
+  pub connects : connected (Ok stream)
   pub exchange_is : exchange ≡ begun stream question request now
+
+-- Why none begins: memory for its request is refused, or the server can't connect, and the error says why.
+pub data CannotBegin {S : Type 0} (connected : Result S Error → Type 0) (reason : Absence) : Type 0 where
+  no_request : reason ≡ absence.NoMemory → CannotBegin connected reason
+  unconnected : (error : Error) → connected (Err error) → reason ≡ unconnected_by (error_kind error)
+      → CannotBegin connected reason
 
 module _ {A : Type 0} (served : A → Panels → Type 0) (answered : AnswerCall A) (reported : FaultCall A) where
   -- An exchange for an open question begins, or fails at once.
-  pub data AsksAbout {S : Type 0} (written : Request → List ℕ) (boot now conn : ℕ) (question : Question) (old : A)
-      (result : Result Bool Fault) (new : A) (after : Option (Exchange S)) : Type 0 where
-    begins : (exchange : Exchange S) → BeginsFor written boot now (served old) question exchange
+  pub data AsksAbout {S : Type 0} (connected : ConnectCall A S) (written : Request → List ℕ) (boot now conn : ℕ)
+      (question : Question) (old : A) (result : Result Bool Fault) (new : A) (after : Option (Exchange S))
+      : Type 0 where
+    begins : (exchange : Exchange S) → BeginsFor written boot now (served old) (connected old) question exchange
         → after ≡ Some exchange → new ≡ old → result ≡ Ok true
-        → AsksAbout written boot now conn question old result new after
-    cannot_begin : (absence : Absence) → after ≡ None
-        → Fails answered reported old conn question.ticket (why.Absent absence) result new
-        → AsksAbout written boot now conn question old result new after
+        → AsksAbout connected written boot now conn question old result new after
+    cannot_begin : (reason : Absence) → CannotBegin (connected old) reason → after ≡ None
+        → Fails answered reported old conn question.ticket (why.Absent reason) result new
+        → AsksAbout connected written boot now conn question old result new after
 
   -- Where no exchange is under way, one begins if a question is open.
-  pub data Asks {S : Type 0} (asked : QuestionCall A) (written : Request → List ℕ) (boot now conn : ℕ) (old : A)
-      (result : Result Bool Fault) (new : A) (after : Option (Exchange S)) : Type 0 where
+  pub data Asks {S : Type 0} (connected : ConnectCall A S) (asked : QuestionCall A) (written : Request → List ℕ)
+      (boot now conn : ℕ) (old : A) (result : Result Bool Fault) (new : A) (after : Option (Exchange S))
+      : Type 0 where
     asks_about : (question : Question) → asked old conn (Ok (Some question))
-        → AsksAbout written boot now conn question old result new after
-        → Asks asked written boot now conn old result new after
+        → AsksAbout connected written boot now conn question old result new after
+        → Asks connected asked written boot now conn old result new after
     no_question : asked old conn (Ok None) → after ≡ None → new ≡ old → result ≡ Ok false
-        → Asks asked written boot now conn old result new after
+        → Asks connected asked written boot now conn old result new after
     asking_fails : (fault : Fault) → asked old conn (Err fault) → after ≡ None → new ≡ old → result ≡ Err fault
-        → Asks asked written boot now conn old result new after
+        → Asks connected asked written boot now conn old result new after
 
   -- An exchange that is under way stays so, or ends; then it is gone.
   pub data Goes {S : Type 0} (gave : ReadCall S) (took : WriteCall S) (noted : ReplyCall A) (has_operator : Bool)
@@ -304,12 +321,12 @@ module _ {A : Type 0} (served : A → Panels → Type 0) (answered : AnswerCall 
         → Goes gave took noted has_operator now most conn exchange old result new after
 
   -- by the exchange that is under way, if one is
-  abbrev pub Turns : {S : Type 0} → ReadCall S → WriteCall S → QuestionCall A → ReplyCall A
+  abbrev pub Turns : {S : Type 0} → ReadCall S → WriteCall S → ConnectCall A S → QuestionCall A → ReplyCall A
       → (written : Request → List ℕ) → (boot now most : ℕ) → (has_operator : Bool) → (conn : ℕ) → Option (Exchange S)
       → A → Result Bool Fault → A → Option (Exchange S) → Type 0
-  Turns gave took asked noted written boot now most has_operator conn None old result new after =
-      Asks asked written boot now conn old result new after
-  Turns gave took asked noted written boot now most has_operator conn (Some exchange) old result new after =
+  Turns gave took connected asked noted written boot now most has_operator conn None old result new after =
+      Asks connected asked written boot now conn old result new after
+  Turns gave took connected asked noted written boot now most has_operator conn (Some exchange) old result new after =
       Goes gave took noted has_operator now most conn exchange old result new after
 
 -- the exchange of a connection number, and all exchanges with another there

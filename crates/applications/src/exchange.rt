@@ -2,7 +2,7 @@
 ghost use Rattle.std.specs.Prelude.{◌≡◌, drop, length, string_bytes};
 ghost use Rattle.std.specs.IoError.{error_kind};
 ghost use Rattle.applications.specs.Applications.{is_reply_late};
-ghost use Rattle.applications.specs.ExchangeTurns.{GoesOn, Hears, Reads, Serves, Writes, absence_by, begun, failed_by, hearing, in_time, read_as, unsent_by};
+ghost use Rattle.applications.specs.ExchangeTurns.{GoesOn, Hears, Reads, Serves, Writes, absence_by, begun, failed_by, hearing, in_time, read_as, unconnected_by, unsent_by};
 
 use crate::application_fault::{Absence, ApplicationFault};
 use application_http::{Reply, ReplyFault, ReplyReader};
@@ -39,7 +39,9 @@ fn absence_by(kind: ErrorKind) -> Option<Absence>
 }
 
 /// Why no exchange begins, by the error of connecting.
-pub(crate) fn absence_of(error: &Error) -> Absence {
+pub(crate) fn absence_of(error: &Error) -> Absence
+    ensures { result ≡ unconnected_by (error_kind error.now) }
+{
     absence_by(error.kind()).unwrap_or(Absence::Broken)
 }
 

@@ -1,7 +1,7 @@
 //! The exchanges of a server's connections with an application: at most one on each, and nothing waits for one.
-ghost use Rattle.std.specs.Prelude.{◌≡◌, ◌<◌, IfOk, None, replicate};
+ghost use Rattle.std.specs.Prelude.{◌≡◌, ◌<◌, IfErr, IfOk, None, replicate};
 ghost use Rattle.application_http.specs.Requests.{request_bytes};
-ghost use Rattle.applications.specs.ExchangeTurns.{Asks, AsksAbout, BeginsFor, Ends, Fails, Goes, Hands, Shows, Turns, slot_at, unless_failed, with_slot};
+ghost use Rattle.applications.specs.ExchangeTurns.{Asks, AsksAbout, BeginsFor, CannotBegin, Ends, Fails, Goes, Hands, Shows, Turns, slot_at, unless_failed, with_slot};
 ghost use Rattle.host_core.specs.State.{most_connections};
 
 use crate::application_fault::{Absence, ApplicationFault};
@@ -25,7 +25,7 @@ pub trait AskingServer {
     ghost use Rattle.std.specs.Prelude.{◌<◌};
     ghost use Rattle.host_core.specs.State.{most_connections};
     ghost use Rattle.panels.specs.Panel.{Panels};
-    ghost use Rattle.applications.specs.ExchangeTurns.{AnswerCall, FaultCall, QuestionCall, ReplyCall};
+    ghost use Rattle.applications.specs.ExchangeTurns.{AnswerCall, ConnectCall, FaultCall, QuestionCall, ReplyCall};
 
     /// A connection to the application.
     type Stream: RawRead + RawWrite + Drop;
@@ -33,6 +33,8 @@ pub trait AskingServer {
     ghost served: { Self → Panels → Type 0 };
 
     ghost asked: { QuestionCall Self };
+
+    ghost connected: { ConnectCall Self Self.Stream };
 
     ghost answered: { AnswerCall Self };
 
@@ -50,7 +52,8 @@ pub trait AskingServer {
         ensures { asked self.now conn result };
 
     /// Begins to connect to the application.
-    fn connect(&self) -> io::Result<Self::Stream>;
+    fn connect(&self) -> io::Result<Self::Stream>
+        ensures { connected self.now result };
 
     /// Hands the host the answer to the question with a ticket.
     fn answer(&mut self, conn: usize, ticket: Ticket, answer: &Answer) -> Result<Acted, Fault>
@@ -59,10 +62,12 @@ pub trait AskingServer {
 
     /// Reports why a connection's question has no answer.
     fn report_unanswered(&mut self, conn: usize, fault: &ApplicationFault) -> Result<(), Fault>
+        requires { conn < most_connections }
         ensures { reported self.old conn fault.now result self.new };
 
     /// Reports what was replaced in a reply whose answer was shown, if anything was.
     fn report_replaced(&mut self, conn: usize, reply: &Reply) -> Result<(), Fault>
+        requires { conn < most_connections }
         ensures { noted self.old conn reply.now result self.new };
 }
 
@@ -187,8 +192,9 @@ fn begin<S: RawRead + RawWrite + Drop, A: AskingServer<Stream = S>>(
     server: &A,
     question: &Question,
 ) -> Result<Exchange<S>, Absence>
-    ensures { IfOk result (BeginsFor (request_bytes asking.entry.endpoint.now) asking.entry.boot asking.entry.now
-        (A.served server.now) question.now) }
+    ensures begins { IfOk result (BeginsFor (request_bytes asking.entry.endpoint.now) asking.entry.boot asking.entry.now
+        (A.served server.now) (A.connected server.now) question.now) }
+    ensures cannot { IfErr result (CannotBegin (A.connected server.now)) }
 {
     match request_of(
         asking.alloc,
@@ -215,8 +221,8 @@ fn ask_about<S: RawRead + RawWrite + Drop, A: AskingServer<Stream = S>>(
 ) -> Result<bool, Fault>
     requires empty { slot.old ≡ None }
     requires number { conn < most_connections }
-    ensures { AsksAbout A.served A.answered A.reported (request_bytes asking.entry.endpoint.now) asking.entry.boot
-        asking.entry.now conn question.now server.old result server.new slot.new }
+    ensures { AsksAbout A.served A.answered A.reported A.connected (request_bytes asking.entry.endpoint.now)
+        asking.entry.boot asking.entry.now conn question.now server.old result server.new slot.new }
 {
     match begin(asking, server, question) {
         Ok(exchange) => {
@@ -239,8 +245,8 @@ fn ask<S: RawRead + RawWrite + Drop, A: AskingServer<Stream = S>>(
 ) -> Result<bool, Fault>
     requires empty { slot.old ≡ None }
     requires number { conn < most_connections }
-    ensures { Asks A.served A.answered A.reported A.asked (request_bytes asking.entry.endpoint.now) asking.entry.boot
-        asking.entry.now conn server.old result server.new slot.new }
+    ensures { Asks A.served A.answered A.reported A.connected A.asked (request_bytes asking.entry.endpoint.now)
+        asking.entry.boot asking.entry.now conn server.old result server.new slot.new }
 {
     match server.question(conn) {
         Ok(Some(question)) => ask_about(slot, asking, server, conn, &question),
@@ -286,7 +292,7 @@ fn turn_of<S: RawRead + RawWrite + Drop, A: AskingServer<Stream = S>>(
     has_operator: bool,
 ) -> Result<bool, Fault>
     requires { conn < most_connections }
-    ensures { Turns A.served A.answered A.reported S.read_gave S.write_took A.asked A.noted
+    ensures { Turns A.served A.answered A.reported S.read_gave S.write_took A.connected A.asked A.noted
         (request_bytes asking.entry.endpoint.now) asking.entry.boot asking.entry.now asking.entry.most has_operator conn
         slot.old server.old result server.new slot.new }
 {
@@ -348,7 +354,7 @@ impl<S: RawRead + RawWrite + Drop> Exchanges<S> {
         has_operator: bool,
     ) -> Result<bool, Fault>
         requires { conn < most_connections }
-        ensures turns { Turns A.served A.answered A.reported S.read_gave S.write_took A.asked A.noted
+        ensures turns { Turns A.served A.answered A.reported S.read_gave S.write_took A.connected A.asked A.noted
             (request_bytes asking.entry.endpoint.now) asking.entry.boot asking.entry.now asking.entry.most has_operator
             conn (slot_at conn self.old) server.old result server.new (slot_at conn self.new) }
         ensures others { self.new ≡ with_slot conn (slot_at conn self.new) self.old }

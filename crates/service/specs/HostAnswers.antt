@@ -1,6 +1,11 @@
--- What a server does for an exchange with an application: it asks its host, and hands it the answer (our profile).
+-- What a server does for an exchange with an application: it asks its host, hands it an answer, and reports (our profile).
 use Rattle.std.specs.Prelude.{◌≡◌, ℕ, Option, Some, None, Result, Ok, Err, slice_index_or, slice_set}
 use Rattle.std.specs.Option.{option_map}
+use Rattle.applications.specs.Applications.{first_replaced}
+use Rattle.applications.specs.ExchangeTurns.{unless_failed}
+use Rattle.applications.specs.declared.application_fault.ApplicationFault.{ApplicationFault}
+use Rattle.applications.specs.declared.application_reply.Replaced.{Replaced}
+use Rattle.application_http.specs.declared.reply.Reply.{Reply}
 use Rattle.host_core.specs.Application.{application_of}
 use Rattle.host_core.specs.Does.{DoesAnswer}
 use Rattle.host_core.specs.Questions.{HasTexts, answered_by, question_of}
@@ -12,6 +17,7 @@ use Rattle.host_core.specs.declared.question.Question.{Question}
 use Rattle.host_core.specs.declared.question.Ticket.{Ticket}
 use Rattle.job_streams.specs.declared.fault.Fault.{Fault}
 use Rattle.job_streams.specs.declared.fault.Fault.TheVariants as fault
+use Rattle.service_events.specs.declared.notice.Client.{Client}
 use Rattle.service_events.specs.declared.notice.Notice.{Notice}
 use Rattle.service_events.specs.declared.notice.Usage.{Usage}
 use Rattle.socket_links.specs.Sockets.{slot_at}
@@ -27,11 +33,6 @@ AsksHost conn host (Ok question) = question ≡ question_of (application_of host
 AsksHost conn host (Err why) =
     (why ≡ fault.NoMemory) × HasTexts (question_of (application_of host.panels) (session_at conn host) (service_at conn host))
 
--- what the host did with an answer, unless the watcher fails
-abbrev pub unless_failed : Acted → Result Unit Fault → Result Acted Fault
-unless_failed acted (Ok done) = Ok acted
-unless_failed acted (Err why) = Err why
-
 -- The host takes the answer to the question with a ticket, and shows what it says, if that question is open. No other connection changes.
 pub record TakesAnswer (conn : ℕ) (ticket : Ticket) (answer : Answer) (old : Host) (acted : Acted) (new : Host) : Type 0 where
   pub does : DoesAnswer (application_of old.panels) answer
@@ -42,6 +43,10 @@ module _ {S : Type 0} where
   -- the server once its host took an answer, and all that it kept of it was reported
   abbrev pub core_answered : ℕ → ConnectionInfo → (old : ServerCore S) → Host → ServerCore S
   core_answered conn info old host = record old { host = reported conn host; infos = slice_set old.infos conn (Some (info_after conn host info)) }
+
+  -- the client of a number's last connection, if it ever had one
+  abbrev pub client_at : ℕ → ServerCore S → Option Client
+  client_at conn core = option_map (λ info. info.client) (slice_index_or core.infos conn None)
 
   -- what an open connection took so far
   abbrev pub usage_at : ℕ → ServerCore S → Option Usage
@@ -69,3 +74,21 @@ module _ {S W : Type 0} (noticed : W → Notice → Result Unit Fault → W → 
     pub takes : TakesAnswer conn ticket answer old.host acted host
     pub reports : ReportsOf (slice_index_or old.infos conn None) conn old host watcher heard new after
     pub result_is : result ≡ unless_failed acted heard
+
+module _ {W : Type 0} (reported : W → Client → ApplicationFault → Result Unit Fault → W → Type 0) where
+  -- the watcher hears why a client's question has no answer; if there is no client it hears nothing
+  abbrev pub HearsFault : Option Client → ApplicationFault → W → Result Unit Fault → W → Type 0
+  HearsFault (Some client) why old answer new = reported old client why answer new
+  HearsFault None why old answer new = (answer ≡ Ok tt) × (new ≡ old)
+
+module _ {W : Type 0} (noted : W → Client → Replaced → Result Unit Fault → W → Type 0) where
+  -- the watcher hears what was replaced in the reply to a client's question, if anything was
+  abbrev pub HearsReplaced : Option Client → Option Replaced → W → Result Unit Fault → W → Type 0
+  HearsReplaced (Some client) (Some replaced) old answer new = noted old client replaced answer new
+  HearsReplaced (Some client) None old answer new = (answer ≡ Ok tt) × (new ≡ old)
+  HearsReplaced None replaced old answer new = (answer ≡ Ok tt) × (new ≡ old)
+
+  -- the watcher hears what was replaced in this reply
+  abbrev pub HearsReply : Option Client → Reply → W → Result Unit Fault → W → Type 0
+  HearsReply client reply old answer new =
+      (replaced : Option Replaced) × (option_map (λ it. it.key.now) replaced ≡ first_replaced reply) × HearsReplaced client replaced old answer new

@@ -38,8 +38,8 @@ struct Watched<'a, N, W> {
 }
 
 impl<N: Net, W: Watcher> AskingServer for Watched<'_, N, W> {
-    ghost use Rattle.std.specs.Prelude.{◌≡◌};
-    ghost use Rattle.service.specs.HostAnswers.{AsksHost, HandsAnswer};
+    ghost use Rattle.std.specs.Prelude.{◌≡◌, ⊤};
+    ghost use Rattle.service.specs.HostAnswers.{AsksHost, HandsAnswer, HearsFault, HearsReply, client_at};
 
     type Stream = TcpStream;
 
@@ -47,11 +47,13 @@ impl<N: Net, W: Watcher> AskingServer for Watched<'_, N, W> {
 
     ghost asked = { λ old conn answer. AsksHost conn old.server.now.host answer };
 
+    ghost connected = { λ _ _. ⊤ };
+
     ghost answered = { λ old conn ticket answer result new. HandsAnswer W.noticed W.showed conn ticket answer old.server.now old.watcher.now result new.server.now new.watcher.now };
 
-    ghost reported = { λ old _ _ _ new. new.server.now ≡ old.server.now };
+    ghost reported = { λ old conn fault answer new. HearsFault W.reported (client_at conn old.server.now) fault old.watcher.now answer new.watcher.now × (new.server.now ≡ old.server.now) };
 
-    ghost noted = { λ old _ _ _ new. new.server.now ≡ old.server.now };
+    ghost noted = { λ old conn reply answer new. HearsReply W.noted (client_at conn old.server.now) reply old.watcher.now answer new.watcher.now × (new.server.now ≡ old.server.now) };
 
     fn panels(&self) -> &PanelSet {
         self.server.panels()

@@ -2,7 +2,7 @@
 ghost use Rattle.std.specs.Prelude.{◌≡◌, ◌<◌, IfOk};
 ghost use Rattle.host_core.specs.State.{most_connections};
 ghost use Rattle.socket_links.specs.Sockets.{is_connected, slot_at};
-ghost use Rattle.service.specs.HostAnswers.{AsksHost, HandsAnswer, usage_at};
+ghost use Rattle.service.specs.HostAnswers.{AsksHost, HandsAnswer, HearsFault, HearsReplaced, client_at, usage_at};
 ghost use Rattle.service.specs.ServerTurns.{AcceptsWaiting, PollsAndServes, new_core};
 ghost use Rattle.service.specs.TimeTurns.{KeepsTime};
 
@@ -204,11 +204,13 @@ impl Server {
     }
 
     /// The client of a number's last connection.
-    fn client(&self, conn: usize) -> Option<Client> {
-        if conn < MOST_CONNECTIONS {
-            Some(self.core.infos.at(conn)?.client)
-        } else {
-            None
+    fn client(&self, conn: usize) -> Option<Client>
+        requires { conn < most_connections }
+        ensures { result ≡ client_at conn self.now }
+    {
+        match self.core.infos.at(conn) {
+            Some(info) => Some(info.client),
+            None => None,
         }
     }
 
@@ -218,7 +220,10 @@ impl Server {
         conn: usize,
         fault: &ApplicationFault,
         watcher: &mut W,
-    ) -> Result<(), Fault> {
+    ) -> Result<(), Fault>
+        requires { conn < most_connections }
+        ensures { HearsFault W.reported (client_at conn self.now) fault.now watcher.old result watcher.new }
+    {
         match self.client(conn) {
             Some(client) => watcher.unanswered(&client, fault),
             None => Ok(()),
@@ -231,10 +236,16 @@ impl Server {
         conn: usize,
         replaced: Option<Replaced<'_>>,
         watcher: &mut W,
-    ) -> Result<(), Fault> {
-        match (self.client(conn), replaced) {
-            (Some(client), Some(replaced)) => watcher.replaced(&client, &replaced),
-            _ => Ok(()),
+    ) -> Result<(), Fault>
+        requires { conn < most_connections }
+        ensures { HearsReplaced W.noted (client_at conn self.now) replaced.entry watcher.old result watcher.new }
+    {
+        match self.client(conn) {
+            Some(client) => match replaced {
+                Some(replaced) => watcher.replaced(&client, &replaced),
+                None => Ok(()),
+            },
+            None => Ok(()),
         }
     }
 

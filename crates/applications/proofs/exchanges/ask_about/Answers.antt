@@ -6,4 +6,4 @@ pub returns-in-Ok : goal.returns-in-Ok
 returns-in-Ok g c = begins c.in-Ok.exchange (search rules) refl refl refl
 
 pub returns-in-Err : goal.returns-in-Err
-returns-in-Err g c = cannot_begin c.in-Err.absence c.requires.empty c.fail.ensures
+returns-in-Err g c = cannot_begin c.in-Err.absence c.in-Err.ensures.cannot c.requires.empty c.fail.ensures

@@ -7,7 +7,7 @@ pub returns-in-Some : goal.returns-in-Some
 returns-in-Some g c =
     subst
     (λ slot.
-    Turns g.A.AskingServer.served g.A.AskingServer.answered g.A.AskingServer.reported g.S.RawRead.read_gave g.S.RawWrite.write_took g.A.AskingServer.asked
+    Turns g.A.AskingServer.served g.A.AskingServer.answered g.A.AskingServer.reported g.S.RawRead.read_gave g.S.RawWrite.write_took g.A.AskingServer.connected g.A.AskingServer.asked
     g.A.AskingServer.noted (request_bytes c.args.asking.endpoint.now) c.args.asking.boot c.args.asking.now c.args.asking.most c.args.has_operator c.args.conn
     slot c.args.server.now c.go_on.result c.go_on.new.server c.go_on.new.slot)
     (sym c.in-Some.is ∙ c.take.ensures.value) c.go_on.ensures
@@ -16,7 +16,7 @@ pub returns-in-None : goal.returns-in-None
 returns-in-None g c =
     subst
     (λ slot.
-    Turns g.A.AskingServer.served g.A.AskingServer.answered g.A.AskingServer.reported g.S.RawRead.read_gave g.S.RawWrite.write_took g.A.AskingServer.asked
+    Turns g.A.AskingServer.served g.A.AskingServer.answered g.A.AskingServer.reported g.S.RawRead.read_gave g.S.RawWrite.write_took g.A.AskingServer.connected g.A.AskingServer.asked
     g.A.AskingServer.noted (request_bytes c.args.asking.endpoint.now) c.args.asking.boot c.args.asking.now c.args.asking.most c.args.has_operator c.args.conn
     slot c.args.server.now c.ask.result c.ask.new.server c.ask.new.slot)
     (sym c.in-None.is ∙ c.take.ensures.value) c.ask.ensures
