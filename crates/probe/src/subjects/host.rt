@@ -121,10 +121,7 @@ fn put_event(answer: &mut Answer, event: HostEvent) -> Done {
             Ok(writeln!(answer.text, "Rejected {lu:?} {reason:?}")?)
         }
         HostEvent::Bound(lu) => Ok(writeln!(answer.text, "Bound {lu:?}")?),
-        HostEvent::KeyDropped(key) => {
-            let aid = aid_byte(key.aid);
-            Ok(writeln!(answer.text, "KeyDropped {aid}")?)
-        }
+        HostEvent::KeyDropped(it) => Ok(writeln!(answer.text, "KeyDropped {}", aid_byte(it.aid))?),
         HostEvent::RuleBroken(broken) => Ok(writeln!(answer.text, "RuleBroken {broken:?}")?),
         HostEvent::Shown => answer.said(&"Shown"),
     }
