@@ -1,5 +1,5 @@
 -- What a server knows of a connection (our profile). Times are milliseconds of the server's time.
-use Rattle.std.specs.Prelude.{◌-◌, ◌/◌, ℕ, Bool, true, false, List, [], ◌∷◌}
+use Rattle.std.specs.Prelude.{◌-◌, ◌/◌, ℕ, true, false, List, [], ◌∷◌}
 use Rattle.host_core.specs.declared.event.HostEvent.{HostEvent}
 use Rattle.host_core.specs.declared.event.HostEvent.TheVariants as event
 use Rattle.service_events.specs.Metrics.{raised}

@@ -1,5 +1,5 @@
 -- A turn of one connection (our profile): it is served, what happened is reported, and it is given back if it is over.
-use Rattle.std.specs.Prelude.{◌≡◌, ◌≢◌, ◌==◌, not, ℕ, Bool, false, List, [], ◌∷◌, ◌++◌, length, map, slice_index_or, slice_set, Option, Some, None, Result, Ok, Err, if◌then◌else◌}
+use Rattle.std.specs.Prelude.{◌≡◌, ◌≢◌, ◌==◌, not, ℕ, Bool, false, List, ◌++◌, length, map, slice_index_or, slice_set, Option, Some, None, Result, Ok, Err, if◌then◌else◌}
 use Rattle.std.specs.declared.io.Error.{Error}
 use Rattle.host_core.specs.Reports.{Reports, events_of, no_reports}
 use Rattle.host_core.specs.Serves.{Serves}
