@@ -41,13 +41,15 @@ HEADINGS = {
 
 def happened(event: str) -> str:
     """An event as the probe prints it, as the cases say it."""
-    if found := re.fullmatch(r"Rejected (?:None|Some\((.+)\)) Reason\((\d+)\)", event):
+    if found := re.fullmatch(r'\("Rejected", (?:None|Some\((.+)\)), Reason\((\d+)\)\)', event):
         return " ".join(filter(None, ["rejected", found[1], REASONS[int(found[2])]]))
-    if found := re.fullmatch(r"KeyDropped (\d+)", event):
+    if found := re.fullmatch(r'\("Bound", (.+)\)', event):
+        return f"bound {found[1]}"
+    if found := re.fullmatch(r'\("KeyDropped", (\d+)\)', event):
         return f"dropped {int(found[1]):02X}"
-    if found := re.fullmatch(r"RuleBroken RuleBreak { rule: (\w+), cell: (\d+).* }", event):
+    if found := re.fullmatch(r'\("RuleBroken", RuleBreak { rule: (\w+), cell: (\d+).* }\)', event):
         return f"broken {found[1]} {found[2]}"
-    return event[0].lower() + event[1:]
+    return event.strip('"').lower()
 
 
 class Subject:

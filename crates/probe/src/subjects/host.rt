@@ -17,7 +17,7 @@ use applications::application_of;
 use codes3270::aid_byte;
 use host_core::{
     Answer as Reply, Host, HostEvent, MOST_CONNECTIONS, MessageText, PanelSet, Phase, Pool,
-    Question, Rejection, Terminals, Ticket, Values, serve_turn,
+    Question, Terminals, Ticket, Values, serve_turn,
 };
 use std::alloc::AllocError;
 use world3270::NoteText;
@@ -117,13 +117,11 @@ fn take_on(
 
 fn put_event(answer: &mut Answer, event: HostEvent) -> Done {
     match event {
-        HostEvent::Rejected(Rejection { lu, reason }) => {
-            Ok(writeln!(answer.text, "Rejected {lu:?} {reason:?}")?)
-        }
-        HostEvent::Bound(lu) => Ok(writeln!(answer.text, "Bound {lu:?}")?),
-        HostEvent::KeyDropped(it) => Ok(writeln!(answer.text, "KeyDropped {}", aid_byte(it.aid))?),
-        HostEvent::RuleBroken(broken) => Ok(writeln!(answer.text, "RuleBroken {broken:?}")?),
-        HostEvent::Shown => answer.said(&"Shown"),
+        HostEvent::Rejected(it) => answer.line(&("Rejected", it.lu, it.reason)),
+        HostEvent::Bound(lu) => answer.line(&("Bound", lu)),
+        HostEvent::KeyDropped(it) => answer.line(&("KeyDropped", aid_byte(it.aid))),
+        HostEvent::RuleBroken(it) => answer.line(&("RuleBroken", it)),
+        HostEvent::Shown => answer.line(&"Shown"),
     }
 }
 
