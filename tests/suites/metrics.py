@@ -1,9 +1,11 @@
 """The metrics page of `serve`: what it counts, and who may read it."""
 import contextlib
+import re
 import select
 import socket
 import time
 
+from harness import applications
 from harness.case import Checks, Difference, expect
 from harness.hosts import (
     DEVICE_IN_USE,
@@ -41,27 +43,49 @@ CAUSES = (
     "RuleBroken",
 )
 REASONS = ("DEVICE-IN-USE", "INV-NAME", "INV-DEVICE-TYPE", "UNSUPPORTED-REQ", "other")
+FAILURES = ("refused", "broken", "timeout", "no-memory", "status", "bad-reply", "left")
+BOUNDS = "0.005 0.01 0.025 0.05 0.1 0.25 0.5 1 2.5 5 10 30 +Inf".split()
 
 
 # The kind of each metric, and what its HELP line says.
 METRICS = {
-    "sessions": ("gauge", "Connections of terminals that are open."),
-    "sessions_total": ("counter", "Connections of terminals that began."),
-    "session_ends_total": (
+    "panel3270_sessions": ("gauge", "Connections of terminals that are open."),
+    "panel3270_sessions_total": ("counter", "Connections of terminals that began."),
+    "panel3270_session_ends_total": (
         "counter",
         "Connections of terminals that ended, by what ended them.",
     ),
-    "turned_away_total": ("counter", "Connections closed at once because no number was free."),
-    "rejections_total": ("counter", "Rejected requests for an LU, by reason."),
-    "dropped_keys_total": (
+    "panel3270_turned_away_total": (
+        "counter",
+        "Connections closed at once because no number was free.",
+    ),
+    "panel3270_rejections_total": ("counter", "Rejected requests for an LU, by reason."),
+    "panel3270_dropped_keys_total": (
         "counter",
         "Keys that were dropped because the last one wasn't answered yet.",
     ),
-    "rule_breaks_total": ("counter", "Terminals that broke a rule that the host verifies."),
-    "turns_total": ("counter", "Screens sent after the first one of a connection."),
-    "paints_total": ("counter", "Screens sent."),
-    "received_bytes_total": ("counter", "Bytes received from terminals."),
-    "sent_bytes_total": ("counter", "Bytes sent to terminals."),
+    "panel3270_rule_breaks_total": (
+        "counter",
+        "Terminals that broke a rule that the host verifies.",
+    ),
+    "panel3270_turns_total": ("counter", "Screens sent after the first one of a connection."),
+    "panel3270_paints_total": ("counter", "Screens sent."),
+    "panel3270_received_bytes_total": ("counter", "Bytes received from terminals."),
+    "panel3270_sent_bytes_total": ("counter", "Bytes sent to terminals."),
+    "panel3270_questions_total": ("counter", "Questions to the application."),
+    "panel3270_question_failures_total": (
+        "counter",
+        "Questions that the application didn't answer, by reason.",
+    ),
+    "panel3270_answer_seconds": (
+        "histogram",
+        "Time from a question to the application's answer.",
+    ),
+    "panel3270_build_info": ("gauge", "The program's version."),
+    "process_start_time_seconds": (
+        "gauge",
+        "Start time of the process since the Unix epoch, in seconds.",
+    ),
 }
 
 
@@ -80,10 +104,19 @@ def metrics_page(
     paints=0,
     received=0,
     sent=0,
+    asked=0,
+    failed=(),
+    times=(),
+    started=0,
 ):
-    """The page of these numbers, as Prometheus' text format has it."""
+    """The page of these numbers, as Prometheus' text format has it. The times of answers are in
+    milliseconds."""
     ends = [(f'{{end="closed",cause="{it}"}}', closed.count(it)) for it in CAUSES]
     ends += [('{end="lost"}', lost), ('{end="idle"}', idle), ('{end="no-agreement"}', no_agreement)]
+    within = [sum(it <= 1000 * float(bound) for it in times) for bound in BOUNDS]
+    answers = [(f'_bucket{{le="{it}"}}', count) for it, count in zip(BOUNDS, within)]
+    answers += [("_sum", f"{sum(times) / 1000:.3f}"), ("_count", len(times))]
+    version = run(["version"], b"")[1].split()[1]
     numbers = {
         "session_ends_total": ends,
         "rejections_total": [(f'{{reason="{it}"}}', rejected.count(it)) for it in REASONS],
@@ -96,11 +129,17 @@ def metrics_page(
         "paints_total": [("", paints)],
         "received_bytes_total": [("", received)],
         "sent_bytes_total": [("", sent)],
+        "questions_total": [("", asked)],
+        "question_failures_total": [(f'{{reason="{it}"}}', failed.count(it)) for it in FAILURES],
+        "answer_seconds": answers,
+        "build_info": [(f'{{version="{version}"}}', 1)],
+        "process_start_time_seconds": [("", started)],
     }
     page = ""
     for name, (kind, said) in METRICS.items():
-        page += f"# HELP panel3270_{name} {said}\n# TYPE panel3270_{name} {kind}\n"
-        page += "".join(f"panel3270_{name}{it} {number}\n" for it, number in numbers[name])
+        page += f"# HELP {name} {said}\n# TYPE {name} {kind}\n"
+        kept = numbers[name.removeprefix("panel3270_")]
+        page += "".join(f"{name}{it} {number}\n" for it, number in kept)
     return page
 
 
@@ -110,6 +149,18 @@ def response(status, body="", allow=""):
         f"Content-Length: {len(body)}\r\nConnection: close\r\n\r\n"
     )
     return f"HTTP/1.1 {status}\r\n{fields}{body}"
+
+
+def figure(host, name):
+    """A number on the page of a host."""
+    return re.search(rf"^{name} (\S+)$", scraped(host.metrics, GET).decode(), re.MULTILINE)[1]
+
+
+def started(host):
+    """When a host says that it started, which is in the last minutes."""
+    seconds = int(figure(host, "process_start_time_seconds"))
+    expect("a host started", time.time() - 900 < seconds <= time.time(), True)
+    return seconds
 
 
 def all_read(*clients):
@@ -122,7 +173,7 @@ def all_read(*clients):
 
 
 def has_counted(host, **numbers):
-    wanted = response("200 OK", metrics_page(**numbers))
+    wanted = response("200 OK", metrics_page(started=started(host), **numbers))
     with contextlib.suppress(Difference):
         until("metrics", lambda: scraped(host.metrics, GET).decode() == wanted)
     expect("metrics", scraped(host.metrics, GET).decode().splitlines(), wanted.splitlines())
@@ -226,43 +277,106 @@ def broken_rules_are_logged_and_counted():
 
 @check
 def each_request_has_its_answer():
-    """GET /metrics is answered with the page, with a query and by HTTP/1.0 too; other paths,
-    methods and bytes by their status."""
-    long = b"GET /metrics HTTP/1.1\r\nX: " + b"x" * 4096
-    page = response("200 OK", metrics_page())
-    answers = [
-        (page, GET),
-        (page, b"GET /metrics?name[]=x HTTP/1.1\r\n\r\n"),
-        (page, b"GET /metrics HTTP/1.0\r\n\r\n"),
-        (page, b"\r\nGET /metrics HTTP/1.1\nHost: x\n\n"),
-        (response("404 Not Found"), b"GET / HTTP/1.1\r\n\r\n"),
-        (response("404 Not Found"), b"GET /metricsx HTTP/1.1\r\n\r\n"),
-        (response("404 Not Found"), b"GET /metrics/ HTTP/1.1\r\n\r\n"),
-        (
-            response("405 Method Not Allowed", allow="Allow: GET\r\n"),
-            b"POST /metrics HTTP/1.1\r\nContent-Length: 3\r\n\r\nabc",
-        ),
-        (
-            response("405 Method Not Allowed", allow="Allow: GET\r\n"),
-            b"HEAD /metrics HTTP/1.1\r\n\r\n",
-        ),
-        (response("400 Bad Request"), b"\xff\xfb\x28"),
-        (response("400 Bad Request"), b"GET /metrics\r\n\r\n"),
-        (response("400 Bad Request"), b"GET /metrics HTTP/2.0\r\n\r\n"),
-        (response("431 Request Header Fields Too Large"), long),
-        (response("431 Request Header Fields Too Large"), long * 20),
-        (
-            response("431 Request Header Fields Too Large"),
-            b"GET /metrics HTTP/1.1\r\n" + b"a:b\r\n" * 65 + b"\r\n",
-        ),
-    ]
+    """GET /metrics is answered with the page, with a query and by HTTP/1.0 too, HEAD with the head
+    alone; other paths, methods and bytes by their status."""
     with metered() as host:
-        for wanted, sent in answers:
-            expect(f"the answer to {sent[:40]!r}", scraped(host.metrics, sent).decode(), wanted)
+        page = response("200 OK", metrics_page(started=started(host)))
+        for wanted, sent in answers_of(page):
+            came = scraped(host.metrics, sent).decode()
+            expect(f"the answer to {sent[:40]!r}", came, wanted)
         slow = [bytes([it]) for it in GET]
         expect(
             "the answer to a slow client", scraped(host.metrics, *slow, pause=0.02).decode(), page
         )
+
+
+def answers_of(page):
+    """Answers of the metrics port, each with its request."""
+    long = b"GET /metrics HTTP/1.1\r\nX: " + b"x" * 4096
+    head = page.partition("\r\n\r\n")[0] + "\r\n\r\n"
+    not_allowed = response("405 Method Not Allowed", allow="Allow: GET, HEAD\r\n")
+    return [
+        (page, GET),
+        (page, b"GET /metrics?name[]=x HTTP/1.1\r\n\r\n"),
+        (page, b"GET /metrics HTTP/1.0\r\n\r\n"),
+        (page, b"\r\nGET /metrics HTTP/1.1\nHost: x\n\n"),
+        (head, b"HEAD /metrics HTTP/1.1\r\nHost: localhost\r\n\r\n"),
+        (head, b"HEAD /metrics?name[]=x HTTP/1.0\r\n\r\n"),
+        (response("404 Not Found"), b"HEAD / HTTP/1.1\r\n\r\n"),
+        (response("404 Not Found"), b"HEAD /metrics/ HTTP/1.1\r\n\r\n"),
+        (response("404 Not Found"), b"GET / HTTP/1.1\r\n\r\n"),
+        (response("404 Not Found"), b"GET /metricsx HTTP/1.1\r\n\r\n"),
+        (response("404 Not Found"), b"GET /metrics/ HTTP/1.1\r\n\r\n"),
+        (not_allowed, b"POST /metrics HTTP/1.1\r\nContent-Length: 3\r\n\r\nabc"),
+        (not_allowed, b"head /metrics HTTP/1.1\r\n\r\n"),
+        (not_allowed, b"OPTIONS / HTTP/1.1\r\n\r\n"),
+        (response("400 Bad Request"), b"\xff\xfb\x28"),
+        (response("400 Bad Request"), b"GET /metrics\r\n\r\n"),
+        (response("400 Bad Request"), b"GET /metrics HTTP/2.0\r\n\r\n"),
+        (response("400 Bad Request"), b"HEAD /metrics HTTP/2.0\r\n\r\n"),
+        (response("431 Request Header Fields Too Large"), long),
+        (response("431 Request Header Fields Too Large"), long * 20),
+        (
+            response("431 Request Header Fields Too Large"),
+            b"HEAD /metrics HTTP/1.1\r\n" + b"a:b\r\n" * 65 + b"\r\n",
+        ),
+    ]
+
+
+def has_asked(host, **numbers):
+    """Its page has these figures of questions."""
+
+    def figures(page):
+        return re.findall(r"^panel3270_(?:question|answer).*", page, re.MULTILINE)
+
+    wanted = figures(metrics_page(**numbers))
+    with contextlib.suppress(Difference):
+        until("questions", lambda: figures(scraped(host.metrics, GET).decode()) == wanted)
+    expect("questions", figures(scraped(host.metrics, GET).decode()), wanted)
+
+
+@check
+def questions_are_counted():
+    """Each question is counted once: when it is asked, and by the time of its answer or by the
+    reason for which it has none. A failure's message is no answer."""
+    application, port = applications.Application(), free_port()
+    words = applications.OWN, "--metrics", str(port)
+    with applications.Host(application.url, *words) as host:
+        host.metrics, times, failed = port, [], []
+        first, second = host.operators()
+        for pause, message in ((0.0, "ONE"), (0.06, "TWO"), (0.3, "SIX")):
+            first.presses("enter", "LOGAN")
+            exchange = application.takes()
+            has_asked(host, asked=len(times) + 1, times=times)
+            time.sleep(pause)
+            exchange.sends({"message": message})
+            first.sees(message)
+            took = 1000 * float(figure(host, "panel3270_answer_seconds_sum")) - sum(times)
+            times.append(round(took))
+            fits = 1000 * pause - 20 < took < 1000 * applications.LIMIT
+            expect(f"a time of {took} ms", fits, True)
+            has_asked(host, asked=len(times), times=times)
+        for reason, fails in (
+            ("status", lambda it: it.sends({}, "500 Oh")),
+            ("bad-reply", lambda it: it.sends(b"[]")),
+            ("bad-reply", lambda it: it.sends({"panel": "NONE"})),
+            ("broken", lambda it: it.connection.close()),
+            ("timeout", lambda it: None),
+        ):
+            first.presses("enter", "LOGAN")
+            exchange = application.takes()
+            fails(exchange)
+            first.sees()
+            failed.append(reason)
+            has_asked(host, asked=3 + len(failed), times=times, failed=failed)
+        second.presses("enter", "LOGAN")
+        exchange = application.takes()
+        second.leaves()
+        has_asked(host, asked=9, times=times, failed=[*failed, "left"])
+        application.listener.close()
+        first.presses("enter", "LOGAN")
+        first.sees()
+        has_asked(host, asked=10, times=times, failed=[*failed, "left", "refused"])
 
 
 @check

@@ -194,14 +194,16 @@ def the_table_of_metrics_has_each():
     """The table has the names of the metrics page, and the values of the label `end`, in their
     order."""
     table = "\n".join(
-        it for it in documents.read(OPERATING).splitlines() if it.startswith("| `panel3270_")
+        it
+        for it in documents.read(OPERATING).splitlines()
+        if re.match(r"\| `(panel3270|process)_", it)
     )
     with hosts.metered() as host:
         page = hosts.scraped(host.metrics, hosts.GET).decode()
     expect(
         "the names",
         re.findall(r"^# TYPE (\w+)", page, re.M),
-        re.findall(r"`(panel3270_\w+)`", table),
+        re.findall(r"`((?:panel3270|process)_\w+)`", table),
     )
     ends = list(dict.fromkeys(re.findall(r'end="([\w-]+)"', page)))
     expect("the ends", ", ".join(f"`{it}`" for it in ends), re.search(r"`end` \((.*?)\)", table)[1])

@@ -3,7 +3,7 @@
 Its texts have blank lines between them; a block that begins with `#` is a comment. Each text is
 checked as it is, and then with random changes: lines are left out, repeated or replaced by others,
 and keys and values are replaced. A report has a fault exactly if the readers refuse the text, and
-has their fault. It says by `agrees` whether it found that by itself, in words of its own. A case is
+has their fault. It says by `has_words` whether it found that by itself, in words of its own. A case is
 a text, or ten texts that it becomes by changes; its name has the seed.
 """
 import functools
@@ -54,9 +54,9 @@ def probe() -> Probe:
 def check_text(text: str, at: Place) -> None:
     """Raises a Difference if the report on a text and the readers differ."""
     first, *page, readers = probe().ask(f"check {text.encode().hex() or '-'}", at)
-    faults, agrees = first.strip("()").split(", ")
+    faults, has_words = first.strip("()").split(", ")
     refused = readers.partition("readers refuse ")[2]
-    if (int(faults) > 0) != bool(refused) or agrees != "true":
+    if (int(faults) > 0) != bool(refused) or has_words != "true":
         wanted = (
             f"a report that found the fault {refused} by itself"
             if refused

@@ -1,12 +1,12 @@
-"""What each crate exports is agreed, or listed in docs/DECISIONS.md.
+"""What each crate exports is agreed, or listed in tests/surface.added.
 
 tests/surface.agreed lists the agreed items: a line `CRATE: ITEM ..`, and further lines of it begin
-with blanks. DECISIONS.md lists in the section "The public surface" what differs from them: in its
-table of crates, the items that a crate has beside the agreed ones.
+with blanks. tests/surface.added lists so the items that a crate has beside them, and DECISIONS.md
+in the section "The public surface" which agreed items differ.
 
 An item is a function, struct, enum, trait, constant, static or type that the crate's root exports,
 the module of a `pub mod`, and of a type or trait also each public function, constant and variant:
-`Addr`, `Addr::new`, `Cell::Char`. An item that DECISIONS.md names is there in backquotes. A name
+`Addr`, `Addr::new`, `Cell::Char`. An item that surface.added names is there in backquotes. A name
 without its type, as `forward` behind `Addr::all`, is a function of the type that was named last, or
 of the crate. A type that it names, and that isn't agreed, comes with all that is below it; an
 agreed enum whose variants aren't agreed comes with these. A crate with the entry `all` has no
@@ -24,10 +24,11 @@ from collections.abc import Iterator
 from harness.case import TOP, BadCase, Case, Difference, Place, of_function, same
 
 AGREED = TOP / "tests/surface.agreed"
+ADDED = TOP / "tests/surface.added"
 DECISIONS = TOP / "docs/DECISIONS.md"
 SECTION, NEXT = "## The public surface\n", "## Names that stay\n"
-# The head of the table of crates, and what an entry says of a crate without agreed items.
-CRATES, ALL = "| Crate | Items |\n", "all"
+# What an entry says of a crate without agreed items.
+ALL = "all"
 
 ITEM = re.compile(
     r"(?:#\[[^\]]*\]\s*)*pub (?:const fn|fn|struct|enum|trait|const|static|type) (\w+)"
@@ -110,31 +111,35 @@ def exported(crate):
     return found, set().union(*(file.variants for file in files.values()))
 
 
-def agreed():
-    """The agreed items of each crate."""
-    items, crate = defaultdict(set), None
-    for line in AGREED.read_text().splitlines():
+def entries(path):
+    """Each crate of a list, with its entry."""
+    found, crate = {}, None
+    for line in path.read_text().splitlines():
         if not line or line.startswith("#"):
             continue
         if not line.startswith(" "):
             crate, _, line = line.partition(":")
-        for word in line.split():
-            last = NAME.fullmatch(word)
-            if not last:
+        found[crate] = f"{found.get(crate, '')} {line.strip()}".strip()
+    return found
+
+
+def agreed():
+    """The agreed items of each crate."""
+    items = defaultdict(set)
+    for crate, entry in entries(AGREED).items():
+        for word in entry.split():
+            if not NAME.fullmatch(word):
                 raise BadCase(f"{word} is no name of an item", Place("tests/surface.agreed", 1))
             items[crate].add(word)
     return items
 
 
-def decided(text):
-    """Of each crate with a row, the items that DECISIONS.md names; or None for all."""
-    rows = text[text.index(CRATES) + len(CRATES):].split("\n\n")[0].splitlines()[1:]
-    items = {}
-    for row in rows:
-        names, entry = (cell.strip() for cell in row.strip("|").split("|"))
-        for crate in names.split(", "):
-            items[crate] = None if entry == ALL else set(named(entry))
-    return items
+def added():
+    """Of each crate, the items that it has beside the agreed ones; or None for all."""
+    return {
+        crate: None if entry == ALL else set(named(entry))
+        for crate, entry in entries(ADDED).items()
+    }
 
 
 def named(entry):
@@ -144,7 +149,7 @@ def named(entry):
     for span in SPAN.findall(entry):
         found = NAME.fullmatch(span)
         if not found:
-            raise BadCase(f"`{span}` is no name of an item", Place("docs/DECISIONS.md", 1))
+            raise BadCase(f"`{span}` is no name of an item", Place("tests/surface.added", 1))
         if found[1]:
             of = found[1]
         elif found[2][0].isupper() and not found[2].isupper():
@@ -155,10 +160,10 @@ def named(entry):
 
 
 def differences(crate: str) -> Iterator[str]:
-    """Where a crate, the agreed items and DECISIONS.md differ."""
+    """Where a crate, the agreed items and the added ones differ."""
     text = DECISIONS.read_text()
     section = text[text.index(SECTION):text.index(NEXT)]
-    wanted, listed = agreed()[crate], decided(section).get(crate, set())
+    wanted, listed = agreed()[crate], added().get(crate, set())
     if listed is None:
         return
     items, variants = exported(crate)
@@ -185,7 +190,7 @@ def named_anywhere(section):
 
 def check_crate(crate: str) -> None:
     if found := list(differences(crate)):
-        raise Difference("the items of surface.agreed and DECISIONS.md", "\n".join(found))
+        raise Difference("the items of surface.agreed and surface.added", "\n".join(found))
 
 
 def promises(*crates: str) -> subprocess.CompletedProcess:

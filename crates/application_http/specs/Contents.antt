@@ -1,4 +1,4 @@
--- Where the content of a reply is (RFC 9112, sections 4, 6 and 7), by the grammars of httparse and http1. The limits are our profile.
+-- The content of a reply (RFC 9112, sections 4, 6, 7), by the grammars of httparse and http1. Limits are our profile.
 use Rattle.std.specs.Prelude.{◌≡◌, ℕ, ◌<◌, ◌≤◌, ◌⊎◌, Bool, true, List, ◌++◌, length, drop, Ok, Err, Result}
 use Rattle.httparse.specs.Grammar.{Field, ResponseHead, ReadsResponse, HasNoResponse, NeverHasResponse, status_code}
 use Rattle.httparse.specs.Spans.{ResponseExceeds}
@@ -14,18 +14,18 @@ use Rattle.application_http.specs.declared.content.Head.{Head}
 use Rattle.application_http.specs.declared.fault.ReplyFault.{ReplyFault}
 use Rattle.application_http.specs.declared.fault.ReplyFault.TheVariants as fault
 
--- the most bytes of a reply, and the most fields of its head or of its trailers
+-- the most bytes of a reply, and the most fields of its head or trailers of its body
 abbrev pub most_bytes : ℕ
 most_bytes = 65536
 
 abbrev pub most_fields : ℕ
 most_fields = 64
 
--- no part of a chunked content has a limit of its own
+-- no part of a chunked body has a lower limit than the whole reply
 abbrev pub limits : Limits
 limits = record { max_head_len = most_bytes; max_extensions_len = most_bytes; max_trailers_len = most_bytes }
 
--- the status of a reply that is read (RFC 9110, section 15.3.1)
+-- the only status that a reply may have (RFC 9110, section 15.3.1)
 abbrev pub accepted_status : ℕ
 accepted_status = 200
 
@@ -33,7 +33,7 @@ accepted_status = 200
 abbrev pub framing_of : ResponseHead → Result Framing FramingError
 framing_of head = response_framing Other (status_code head) head.minor (known_of head.fields)
 
--- the bytes begin with a head whose length, status and framing are these
+-- holds if the bytes begin with a head that has this length, status and framing
 pub record IsHead (bytes : List ℕ) (found : Head) : Type 0 where
   pub head : ResponseHead
   pub reads : ReadsResponse bytes head (drop found.len bytes)
@@ -41,66 +41,76 @@ pub record IsHead (bytes : List ℕ) (found : Head) : Type 0 where
   pub status : found.status ≡ status_code head
   pub framing : found.framing ≡ framing_of head
 
--- the bytes begin with a head of status 200, so framed, and these bytes follow it
+-- holds if the bytes begin with a head of status 200 with this framing, and these bytes follow it
 pub record IsAccepted (bytes : List ℕ) (framing : Framing) (after : List ℕ) : Type 0 where
   pub head : ResponseHead
   pub reads : ReadsResponse bytes head after
   pub status : status_code head ≡ accepted_status
   pub framed : framing_of head ≡ Ok framing
 
--- a body that ends with the connection hasn't ended before that
+-- holds if the bytes begin with this body; one that ends with the connection is complete only once that is closed
 abbrev pub ReadsEnded : (closed : Bool) → Framing → List ℕ → Body → List ℕ → Type 0
 ReadsEnded closed NoBody after body rest = ReadsBody limits NoBody after body rest
 ReadsEnded closed (Length length) after body rest = ReadsBody limits (Length length) after body rest
 ReadsEnded closed Chunked after body rest = ReadsBody limits Chunked after body rest
 ReadsEnded closed UntilClose after body rest = (closed ≡ true) × ReadsBody limits UntilClose after body rest
 
--- behind the head stands a whole body with this content
+-- holds if the bytes after the head are a complete body with this content
 abbrev pub IsWhole : (closed : Bool) → Framing → (after content : List ℕ) → Type 0
-IsWhole closed framing after content = (trailers : List Field) × (rest : List ℕ) × ReadsEnded closed framing after (body_of content trailers) rest
+IsWhole closed framing after content = (trailers : List Field) × (rest : List ℕ)
+    × ReadsEnded closed framing after (body_of content trailers) rest
 
+-- holds if the bytes after the head aren't a complete body
 abbrev pub LacksEnd : (closed : Bool) → Framing → (after : List ℕ) → Type 0
 LacksEnd closed framing after = (content : List ℕ) → ¬ (IsWhole closed framing after content)
 
--- whatever follows, the bytes begin no chunked body with so few trailers
+-- holds if the bytes never begin a chunked body with at most 64 trailers, whatever bytes follow
 abbrev pub NeverChunked : List ℕ → Type 0
-NeverChunked after = (more : List ℕ) (body : Body) (rest : List ℕ) → ReadsBody limits Chunked (after ++ more) body rest → most_fields < length body.trailers
+NeverChunked after = (more : List ℕ) (body : Body) (rest : List ℕ) → ReadsBody limits Chunked (after ++ more) body rest
+    → most_fields < length body.trailers
 
--- the bytes begin with a reply of status 200 that has this content
+-- holds if the bytes begin with a reply of status 200 that has this content
 abbrev pub HasContent : (closed : Bool) → (bytes content : List ℕ) → Type 0
-HasContent closed bytes content = (framing : Framing) × (after : List ℕ) × IsAccepted bytes framing after × IsWhole closed framing after content
+HasContent closed bytes content = (framing : Framing) × (after : List ℕ) × IsAccepted bytes framing after
+    × IsWhole closed framing after content
 
--- the head isn't whole, or the body isn't
+-- holds if the head or the body isn't complete
 abbrev pub IsUnfinished : (closed : Bool) → (bytes : List ℕ) → Type 0
-IsUnfinished closed bytes = HasNoResponse bytes ⊎ ((framing : Framing) × (after : List ℕ) × IsAccepted bytes framing after × LacksEnd closed framing after)
+IsUnfinished closed bytes = HasNoResponse bytes
+    ⊎ ((framing : Framing) × (after : List ℕ) × IsAccepted bytes framing after × LacksEnd closed framing after)
 
 -- ---- what must be stored
 
--- these bytes begin some chunked body, and the content of each that they begin begins with this front
+-- holds if these bytes begin a chunked body, and the content of each such body begins with `front`
 pub record BeginsContent (taken front : List ℕ) : Type 0 where
   pub begins : (more : List ℕ) × (body : Body) × (rest : List ℕ) × ReadsBody limits Chunked (taken ++ more) body rest
-  pub front_is : (more : List ℕ) (body : Body) (rest : List ℕ) → ReadsBody limits Chunked (taken ++ more) body rest → (later : List ℕ) × (body.bytes ≡ front ++ later)
+  pub front_is : (more : List ℕ) (body : Body) (rest : List ℕ) → ReadsBody limits Chunked (taken ++ more) body rest
+      → (later : List ℕ) × (body.bytes ≡ front ++ later)
 
--- a byte of a content follows the head: it is stored once the content is whole, or its chunk is read
+-- holds if a byte of the content must be stored: the content is complete, or its chunk is read
 abbrev pub HoldsContent : (closed : Bool) → Framing → (after : List ℕ) → Type 0
 HoldsContent closed NoBody after = ⊥
 HoldsContent closed (Length len) after = (0 < len) × (len ≤ length after)
-HoldsContent closed Chunked after = (taken left front : List ℕ) × (after ≡ taken ++ left) × (0 < length front) × BeginsContent taken front
+HoldsContent closed Chunked after = (taken left front : List ℕ) × (after ≡ taken ++ left) × (0 < length front)
+    × BeginsContent taken front
 HoldsContent closed UntilClose after = (closed ≡ true) × (0 < length after)
 
 -- ---- what is wrong
 
--- why the bytes are no reply, nor the front of one; memory is refused only to a content
+-- holds if the bytes are no reply, nor the start of one, for this reason; memory is refused only for a content
 abbrev pub IsBadMessage : (closed : Bool) → (bytes : List ℕ) → ReplyFault → Type 0
-IsBadMessage closed bytes fault.Memory = (framing : Framing) × (after : List ℕ) × IsAccepted bytes framing after × HoldsContent closed framing after
+IsBadMessage closed bytes fault.Memory = (framing : Framing) × (after : List ℕ) × IsAccepted bytes framing after
+    × HoldsContent closed framing after
 IsBadMessage closed bytes fault.NotHttp = NeverHasResponse bytes
 IsBadMessage closed bytes fault.TooManyFields = ResponseExceeds most_fields bytes
-IsBadMessage closed bytes (fault.Status code) = (head : ResponseHead) × (after : List ℕ) × ReadsResponse bytes head after × (code ≡ status_code head) × ¬ (code ≡ accepted_status)
-IsBadMessage closed bytes fault.BadLength = (head : ResponseHead) × (after : List ℕ) × (why : FramingError) × ReadsResponse bytes head after × (status_code head ≡ accepted_status) × (framing_of head ≡ Err why)
+IsBadMessage closed bytes (fault.Status code) = (head : ResponseHead) × (after : List ℕ)
+    × ReadsResponse bytes head after × (code ≡ status_code head) × ¬ (code ≡ accepted_status)
+IsBadMessage closed bytes fault.BadLength = (head : ResponseHead) × (after : List ℕ) × (why : FramingError)
+    × ReadsResponse bytes head after × (status_code head ≡ accepted_status) × (framing_of head ≡ Err why)
 IsBadMessage closed bytes fault.BadChunks = (after : List ℕ) × IsAccepted bytes Chunked after × NeverChunked after
 IsBadMessage closed bytes _ = ⊥
 
--- the same for the bytes behind a head
+-- holds if the bytes after a head are no body, nor the start of one, for this reason
 abbrev pub IsBadBody : (closed : Bool) → Framing → (after : List ℕ) → ReplyFault → Type 0
 IsBadBody closed framing after fault.Memory = HoldsContent closed framing after
 IsBadBody closed framing after fault.BadChunks = (framing ≡ Chunked) × NeverChunked after

@@ -1,4 +1,4 @@
--- The URL at which an application listens (our profile): http, an address of this machine, and nothing that isn't sent.
+-- The URL at which an application listens (our profile): http, an address of this machine, and no part that isn't sent.
 use Rattle.std.specs.Prelude.{ℕ, Bool, false, not, ◌==◌, List, [], ◌∷◌, codes, bytes_eq, slice_index, Option, Some, None, is_some, unwrap_or, ⊤, if◌then◌else◌, ◌≡◌, Ok, Err}
 use Rattle.std.specs.declared.net.ip_addr.IpAddr.{IpAddr}
 use Rattle.std.specs.declared.net.ip_addr.IpAddr.TheVariants.{V4, V6}
@@ -11,14 +11,14 @@ use Rattle.url.specs.declared.slicing.Position.TheVariants.{BeforeHost, AfterPor
 use Rattle.application_http.specs.declared.endpoint.EndpointFault.{EndpointFault}
 use Rattle.application_http.specs.declared.endpoint.EndpointFault.TheVariants as fault
 
--- the host names this machine: localhost, 127.0.0.0/8 or ::1
+-- whether the host names this machine: localhost, 127.0.0.0/8 or ::1
 abbrev pub is_local : Option (Host (List ℕ)) → Bool
 is_local None = false
 is_local (Some (Domain name)) = bytes_eq name (codes "localhost")
 is_local (Some (Ipv4 address)) = slice_index (ipv4_octets address) 0 == 127
 is_local (Some (Ipv6 address)) = bytes_eq (ipv6_segments address) (0 ∷ 0 ∷ 0 ∷ 0 ∷ 0 ∷ 0 ∷ 0 ∷ 1 ∷ [])
 
--- why a URL is refused, the first reason of these
+-- the first reason for which a URL is refused; None if it is accepted
 abbrev pub refusal : Parts → Option EndpointFault
 refusal url =
     if not (bytes_eq url.scheme (codes "http")) then Some fault.NotHttp
@@ -26,22 +26,22 @@ refusal url =
     else (if is_some url.fragment then Some fault.HasFragment
     else (if is_local (nonempty_host url) then None else Some fault.NotThisMachine)))
 
--- the URL of an application
+-- holds if this is the URL of an application
 abbrev pub IsEndpoint : Parts → Type 0
 IsEndpoint url = refusal url ≡ None
 
--- why a text names no application
+-- holds if a text is refused for this reason
 abbrev pub IsRefused : List ℕ → EndpointFault → Type 0
 IsRefused text fault.Memory = ⊤
 IsRefused text (fault.NotUrl e) = parse_url None text ≡ Err e
 IsRefused text found = (url : Parts) × (parse_url None text ≡ Ok url) × (refusal url ≡ Some found)
 
--- the address is of this machine: 127.0.0.0/8 or ::1
+-- holds if the address is of this machine: 127.0.0.0/8 or ::1
 abbrev pub IsLoopback : IpAddr → Type 0
 IsLoopback (V4 address) = IsLoopbackV4 address
 IsLoopback (V6 address) = IsLoopbackV6 address
 
--- a host's address: that of localhost is 127.0.0.1
+-- holds if this is the host's IP address; that of localhost is 127.0.0.1
 abbrev pub IsAddressOf : Option (Host (List ℕ)) → IpAddr → Type 0
 IsAddressOf (Some (Ipv4 address)) ip = ip ≡ V4 address
 IsAddressOf (Some (Ipv6 address)) ip = ip ≡ V6 address
@@ -52,7 +52,7 @@ IsAddressOf _ (V6 address) = ⊥
 abbrev pub port_of : Parts → ℕ
 port_of url = unwrap_or url.port 80
 
--- the request target is the path and, behind a question mark, the query (RFC 9112, section 3.2.1)
+-- the request target is the path and the query after a question mark (RFC 9112, section 3.2.1)
 abbrev pub query_mark : Parts → List ℕ
 query_mark url = if is_some url.query then codes "?" else codes ""
 

@@ -1,4 +1,4 @@
--- What an application's reply says: a JSON object whose keys are all optional (RFC 8259; the keys are our profile).
+-- The meaning of an application's reply: a JSON object (RFC 8259) whose keys are all optional (keys: our profile).
 use Rattle.std.specs.Prelude.{ℕ, ◌<◌, Bool, ◌||◌, List, [], ◌∷◌, codes, map, length, bytes_eq, string_bytes, Option, Some, None, option_map, option_and_then, is_some, unwrap_or, if◌then◌else◌, ◌≡◌, ◌⊎◌, IsUtf8}
 use Rattle.serde_json.specs.Data.{Data, string, object, Members, no_members, member}
 use Rattle.serde_json.specs.Find.{get, as_str, as_object}
@@ -10,9 +10,9 @@ use Rattle.application_http.specs.declared.fault.ReplyFault.{ReplyFault}
 use Rattle.application_http.specs.declared.fault.ReplyFault.TheVariants as fault
 use Rattle.application_http.specs.declared.reply.Reply.{Reply}
 
--- ---- what it says
+-- ---- the meaning
 
--- the panel to show, the texts of its fields, the message, and the field in which the cursor goes
+-- the panel to show, the texts of its fields, the message, and the field in which to put the cursor
 pub record Answer : Type 0 where
   pub panel : Option (List ℕ)
   pub fields : List (List ℕ × List ℕ)
@@ -29,10 +29,11 @@ texts_in no_members = []
 texts_in (member name (string text) more) = (name, text) ∷ texts_in more
 texts_in (member name _ more) = texts_in more
 
--- the object at a key, one without members if there is none
+-- the object at a key; without members if there is none
 abbrev pub object_at : List ℕ → Data → Members
 object_at key d = unwrap_or (option_and_then as_object (get key d)) no_members
 
+-- the answer that an object represents
 abbrev pub answer_of : Data → Answer
 answer_of d = record {
   panel = text_at (codes "panel") d;
@@ -46,10 +47,11 @@ answer_of d = record {
 abbrev pub KeyFlaw : Type 0
 KeyFlaw = KeyFault × List ℕ
 
--- the first of an object's members that isn't a text
+-- the first member of an object whose value isn't a text
 abbrev pub first_non_text : Members → Option KeyFlaw
 first_non_text no_members = None
-first_non_text (member name value more) = if is_some (as_str value) then first_non_text more else Some (FieldNotText, name)
+first_non_text (member name value more) = if is_some (as_str value) then first_non_text more
+    else Some (FieldNotText, name)
 
 abbrev pub fields_flaw : (key : List ℕ) → Data → Option KeyFlaw
 fields_flaw key (object members) = first_non_text members
@@ -64,7 +66,7 @@ key_flaw key value =
     if names_text key then (if is_some (as_str value) then None else Some (NotText, key))
     else (if bytes_eq key (codes "fields") then fields_flaw key value else Some (UnknownKey, key))
 
--- the first of two flaws
+-- the first of two flaws, if there are any
 abbrev pub earlier : Option KeyFlaw → Option KeyFlaw → Option KeyFlaw
 earlier (Some flaw) later = Some flaw
 earlier None later = later
@@ -74,36 +76,41 @@ abbrev pub first_flaw : Members → Option KeyFlaw
 first_flaw no_members = None
 first_flaw (member key value more) = earlier (key_flaw key value) (first_flaw more)
 
--- ---- of a value, and of bytes
+-- ---- values, and bytes
 
--- the value is an object without a flaw, and says this
+-- holds if the value is an object without a flaw, and means this
 abbrev pub SaysIn : Data → Answer → Type 0
 SaysIn d answer = (members : Members) × (d ≡ object members) × (first_flaw members ≡ None) × (answer ≡ answer_of d)
 
--- a text that isn't empty
+-- holds for a text that isn't empty
 abbrev pub IsText : Option (List ℕ) → Type 0
 IsText None = ⊥
 IsText (Some text) = 0 < length text
 
--- a name or a text must be stored: that of the first flaw, or one of the answer
+-- holds if a name or a text must be stored: that of the first flaw, or one of the answer
 abbrev pub IsStored : Option KeyFlaw → Answer → Type 0
 IsStored (Some flaw) answer = 0 < length flaw.1
-IsStored None answer = IsText answer.panel ⊎ ((0 < length answer.fields) ⊎ (IsText answer.message ⊎ IsText answer.cursor))
+IsStored None answer = IsText answer.panel
+    ⊎ ((0 < length answer.fields) ⊎ (IsText answer.message ⊎ IsText answer.cursor))
 
--- the value is no object, or one with this flaw first; or memory is refused for what must be stored
+-- holds if the value is invalid for this reason: no object, an object with this first flaw, or refused memory
 abbrev pub IsBadValue : Data → ReplyFault → Type 0
 IsBadValue d fault.Memory = (members : Members) × (d ≡ object members) × IsStored (first_flaw members) (answer_of d)
 IsBadValue d fault.NotJson = (members : Members) → ¬ (d ≡ object members)
-IsBadValue d (fault.Key what key) = (members : Members) × (d ≡ object members) × (first_flaw members ≡ Some (what, string_bytes key))
+IsBadValue d (fault.Key what key) = (members : Members) × (d ≡ object members)
+    × (first_flaw members ≡ Some (what, string_bytes key))
 IsBadValue d _ = ⊥
 
--- the content is JSON in UTF-8, and its value says this
+-- holds if the content is JSON in UTF-8, and its value means this
 abbrev pub Says : (content : List ℕ) → Answer → Type 0
 Says content answer = (d : Data) × IsUtf8 content × (read content ≡ Some d) × SaysIn d answer
 
--- the content is no JSON in UTF-8, or its value is bad; or memory is refused to read it, which takes none if it is empty
+-- holds if the content is invalid for this reason: no JSON in UTF-8, an invalid value, or refused memory, which can't
+-- happen if it is empty
 abbrev pub IsBadContent : List ℕ → ReplyFault → Type 0
-IsBadContent content why = ((why ≡ fault.Memory) × (0 < length content)) ⊎ (((why ≡ fault.NotJson) × (IsUtf8 content → read content ≡ None)) ⊎ ((d : Data) × (read content ≡ Some d) × IsBadValue d why))
+IsBadContent content why = ((why ≡ fault.Memory) × (0 < length content))
+    ⊎ (((why ≡ fault.NotJson) × (IsUtf8 content → read content ≡ None))
+    ⊎ ((d : Data) × (read content ≡ Some d) × IsBadValue d why))
 
 -- ---- the value that holds it
 

@@ -1,4 +1,4 @@
-//! Where the content of a reply is (RFC 9112, sections 4, 6 and 7).
+//! Finds the content of a reply (RFC 9112, sections 4, 6 and 7).
 ghost use Rattle.std.specs.Prelude.{◌≡◌, ◌<◌, ◌≤◌, ⊤, [], Bool, drop, length, true, List, MatchOption, IfErr, IfOk, IsTrue, OnErr, IsFalse};
 ghost use Rattle.httparse.specs.Grammar.{HasNoResponse};
 ghost use Rattle.httparse.specs.declared.spans.HeaderSpan.{HeaderSpan};
@@ -15,26 +15,26 @@ use httparse::spans::{EMPTY_HEADER_SPAN, parse_response};
 use httparse::{Error, Status};
 use std::alloc::{AllocError, Global};
 
-/// The most bytes of a reply, head and content.
+/// The most bytes of a reply, head and content together.
 pub(crate) const MOST_BYTES: usize = 65_536;
 
-/// The most fields of a reply's head, and of its trailers.
+/// The most fields of a reply's head, and the most trailers of its body.
 const MOST_FIELDS: usize = 64;
 
-/// The status of a reply that is read (RFC 9110, section 15.3.1).
+/// The only status that a reply may have (RFC 9110, section 15.3.1).
 const ACCEPTED: u16 = 200;
 
-/// What matters of the head of a reply.
+/// The parts of a reply's head that matter here.
 #[derive(Clone, Copy)]
 pub struct Head {
-    /// Its length in bytes.
+    /// The length of the head in bytes.
     len: usize,
     status: u16,
-    /// How the body that follows is delimited.
+    /// How the length of the body is determined.
     framing: Result<Framing, FramingError>,
 }
 
-/// The limits of a chunked body: no part has one of its own.
+/// The limits of a chunked body: no part has a lower limit than the whole reply.
 fn limits() -> Limits
     ensures { result ≡ limits }
 {
@@ -45,7 +45,7 @@ fn limits() -> Limits
     }
 }
 
-/// The head with which the bytes begin; None if it isn't whole yet.
+/// The head at the start of the bytes; None if it isn't complete yet.
 fn head_of(bytes: &[u8]) -> Result<Option<Head>, ReplyFault>
     ensures found { IfOk result (λ found. MatchOption found (HasNoResponse bytes.now) (IsHead bytes.now)) }
     ensures wrong { IfErr result (λ why. (closed : Bool) → IsBadMessage closed bytes.now why) }
@@ -76,10 +76,11 @@ fn copy_of(alloc: Global, bytes: &[u8]) -> Result<Vec<u8>, AllocError>
     Ok(copy)
 }
 
-/// The content of a body of this length, in bytes; None if fewer of them are there.
+/// The content of a body with this length, in bytes; None if there are fewer bytes.
 #[tactic(auto, using(crate::proofs::Chunks::sized_whole))]
 fn sized_content(alloc: Global, len: u64, after: &[u8]) -> Result<Option<Vec<u8>>, AllocError>
-    ensures found { IfOk result (λ found. MatchOption found (LacksEnd true (framed.Length len) after.now) (λ content. IsWhole true (framed.Length len) after.now content.items)) }
+    ensures found { IfOk result (λ found. MatchOption found (LacksEnd true (framed.Length len) after.now)
+        (λ content. IsWhole true (framed.Length len) after.now content.items)) }
     ensures refused { OnErr result (HoldsContent true (framed.Length len) after.now) }
 {
     if (after.len() as u64) < len {
@@ -88,7 +89,7 @@ fn sized_content(alloc: Global, len: u64, after: &[u8]) -> Result<Option<Vec<u8>
     Ok(Some(copy_of(alloc, &after[..len as usize])?))
 }
 
-/// The bytes from an index on.
+/// The bytes from the index `at` on.
 fn behind(bytes: &[u8], at: usize) -> &[u8]
     requires { at ≤ length bytes.now }
     ensures { result.now ≡ drop at bytes.now }
@@ -96,19 +97,21 @@ fn behind(bytes: &[u8], at: usize) -> &[u8]
     &bytes[at..]
 }
 
-/// The next piece of a chunked body, or its end.
+/// The next chunk data of a chunked body, or its end.
 fn next_piece(decoder: &mut Decoder, left: &[u8]) -> Result<Decoded, ReadError>
-    ensures found { IfOk result (λ found. (trailers : List HeaderSpan) × Decodes decoder.old left.now decoder.new trailers found) }
+    ensures found { IfOk result
+        (λ found. (trailers : List HeaderSpan) × Decodes decoder.old left.now decoder.new trailers found) }
     ensures none { OnErr result (HasNoBody decoder.old left.now most_fields) }
 {
     let mut trailers = [EMPTY_HEADER_SPAN; MOST_FIELDS];
     decoder.decode(left, &mut trailers)
 }
 
-/// Adds the content of a chunked body, and answers whether all of it is there.
+/// Adds the content of a chunked body, and answers whether the body is complete.
 fn put_chunks(content: &mut Vec<u8>, after: &[u8]) -> Result<bool, ReplyFault>
     requires { content.old.items ≡ [] }
-    ensures whole { IfOk result (λ is_whole. IsTrue is_whole → IsWhole true framed.Chunked after.now content.new.items) }
+    ensures whole { IfOk result
+        (λ is_whole. IsTrue is_whole → IsWhole true framed.Chunked after.now content.new.items) }
     ensures lacking { IfOk result (λ is_whole. IsFalse is_whole → LacksEnd true framed.Chunked after.now) }
     ensures wrong { IfErr result (IsBadBody true framed.Chunked after.now) }
 {
@@ -129,9 +132,10 @@ fn put_chunks(content: &mut Vec<u8>, after: &[u8]) -> Result<bool, ReplyFault>
     }
 }
 
-/// The content of a chunked body; None if its end isn't there yet.
+/// The content of a chunked body; None if it isn't complete yet.
 fn chunked_content(alloc: Global, after: &[u8]) -> Result<Option<Vec<u8>>, ReplyFault>
-    ensures whole { IfOk result (λ found. MatchOption found ⊤ (λ content. IsWhole true framed.Chunked after.now content.items)) }
+    ensures whole { IfOk result
+        (λ found. MatchOption found ⊤ (λ content. IsWhole true framed.Chunked after.now content.items)) }
     ensures lacking { IfOk result (λ found. MatchOption found (LacksEnd true framed.Chunked after.now) (λ _. ⊤)) }
     ensures wrong { IfErr result (IsBadBody true framed.Chunked after.now) }
 {
@@ -147,7 +151,8 @@ fn chunked_content(alloc: Global, after: &[u8]) -> Result<Option<Vec<u8>>, Reply
 /// The content of a body that ends with the connection; None if that isn't closed yet.
 #[tactic(auto, using(crate::proofs::Chunks::closed_whole))]
 fn last_content(alloc: Global, after: &[u8], is_closed: bool) -> Result<Option<Vec<u8>>, AllocError>
-    ensures found { IfOk result (λ found. MatchOption found (LacksEnd is_closed framed.UntilClose after.now) (λ content. IsWhole is_closed framed.UntilClose after.now content.items)) }
+    ensures found { IfOk result (λ found. MatchOption found (LacksEnd is_closed framed.UntilClose after.now)
+        (λ content. IsWhole is_closed framed.UntilClose after.now content.items)) }
     ensures refused { OnErr result (HoldsContent is_closed framed.UntilClose after.now) }
 {
     if is_closed {
@@ -157,14 +162,15 @@ fn last_content(alloc: Global, after: &[u8], is_closed: bool) -> Result<Option<V
     }
 }
 
-/// The content of a body; None if its end isn't there yet.
+/// The content of a body; None if it isn't complete yet.
 fn body_content(
     alloc: Global,
     framing: Framing,
     after: &[u8],
     is_closed: bool,
 ) -> Result<Option<Vec<u8>>, ReplyFault>
-    ensures found { IfOk result (λ found. MatchOption found (LacksEnd is_closed framing after.now) (λ content. IsWhole is_closed framing after.now content.items)) }
+    ensures found { IfOk result (λ found. MatchOption found (LacksEnd is_closed framing after.now)
+        (λ content. IsWhole is_closed framing after.now content.items)) }
     ensures wrong { IfErr result (IsBadBody is_closed framing after.now) }
 {
     match framing {
@@ -175,13 +181,15 @@ fn body_content(
     }
 }
 
-/// The content of the reply with which the bytes begin; None if its end isn't there yet. It may end with the connection.
+/// The content of the reply at the start of the bytes; None if it isn't complete yet. `is_closed` says whether the
+/// connection is closed after them, which ends a body without a stated length.
 pub(crate) fn content_of(
     alloc: Global,
     bytes: &[u8],
     is_closed: bool,
 ) -> Result<Option<Vec<u8>>, ReplyFault>
-    ensures found { IfOk result (λ found. MatchOption found (IsUnfinished is_closed bytes.now) (λ content. HasContent is_closed bytes.now content.items)) }
+    ensures found { IfOk result (λ found. MatchOption found (IsUnfinished is_closed bytes.now)
+        (λ content. HasContent is_closed bytes.now content.items)) }
     ensures wrong { IfErr result (IsBadMessage is_closed bytes.now) }
 {
     let Some(head) = head_of(bytes)? else {

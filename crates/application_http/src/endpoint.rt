@@ -1,4 +1,4 @@
-//! Where an application listens.
+//! The URL at which an application listens (our profile).
 ghost use Rattle.std.specs.Prelude.{◌≡◌, ◌++◌, None, Ok, IfErr, IfOk, OnOk, option_map, string_bytes};
 ghost use Rattle.std.specs.Net.Socket.{socket_ip, socket_port};
 ghost use Rattle.url.specs.Host.{borrowed_host};
@@ -13,34 +13,34 @@ use std::net::{IpAddr, Ipv4Addr, Ipv6Addr, SocketAddr};
 use thiserror::Error;
 use url::{Host, ParseError, Url, quirks};
 
-/// The port of a URL that names none (RFC 9110, section 4.2.1).
+/// The port if the URL has none (RFC 9110, section 4.2.1).
 const HTTP_PORT: u16 = 80;
 
-/// Why a text is no URL of an application.
+/// Why a text is not the URL of an application.
 #[derive(Debug, Clone, Copy, PartialEq, Eq, Drop, Error)]
 pub enum EndpointFault {
-    /// A growth was refused, or the URL would take 4 GiB; this says nothing else of the text.
+    /// Memory was refused, or the URL would take 4 GiB. This says nothing else about the text.
     #[error("out of memory")]
     Memory,
-    /// The text is no URL (URL Standard, section 4.4).
+    /// The text is not a URL (URL Standard, section 4.4).
     #[error("not a URL: {0}")]
     NotUrl(ParseError),
-    /// The scheme is another than http.
+    /// The scheme is not http.
     #[error("the URL doesn't begin with http://")]
     NotHttp,
-    /// There is a user name or a password, which wouldn't be sent.
+    /// The URL has a user name or a password, which wouldn't be sent.
     #[error("the URL has a user name or a password")]
     HasUser,
-    /// There is a fragment, which wouldn't be sent.
+    /// The URL has a fragment, which wouldn't be sent.
     #[error("the URL has a fragment, behind #")]
     HasFragment,
-    /// The host is none of localhost, 127.0.0.0/8 and ::1.
+    /// The host is not localhost, 127.0.0.0/8 or ::1.
     #[error("the URL's host is not this machine: localhost, 127.x.x.x or [::1]")]
     NotThisMachine,
 }
 
-/// The URL of an application on this machine: scheme http, host localhost, 127.0.0.0/8 or `[::1]`, a port, a path and a query.
-/// Contracts see the parts of the URL.
+/// The URL of an application on this machine: scheme http, host localhost, 127.0.0.0/8 or `[::1]`, a port, a path and a
+/// query. Contracts see the parts of the URL.
 #[derive(Drop)]
 pub struct Endpoint {
     url: Url,
@@ -71,7 +71,7 @@ fn is_local(host: Option<Host<&str>>) -> bool
     }
 }
 
-/// Why a URL is no application's, the first reason.
+/// The first reason for which a URL is refused; None if it is accepted.
 fn refusal(url: &Url) -> Option<EndpointFault>
     ensures { result ≡ refusal url.now }
 {
@@ -88,7 +88,7 @@ fn refusal(url: &Url) -> Option<EndpointFault>
     }
 }
 
-/// A host's address: that of localhost is 127.0.0.1.
+/// The IP address of a host. That of localhost is 127.0.0.1.
 fn address_of(host: Option<Host<&str>>) -> IpAddr
     ensures { IsAddressOf (option_map borrowed_host host.entry) result }
 {
@@ -100,7 +100,7 @@ fn address_of(host: Option<Host<&str>>) -> IpAddr
 }
 
 impl Endpoint {
-    /// The endpoint that a text names, as `http://127.0.0.1:8080/bank`.
+    /// Parses a URL such as `http://127.0.0.1:8080/bank`. The error says why the text is refused.
     pub fn parse(alloc: Global, text: &str) -> Result<Endpoint, EndpointFault>
         ensures read { IfOk result (λ endpoint. parse_url None text.now ≡ Ok endpoint) }
         ensures accepted { IfOk result (λ endpoint. refusal endpoint ≡ None) }
@@ -142,7 +142,7 @@ impl Endpoint {
         write!(text, "POST {path}{mark}{query} HTTP/1.1\r\n")
     }
 
-    /// Adds the fields of a request whose body has this length, in bytes, and the empty line.
+    /// Adds the header fields of a request whose body has this length, in bytes, and the empty line.
     #[tactic(auto, unfolding(crate::specs::Requests::field_lines))]
     fn put_fields(&self, text: &mut String, length: usize) -> Result<(), AllocError>
         ensures { OnOk result (string_bytes text.new ≡ string_bytes text.old ++ field_lines self.now length) }
@@ -156,7 +156,8 @@ impl Endpoint {
 
     /// Adds the head of a request whose body has this length, in bytes.
     pub(crate) fn put_head(&self, text: &mut String, length: usize) -> Result<(), AllocError>
-        ensures { OnOk result (string_bytes text.new ≡ string_bytes text.old ++ (first_line self.now ++ field_lines self.now length)) }
+        ensures { OnOk result
+            (string_bytes text.new ≡ string_bytes text.old ++ (first_line self.now ++ field_lines self.now length)) }
     {
         self.put_first_line(text)?;
         self.put_fields(text, length)

@@ -1,4 +1,4 @@
-//! Why a reply is refused.
+//! Why a reply is invalid.
 use std::alloc::AllocError;
 use std::fmt;
 use thiserror::Error;
@@ -6,13 +6,13 @@ use thiserror::Error;
 /// What is wrong with a key of a reply.
 #[derive(Debug, Clone, Copy, PartialEq, Eq, Drop)]
 pub enum KeyFault {
-    /// A reply has no such key.
+    /// A reply can't have this key.
     UnknownKey,
-    /// The key's value is to be a text.
+    /// The key's value must be a text.
     NotText,
-    /// The key's value is to be an object.
+    /// The key's value must be an object.
     NotObject,
-    /// The key is a field's name, whose value is to be a text.
+    /// The key is a field's name, and its value must be a text.
     FieldNotText,
 }
 
@@ -27,28 +27,28 @@ impl fmt::Display for KeyFault {
     }
 }
 
-/// Why a reply is refused. No text of this names a field's value, which may be a password.
+/// Why a reply is invalid. No printed message contains a field's value, which may be a password.
 #[derive(Debug, Drop, Error)]
 pub enum ReplyFault {
-    /// A growth was refused; this says nothing of the reply.
+    /// Memory was refused. This says nothing about the reply.
     #[error("out of memory")]
     Memory,
-    /// More than 65,536 bytes came before the reply's end.
+    /// More than 65,536 bytes were received before the reply's end.
     #[error("the reply is longer than 65536 bytes")]
     TooLong,
     /// The connection was closed before the reply's end.
     #[error("the connection was closed before the end of the reply")]
     CutShort,
-    /// The bytes don't begin a response of HTTP/1.0 or HTTP/1.1 (RFC 9112, section 4).
+    /// The bytes don't begin with a response of HTTP/1.0 or HTTP/1.1 (RFC 9112, section 4).
     #[error("the reply is not an HTTP/1.1 response")]
     NotHttp,
     /// The head has more than 64 fields.
     #[error("the reply's head has more than 64 fields")]
     TooManyFields,
-    /// The status is another than 200 (RFC 9110, section 15).
+    /// The status is not 200 (RFC 9110, section 15).
     #[error("the reply's status is {0}")]
     Status(u16),
-    /// The head states no usable length (RFC 9112, section 6.3).
+    /// The head doesn't state a usable length (RFC 9112, section 6.3).
     #[error("the reply's head states no usable length")]
     BadLength,
     /// The content is badly chunked, or has more than 64 trailers (RFC 9112, section 7.1).
@@ -57,10 +57,10 @@ pub enum ReplyFault {
     /// The content isn't a JSON object (RFC 8259).
     #[error("the reply is not a JSON object")]
     NotJson,
-    /// A key or its value is wrong: the first in the order of the keys' bytes.
+    /// A key or its value is wrong. It is the first such key in the order of the keys' bytes.
     #[error("the reply's key {key:?} {what}")]
     Key {
-        /// What is wrong.
+        /// What is wrong with it.
         what: KeyFault,
         /// The key, or the name of the field.
         key: String,

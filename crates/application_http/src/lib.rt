@@ -1,4 +1,8 @@
-//! The messages between a host and the application that decides for it: HTTP/1.1 with JSON, without any input or output.
+//! The messages between a host and the application that decides for it: HTTP/1.1 with JSON.
+//!
+//! This crate does no input or output, and knows nothing of panels or of the host (crate `applications` does).
+//! [`request_text`] writes a [`Request`] for an [`Endpoint`]. [`ReplyReader`] takes the received bytes in any pieces
+//! and returns a [`Reply`] or a [`ReplyFault`].
 #![tactic(auto)]
 
 mod content;

@@ -1,4 +1,4 @@
-//! Reading an application's reply from bytes that come in any pieces.
+//! Reads an application's reply from bytes that are received in any pieces.
 ghost use Rattle.std.specs.Prelude.{◌≡◌, ◌≤◌, ◌++◌, ◌↔◌, ℕ, ⊤, false, true, [], List, length, take, Some, None, IfErr, IfOk, IsSome, IsTrue, MatchOption};
 ghost use Rattle.application_http.specs.Contents.{IsUnfinished, most_bytes};
 ghost use Rattle.application_http.specs.Readings.{GivesNothing, HasReply, IsBadReply, IsFound, IsRefused, IsRefusedBehind, is_last, left_by};
@@ -10,9 +10,10 @@ use crate::reply::{Reply, read_reply};
 use std::alloc::Global;
 use std::marker::Model;
 
-/// The reply with which the bytes begin; None if its end isn't there yet.
+/// The reply at the start of the bytes; None if it isn't complete yet.
 fn reply_at(alloc: Global, bytes: &[u8], is_closed: bool) -> Result<Option<Reply>, ReplyFault>
-    ensures found { IfOk result (λ found. MatchOption found (IsUnfinished is_closed bytes.now) (λ reply. HasReply is_closed bytes.now (answer_in reply))) }
+    ensures found { IfOk result (λ found. MatchOption found (IsUnfinished is_closed bytes.now)
+        (λ reply. HasReply is_closed bytes.now (answer_in reply))) }
     ensures bad { IfErr result (IsBadReply is_closed bytes.now) }
 {
     let Some(content) = content_of(alloc, bytes, is_closed)? else {
@@ -21,7 +22,7 @@ fn reply_at(alloc: Global, bytes: &[u8], is_closed: bool) -> Result<Option<Reply
     Ok(Some(read_reply(alloc, content.as_slice())?))
 }
 
-/// The front of the bytes, as far as there is room.
+/// The first `room` bytes, or all if there are fewer.
 fn front_of(bytes: &[u8], room: usize) -> &[u8]
     ensures { result.now ≡ take room bytes.now }
 {
@@ -32,11 +33,12 @@ fn front_of(bytes: &[u8], room: usize) -> &[u8]
     }
 }
 
-/// Adds bytes that came, 65,536 in all at most, and answers what is found in all of them.
+/// Adds received bytes, up to 65,536 in all, and returns the reply if they complete it.
 fn advance(alloc: Global, so_far: &mut Vec<u8>, bytes: &[u8]) -> Result<Option<Reply>, ReplyFault>
     requires { length so_far.old.items ≤ most_bytes }
     ensures held { length so_far.new.items ≤ most_bytes }
-    ensures going { IfOk result (λ found. MatchOption found (so_far.new.items ≡ so_far.old.items ++ bytes.now) (λ _. ⊤)) }
+    ensures going { IfOk result
+        (λ found. MatchOption found (so_far.new.items ≡ so_far.old.items ++ bytes.now) (λ _. ⊤)) }
     ensures found { IfOk result (IsFound false (so_far.old.items ++ bytes.now)) }
     ensures refused { IfErr result (IsRefusedBehind so_far.old.items bytes.now) }
 {
@@ -50,7 +52,7 @@ fn advance(alloc: Global, so_far: &mut Vec<u8>, bytes: &[u8]) -> Result<Option<R
     }
 }
 
-/// What is found in all bytes that came, if the connection is closed behind them.
+/// The reply that all received bytes form, if the connection is closed after them.
 fn conclude(alloc: Global, bytes: &[u8]) -> Result<Option<Reply>, ReplyFault>
     requires { length bytes.now ≤ most_bytes }
     ensures whole { IfOk result (λ found. IsSome found) }
@@ -64,14 +66,15 @@ fn conclude(alloc: Global, bytes: &[u8]) -> Result<Option<Reply>, ReplyFault>
     }
 }
 
-/// Whether the reply is over with this answer.
+/// Whether this answer ends the reading.
 fn is_last(answer: &Result<Option<Reply>, ReplyFault>) -> bool
     ensures { result ≡ is_last answer.now }
 {
     !matches!(answer, Ok(None))
 }
 
-/// A reply that comes in pieces. It holds 65,536 bytes at most. Contracts see the bytes that came, or None once the reply is over.
+/// Reads a reply that is received in pieces, of at most 65,536 bytes in all. Contracts see the bytes received so far,
+/// or None once the reading is over.
 #[derive(Drop)]
 pub struct ReplyReader {
     bytes: Vec<u8>,
@@ -90,7 +93,7 @@ impl Model for ReplyReader {
 }
 
 impl ReplyReader {
-    /// Nothing came yet.
+    /// A reader that has received nothing yet.
     pub fn new(alloc: Global) -> ReplyReader
         ensures { result ≡ Some [] }
     {
@@ -100,15 +103,15 @@ impl ReplyReader {
         }
     }
 
-    /// Whether the reply is over: a call gave it, or a fault.
+    /// Whether the reading is over: a call has returned the reply or a fault.
     pub fn is_over(&self) -> bool
         ensures { IsTrue result ↔ (self.now ≡ None) }
     {
         self.is_over
     }
 
-    /// Takes bytes that came, and answers the reply once they have its end; Ok(None) if they don't yet. After the reply or a fault it is
-    /// over: then no bytes are taken, and the answer is Ok(None). Refused memory is a fault.
+    /// Takes received bytes, and returns the reply once it is complete; Ok(None) if it isn't yet. After the reply or a
+    /// fault the reading is over: then no bytes are taken, and the answer is Ok(None). Refused memory is a fault.
     pub fn feed(&mut self, alloc: Global, bytes: &[u8]) -> Result<Option<Reply>, ReplyFault>
         ensures ignored { self.old ≡ None → (self.new ≡ None) × GivesNothing result }
         ensures taken { (so_far : List ℕ) → self.old ≡ Some so_far → self.new ≡ left_by result (so_far ++ bytes.now) }
@@ -123,7 +126,8 @@ impl ReplyReader {
         answer
     }
 
-    /// Takes note that the connection is closed, and answers the reply if it ends there. Ok(None) if it was over before.
+    /// Takes the end of the connection, and returns the reply if that completes it, or CutShort if not. Ok(None) if the
+    /// reading was already over.
     pub fn end(&mut self, alloc: Global) -> Result<Option<Reply>, ReplyFault>
         ensures over { self.new ≡ None }
         ensures ignored { self.old ≡ None → GivesNothing result }

@@ -1,4 +1,4 @@
-//! What an application's reply says.
+//! Reads a reply from its JSON content.
 ghost use Rattle.std.specs.Prelude.{◌≡◌, ◌<◌, None, codes, is_some, length, map, option_map, option_copied, string_bytes, IfErr, IfOk, OnErr};
 ghost use Rattle.serde_json.specs.Find.{get};
 ghost use Rattle.serde_json.specs.View.{members_view, view};
@@ -9,20 +9,20 @@ use crate::request::FieldText;
 use serde_json::{Map, Value};
 use std::alloc::{AllocError, Global};
 
-/// What an application answers to a question. Each part may be absent.
+/// An application's answer to a question. Each part may be absent.
 #[derive(Debug, Drop)]
 pub struct Reply {
-    /// The name of the panel to show; the same panel again if it is absent.
+    /// The name of the panel to show. If it is absent, the current panel is shown again.
     pub panel: Option<String>,
-    /// Texts of the panel's fields, in the order of their names' bytes.
+    /// Texts for the panel's fields, in the order of the bytes of their names.
     pub fields: Vec<FieldText>,
     /// A text for the message row.
     pub message: Option<String>,
-    /// The name of the field in which the cursor goes.
+    /// The name of the field in which to put the cursor.
     pub cursor: Option<String>,
 }
 
-/// The first member of an object that isn't a text.
+/// The first member of an object whose value isn't a text.
 fn first_non_text(members: &Map<String, Value>) -> Option<(KeyFault, &str)>
     ensures { option_map (λ flaw. (flaw.0, flaw.1.now)) result ≡ first_non_text (members_view members.now.entries) }
 {
@@ -34,7 +34,7 @@ fn first_non_text(members: &Map<String, Value>) -> Option<(KeyFault, &str)>
     None
 }
 
-/// What is wrong with the value of the key of fields.
+/// What is wrong with the value of the key `fields`.
 fn fields_flaw<'a>(key: &'a str, value: &'a Value) -> Option<(KeyFault, &'a str)>
     ensures { option_map (λ flaw. (flaw.0, flaw.1.now)) result ≡ fields_flaw key.now (view value.now) }
 {
@@ -44,7 +44,7 @@ fn fields_flaw<'a>(key: &'a str, value: &'a Value) -> Option<(KeyFault, &'a str)
     }
 }
 
-/// Whether a key's value is a text.
+/// Whether a key's value must be a text.
 fn names_text(key: &str) -> bool
     ensures { result ≡ names_text key.now }
 {
@@ -111,7 +111,7 @@ fn field_of(alloc: Global, name: &str, text: &str) -> Result<FieldText, AllocErr
     })
 }
 
-/// Copies of the names and texts of an object.
+/// Copies of the names and texts of an object's members.
 fn texts_in(alloc: Global, members: &Map<String, Value>) -> Result<Vec<FieldText>, AllocError>
     ensures copy { IfOk result (λ texts. map field_text texts.items ≡ texts_in (members_view members.now.entries)) }
     ensures refused { OnErr result (0 < length (texts_in (members_view members.now.entries))) }
@@ -125,7 +125,7 @@ fn texts_in(alloc: Global, members: &Map<String, Value>) -> Result<Vec<FieldText
     Ok(texts)
 }
 
-/// Copies of the names and texts of the object at a key.
+/// Copies of the names and texts of the object at a key; none if there is no such object.
 fn texts_at(alloc: Global, value: &Value, key: &str) -> Result<Vec<FieldText>, AllocError>
     ensures copy { IfOk result (λ texts. map field_text texts.items ≡ texts_in (object_at key.now (view value.now))) }
     ensures refused { OnErr result (0 < length (texts_in (object_at key.now (view value.now)))) }
@@ -136,7 +136,7 @@ fn texts_at(alloc: Global, value: &Value, key: &str) -> Result<Vec<FieldText>, A
     }
 }
 
-/// The reply that an object says.
+/// The reply that a valid object represents.
 fn reply_of(alloc: Global, value: &Value) -> Result<Reply, AllocError>
     ensures said { IfOk result (λ reply. answer_in reply ≡ answer_of (view value.now)) }
     ensures refused { OnErr result (IsStored None (answer_of (view value.now))) }
@@ -149,7 +149,7 @@ fn reply_of(alloc: Global, value: &Value) -> Result<Reply, AllocError>
     })
 }
 
-/// The reply that a JSON value says.
+/// The reply that a JSON value represents.
 fn reply_in(alloc: Global, value: &Value) -> Result<Reply, ReplyFault>
     ensures said { IfOk result (λ reply. SaysIn (view value.now) (answer_in reply)) }
     ensures bad { IfErr result (IsBadValue (view value.now)) }
@@ -166,7 +166,7 @@ fn reply_in(alloc: Global, value: &Value) -> Result<Reply, ReplyFault>
     }
 }
 
-/// The reply that a content says.
+/// The reply that the bytes of a content represent.
 pub(crate) fn read_reply(alloc: Global, content: &[u8]) -> Result<Reply, ReplyFault>
     ensures said { IfOk result (λ reply. Says content.now (answer_in reply)) }
     ensures bad { IfErr result (IsBadContent content.now) }

@@ -1,4 +1,4 @@
-//! What an application is sent for a question.
+//! The HTTP request to an application for a question.
 ghost use Rattle.std.specs.Prelude.{◌≡◌, IfOk, OnOk, codes, string_bytes};
 ghost use Rattle.serde_json.specs.Data.{no_members, number, object, put, string, unsigned};
 ghost use Rattle.serde_json.specs.View.{members_view, view};
@@ -13,7 +13,7 @@ use std::alloc::{AllocError, Global};
 pub struct FieldText {
     /// The name that the panel gives the field.
     pub name: String,
-    /// What is in the field.
+    /// The text of the field.
     pub text: String,
 }
 
@@ -22,7 +22,7 @@ pub struct FieldText {
 pub struct Request<'a> {
     /// The session's name, which no other session has.
     pub session: &'a str,
-    /// The turn's number on this connection.
+    /// The number of the turn on this connection.
     pub turn: u16,
     /// The LU that the terminal is bound to.
     pub lu: &'a str,
@@ -30,15 +30,15 @@ pub struct Request<'a> {
     pub panel: &'a str,
     /// The key: `enter`, `pf1` to `pf24`, `pa1` to `pa3`.
     pub key: &'a str,
-    /// The cursor's row, from 1.
+    /// The cursor's row, 1-based.
     pub row: u16,
-    /// The cursor's column, from 1.
+    /// The cursor's column, 1-based.
     pub col: u16,
-    /// The panel's fields; of two with one name the later counts.
+    /// The panel's fields. If two have one name, the later one is sent.
     pub fields: &'a [FieldText],
 }
 
-/// The object of the fields.
+/// The JSON object of the fields.
 fn fields_value(alloc: Global, fields: &[FieldText]) -> Result<Value, AllocError>
     ensures { IfOk result (λ value. view value ≡ object (with_texts no_members fields.now)) }
 {
@@ -57,20 +57,22 @@ fn put_text(
     key: &str,
     text: &str,
 ) -> Result<(), AllocError>
-    ensures { OnOk result (members_view members.new.entries ≡ put key.now (string text.now) (members_view members.old.entries)) }
+    ensures { OnOk result
+        (members_view members.new.entries ≡ put key.now (string text.now) (members_view members.old.entries)) }
 {
     let value = Value::try_from_str(alloc, text)?;
     serde_json::put(members, alloc, key, value)
 }
 
-/// Puts what is asked: the LU, the panel and the key.
+/// Puts the LU, the panel and the key into an object.
 fn put_question(
     members: &mut Map<String, Value>,
     alloc: Global,
     request: &Request<'_>,
 ) -> Result<(), AllocError>
     ensures { OnOk result (members_view members.new.entries ≡ put (codes "key") (string request.now.key.now)
-        (put (codes "panel") (string request.now.panel.now) (put (codes "lu") (string request.now.lu.now) (members_view members.old.entries)))) }
+        (put (codes "panel") (string request.now.panel.now)
+        (put (codes "lu") (string request.now.lu.now) (members_view members.old.entries)))) }
 {
     put_text(members, alloc, "lu", request.lu)?;
     put_text(members, alloc, "panel", request.panel)?;
@@ -78,7 +80,7 @@ fn put_question(
     Ok(())
 }
 
-/// Puts the name of the session, and the number of the turn.
+/// Puts the name of the session and the number of the turn into an object.
 fn put_ticket(
     members: &mut Map<String, Value>,
     alloc: Global,
@@ -93,20 +95,21 @@ fn put_ticket(
     Ok(())
 }
 
-/// The object of the cursor.
+/// The JSON object of the cursor.
 fn cursor_value(alloc: Global, row: u16, col: u16) -> Result<Value, AllocError>
     ensures { IfOk result (λ value. view value ≡ cursor_data row col) }
 {
     json!(in alloc; {"row": u64::from(row), "col": u64::from(col)})
 }
 
-/// Puts what is on the screen: the cursor and the fields.
+/// Puts the cursor and the fields into an object.
 fn put_screen(
     members: &mut Map<String, Value>,
     alloc: Global,
     request: &Request<'_>,
 ) -> Result<(), AllocError>
-    ensures { OnOk result (members_view members.new.entries ≡ put (codes "fields") (object (with_texts no_members request.now.fields.now))
+    ensures { OnOk result
+        (members_view members.new.entries ≡ put (codes "fields") (object (with_texts no_members request.now.fields.now))
         (put (codes "cursor") (cursor_data request.now.row request.now.col) (members_view members.old.entries))) }
 {
     let cursor = cursor_value(alloc, request.row, request.col)?;
@@ -116,7 +119,7 @@ fn put_screen(
     Ok(())
 }
 
-/// The object of a question.
+/// The JSON object of a question.
 fn question_value(alloc: Global, request: &Request<'_>) -> Result<Value, AllocError>
     ensures { IfOk result (λ value. view value ≡ question_data request.now) }
 {
@@ -127,7 +130,7 @@ fn question_value(alloc: Global, request: &Request<'_>) -> Result<Value, AllocEr
     Ok(Value::Object(members))
 }
 
-/// The body of a request.
+/// The body of a request: its JSON text.
 fn body_text(alloc: Global, request: &Request<'_>) -> Result<String, AllocError>
     ensures { IfOk result (λ text. string_bytes text ≡ body_text request.now) }
 {
@@ -135,7 +138,7 @@ fn body_text(alloc: Global, request: &Request<'_>) -> Result<String, AllocError>
     value.to_string(alloc)
 }
 
-/// The request of a question, head and body, for the application at an endpoint.
+/// The bytes of a request, head and body, for the application at an endpoint.
 pub fn request_text(
     alloc: Global,
     endpoint: &Endpoint,

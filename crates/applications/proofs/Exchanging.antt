@@ -2,10 +2,10 @@
 use Rattle.std.proofs.Common.{◌≡◌, ◌<◌, ◌∙◌, ℕ, List, [], ◌∷◌, length, None, Option, ap, get_or, refl, slice_index_or, slice_set, subst, sym}
 use Rattle.std.proofs.lemmas.List.{get_or-set_same, get_or_read_under}
 use Rattle.applications.specs.ExchangeTurns.{Exchange, Hears, HearsMore, slot_at}
-use Rattle.applications.specs.declared.exchange.Progress.{Progress}
+use Rattle.applications.specs.declared.exchange.IoProgress.{IoProgress}
 
 -- bytes that aren't the end
-pub hears_more : (bytes : List ℕ) (heard : Option (List ℕ)) (progress : Progress) (after : Option (List ℕ)) → (length bytes ≡ 0 → ⊥)
+pub hears_more : (bytes : List ℕ) (heard : Option (List ℕ)) (progress : IoProgress) (after : Option (List ℕ)) → (length bytes ≡ 0 → ⊥)
     → HearsMore bytes heard progress after → Hears bytes heard progress after
 hears_more [] heard progress after some more = absurd (some refl)
 hears_more (byte ∷ bytes) heard progress after some more = more

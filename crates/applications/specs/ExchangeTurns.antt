@@ -1,6 +1,6 @@
--- Exchanges with an application (our profile): the request of an open question goes to a connection of its own, and
--- the reply is read from it. Each exchange ends once: with an answer, with a fault that is reported and of which the
--- operator is shown a message, or because the operator left.
+-- Exchanges with an application (our profile): the request for an open question is sent on its own connection, and the
+-- reply is read from it. Each exchange ends once: with an answer; with a fault, which is reported and for which the
+-- operator sees a message; or because the operator left.
 use Rattle.std.specs.Prelude.{◌≡◌, ◌<◌, ℕ, ◌+◌, Bool, true, false, List, [], ◌∷◌, ◌++◌, drop, length, if◌then◌else◌, Option, Some, None, Result, Ok, Err, IfErr, IfOk, slice_index_or, slice_set, unwrap_or, ⊤}
 use Rattle.std.specs.IoError.{error_kind}
 use Rattle.std.specs.declared.io.Error.{Error}
@@ -25,13 +25,13 @@ use Rattle.applications.specs.declared.application_fault.ApplicationFault.{Appli
 use Rattle.applications.specs.declared.application_fault.ApplicationFault.TheVariants as why
 use Rattle.applications.specs.declared.application_fault.FailureMessage.{FailureMessage}
 use Rattle.applications.specs.declared.application_reply.AnswerFault.{AnswerFault}
-use Rattle.applications.specs.declared.exchange.Progress.{Progress}
-use Rattle.applications.specs.declared.exchange.Progress.TheVariants.{Moved, Still, Over}
+use Rattle.applications.specs.declared.exchange.IoProgress.{IoProgress}
+use Rattle.applications.specs.declared.exchange.IoProgress.TheVariants.{Moved, Still, Over}
 
 -- ---- one exchange
 
--- The stream of an exchange, its question's ticket and panel, when it began, in milliseconds, the request, how many of
--- its bytes were sent, and the bytes that were heard; none once these ended it.
+-- An exchange: its stream, its question's ticket and panel, when it began in milliseconds, the request, how many of its
+-- bytes were sent, and the bytes received; None once they ended it.
 pub record Exchange (S : Type 0) : Type 0 where
   pub stream : S
   pub ticket : Ticket
@@ -42,7 +42,7 @@ pub record Exchange (S : Type 0) : Type 0 where
   pub heard : Option (List ℕ)
 
 module _ {S : Type 0} where
-  -- an exchange of a question begins: nothing is sent, and nothing heard
+  -- an exchange that begins: nothing is sent or received yet
   abbrev pub begun : S → Question → (request : List ℕ) → (began : ℕ) → Exchange S
   begun stream question request began = record {
     stream = stream;
@@ -63,7 +63,7 @@ module _ {S : Type 0} where
 
 -- ---- what errors mean
 
--- why an exchange fails by an error; none if the call did nothing this time
+-- the reason for which an error ends an exchange; None if the call did nothing and will be repeated
 abbrev pub absence_by : ErrorKind → Option Absence
 absence_by kind.WouldBlock = None
 absence_by kind.Interrupted = None
@@ -71,30 +71,30 @@ absence_by kind.ConnectionRefused = Some absence.Refused
 absence_by kind.OutOfMemory = Some absence.NoMemory
 absence_by _ = Some absence.Broken
 
--- why no exchange begins, by the error of connecting: a call that did nothing this time isn't made again
+-- the reason for which no exchange begins, from the error of connecting; a connect call is not repeated
 abbrev pub unconnected_by : ErrorKind → Absence
 unconnected_by kind = unwrap_or (absence_by kind) absence.Broken
 
-abbrev pub failed_by : Option Absence → Progress
+abbrev pub failed_by : Option Absence → IoProgress
 failed_by None = Still
 failed_by (Some absence) = Over (Err (why.Absent absence))
 
--- a connection that isn't there yet takes nothing
-abbrev pub unsent_by : ErrorKind → Progress
+-- a stream that isn't connected yet takes nothing
+abbrev pub unsent_by : ErrorKind → IoProgress
 unsent_by kind.NotConnected = Still
 unsent_by kind = failed_by (absence_by kind)
 
 -- ---- one call of a stream
 
--- what a read did to a stream, by its room, its bytes and its answer; and a write, by what it was given
+-- the effect of a read on a stream, by its room, its bytes and its answer; and of a write, by its bytes and its answer
 abbrev pub ReadCall : Type 0 → Type 1
 ReadCall S = S → ℕ → List ℕ → Result ℕ Error → S → Type 0
 
 abbrev pub WriteCall : Type 0 → Type 1
 WriteCall S = S → List ℕ → Result ℕ Error → S → Type 0
 
--- what the answer to a write means, and how many bytes the stream took
-abbrev pub sent_as : Result ℕ Error → Progress
+-- the progress after the answer to a write, and how many bytes the stream took
+abbrev pub sent_as : Result ℕ Error → IoProgress
 sent_as (Ok count) = Moved
 sent_as (Err error) = unsent_by (error_kind error)
 
@@ -102,23 +102,23 @@ abbrev pub taken_by : Result ℕ Error → ℕ
 taken_by (Ok count) = count
 taken_by (Err error) = 0
 
--- The stream is handed what is left of the request, once: a write goes on where the last one ended.
-pub record Writes {S : Type 0} (took : WriteCall S) (old : Exchange S) (progress : Progress) (new : Exchange S)
+-- Holds for one write of the rest of the request: it begins after the bytes that were sent before.
+pub record Writes {S : Type 0} (took : WriteCall S) (old : Exchange S) (progress : IoProgress) (new : Exchange S)
     : Type 0 where
   pub answer : Result ℕ Error
   pub called : took old.stream (drop old.sent old.request) answer new.stream
   pub progress_is : progress ≡ sent_as answer
   pub new_is : new ≡ sending (taken_by answer) new.stream old
 
--- what an answer of the reply's reader makes of an exchange
-abbrev pub read_as : Outcome → Progress
+-- the progress after an answer of the reply's reader
+abbrev pub read_as : Outcome → IoProgress
 read_as (Ok None) = Moved
 read_as (Ok (Some reply)) = Over (Ok reply)
 read_as (Err fault) = Over (Err (why.Reply fault))
 
--- What bytes make of an exchange that has heard others before: the reply that all of them are, or why they are none. If
--- these ended it before, more bytes do nothing.
-pub record HearsMore (bytes : List ℕ) (heard : Option (List ℕ)) (progress : Progress) (after : Option (List ℕ))
+-- Holds for the progress after more bytes are received: the reply that all received bytes form, or why they form none.
+-- If earlier bytes ended the exchange, more bytes have no effect.
+pub record HearsMore (bytes : List ℕ) (heard : Option (List ℕ)) (progress : IoProgress) (after : Option (List ℕ))
     : Type 0 where
   pub outcome : Outcome
   pub progress_is : progress ≡ read_as outcome
@@ -127,8 +127,8 @@ pub record HearsMore (bytes : List ℕ) (heard : Option (List ℕ)) (progress : 
   pub heard_is : (before : List ℕ) → heard ≡ Some before → after ≡ left_by outcome (before ++ bytes)
   pub nothing : heard ≡ None → (after ≡ None) × GivesNothing outcome
 
--- what the connection's end makes of it: these are all bytes
-pub record HearsEnd (heard : Option (List ℕ)) (progress : Progress) (after : Option (List ℕ)) : Type 0 where
+-- holds for the progress after the connection is closed: no more bytes follow
+pub record HearsEnd (heard : Option (List ℕ)) (progress : IoProgress) (after : Option (List ℕ)) : Type 0 where
   pub outcome : Outcome
   pub progress_is : progress ≡ read_as outcome
   pub found : (all : List ℕ) → heard ≡ Some all → IfOk outcome (IsFound true all)
@@ -136,12 +136,12 @@ pub record HearsEnd (heard : Option (List ℕ)) (progress : Progress) (after : O
   pub nothing : heard ≡ None → GivesNothing outcome
   pub over : after ≡ None
 
--- a read of no bytes is the end
-abbrev pub Hears : (bytes : List ℕ) → Option (List ℕ) → Progress → Option (List ℕ) → Type 0
+-- a read of no bytes is the end of the connection
+abbrev pub Hears : (bytes : List ℕ) → Option (List ℕ) → IoProgress → Option (List ℕ) → Type 0
 Hears [] heard progress after = HearsEnd heard progress after
 Hears (byte ∷ bytes) heard progress after = HearsMore (byte ∷ bytes) heard progress after
 
-abbrev pub HearsBy : Result ℕ Error → List ℕ → Option (List ℕ) → Progress → Option (List ℕ) → Type 0
+abbrev pub HearsBy : Result ℕ Error → List ℕ → Option (List ℕ) → IoProgress → Option (List ℕ) → Type 0
 HearsBy (Ok count) bytes heard progress after = Hears bytes heard progress after
 HearsBy (Err error) bytes heard progress after =
     (progress ≡ failed_by (absence_by (error_kind error))) × (after ≡ heard)
@@ -150,8 +150,8 @@ HearsBy (Err error) bytes heard progress after =
 abbrev pub read_room : ℕ
 read_room = 8192
 
--- the stream is read once
-pub record Reads {S : Type 0} (gave : ReadCall S) (old : Exchange S) (progress : Progress) (new : Exchange S)
+-- holds if the stream is read once
+pub record Reads {S : Type 0} (gave : ReadCall S) (old : Exchange S) (progress : IoProgress) (new : Exchange S)
     : Type 0 where
   pub bytes : List ℕ
   pub answer : Result ℕ Error
@@ -162,32 +162,33 @@ pub record Reads {S : Type 0} (gave : ReadCall S) (old : Exchange S) (progress :
 -- ---- a turn of an exchange
 
 -- an exchange whose reply is late is over
-abbrev pub in_time : (late : Bool) → Progress → Progress
+abbrev pub in_time : (late : Bool) → IoProgress → IoProgress
 in_time late Moved = if late then Over (Err (why.Absent absence.Late)) else Moved
 in_time late Still = if late then Over (Err (why.Absent absence.Late)) else Still
 in_time late (Over outcome) = Over outcome
 
 module _ {S : Type 0} (gave : ReadCall S) (took : WriteCall S) where
-  -- Nothing is read before the whole request is sent, and nothing written after that.
-  pub data Serves (old : Exchange S) (progress : Progress) (new : Exchange S) : Type 0 where
+  -- Holds for one write or one read: nothing is read before the whole request is sent, and nothing is written after
+  -- that.
+  pub data Serves (old : Exchange S) (progress : IoProgress) (new : Exchange S) : Type 0 where
     writes : old.sent < length old.request → Writes took old progress new → Serves old progress new
     reads : old.sent ≡ length old.request → Reads gave old progress new → Serves old progress new
 
-  -- An exchange whose operator left is over, and nothing is read or written. Another is served, and is over if its
-  -- reply is late.
-  pub data GoesOn (has_operator : Bool) (now most : ℕ) (old : Exchange S) (progress : Progress) (new : Exchange S)
+  -- Holds for a turn of an exchange. If its operator left, it is over, and nothing is read or written. Otherwise it is
+  -- served, and it is over if its reply is late.
+  pub data GoesOn (has_operator : Bool) (now most : ℕ) (old : Exchange S) (progress : IoProgress) (new : Exchange S)
       : Type 0 where
     operator_left : has_operator ≡ false → progress ≡ Over (Err why.Left)
         → GoesOn has_operator now most old progress new
-    goes_on : (served : Progress) → has_operator ≡ true → Serves old served new
+    goes_on : (served : IoProgress) → has_operator ≡ true → Serves old served new
         → progress ≡ in_time (is_reply_late old.began now most) served
         → GoesOn has_operator now most old progress new
 
--- ---- what the end of an exchange asks for
+-- ---- the end of an exchange
 
--- What calls of a server did, each between the server before the call and after it: which question is open on a
--- connection, what connecting to the application answered, what the host did with an answer, and what was reported of a
--- fault, and of a reply that was shown.
+-- The calls of a server, each between the server before and after it: the open question of a connection, the answer of
+-- connecting to the application, what the host did with an answer, and the reports of a fault and of a reply that was
+-- shown.
 abbrev pub QuestionCall : Type 0 → Type 1
 QuestionCall A = A → ℕ → Result (Option Question) Fault → Type 0
 
@@ -203,7 +204,7 @@ FaultCall A = A → ℕ → ApplicationFault → Result Unit Fault → A → Typ
 abbrev pub ReplyCall : Type 0 → Type 1
 ReplyCall A = A → ℕ → Reply → Result Unit Fault → A → Type 0
 
--- what a call did, unless a report breaks it off
+-- the result of a call: `did`, or the fault of a report
 abbrev pub unless_failed : {A : Type 0} → (did : A) → Result Unit Fault → Result A Fault
 unless_failed did (Ok done) = Ok did
 unless_failed did (Err fault) = Err fault
@@ -214,8 +215,8 @@ IsNotShown (Ok false) = ⊤
 IsNotShown (Err fault) = ⊤
 
 module _ {A : Type 0} (answered : AnswerCall A) (reported : FaultCall A) where
-  -- The host is handed an answer to the question with a ticket. It is dropped if that question isn't open any more, and
-  -- that is reported.
+  -- Holds if the host is handed an answer to the question with a ticket. If that question is no longer open, the host
+  -- drops the answer, and that is reported.
   pub data Hands (old : A) (conn : ℕ) (ticket : Ticket) (answer : Answer) (result : Result Bool Fault) (new : A)
       : Type 0 where
     is_shown : answered old conn ticket answer (Ok acted.Sent) new → result ≡ Ok true
@@ -228,7 +229,7 @@ module _ {A : Type 0} (answered : AnswerCall A) (reported : FaultCall A) where
     breaks_off : (fault : Fault) → answered old conn ticket answer (Err fault) new → result ≡ Err fault
         → Hands old conn ticket answer result new
 
-  -- A fault is reported, and the operator is shown its message; one who left is shown nothing.
+  -- Holds if a fault is reported, and the operator sees its message; there is none if the operator left.
   pub data Fails (old : A) (conn : ℕ) (ticket : Ticket) (fault : ApplicationFault) (result : Result Bool Fault)
       (new : A) : Type 0 where
     operator_is_told : (done : Unit) (mid : A) (message : FailureMessage) → reported old conn fault (Ok done) mid
@@ -240,7 +241,7 @@ module _ {A : Type 0} (answered : AnswerCall A) (reported : FaultCall A) where
         → Fails old conn ticket fault result new
 
   module _ (noted : ReplyCall A) where
-    -- The host is handed the answer that a reply says; if it is shown, what was replaced in the reply is reported.
+    -- Holds if the host is handed the answer that a reply gives; if it is shown, the replaced characters are reported.
     pub data Shows (old : A) (conn : ℕ) (ticket : Ticket) (answer : Answer) (reply : Reply)
         (result : Result Bool Fault) (new : A) : Type 0 where
       notes : (mid : A) (report : Result Unit Fault) → Hands old conn ticket answer (Ok true) mid
@@ -249,7 +250,7 @@ module _ {A : Type 0} (answered : AnswerCall A) (reported : FaultCall A) where
       isnt_shown : Hands old conn ticket answer result new → IsNotShown result
           → Shows old conn ticket answer reply result new
 
-    -- What becomes of a reply, with the panel of its question; and of a fault.
+    -- Holds for the end of an exchange: by a reply, given the panel of its question, or by a fault.
     pub data Ends (served : A → Panels → Type 0) (panel : ℕ) (old : A) (conn : ℕ) (ticket : Ticket)
         (outcome : Result Reply ApplicationFault) (result : Result Bool Fault) (new : A) : Type 0 where
       answers : (reply : Reply) (panels : Panels) (answer : Answer) → outcome ≡ Ok reply → served old panels
@@ -263,8 +264,8 @@ module _ {A : Type 0} (answered : AnswerCall A) (reported : FaultCall A) where
 
 -- ---- a turn of a connection
 
--- An exchange for a question begins, on the stream that the server connected. `written`: how a request is written, for
--- the application that it goes to.
+-- Holds if an exchange begins for a question, on the stream that the server connected. `written` is how a request is
+-- written for its application.
 pub record BeginsFor {S : Type 0} (written : Request → List ℕ) (boot now : ℕ) (served : Panels → Type 0)
     (connected : Result S Error → Type 0) (question : Question) (exchange : Exchange S) : Type 0 where
   pub panels : Panels
@@ -275,14 +276,14 @@ pub record BeginsFor {S : Type 0} (written : Request → List ℕ) (boot now : �
   pub connects : connected (Ok stream)
   pub exchange_is : exchange ≡ begun stream question request now
 
--- Why none begins: memory for its request is refused, or the server can't connect, and the error says why.
+-- Holds if no exchange can begin for this reason: memory for its request is refused, or the server can't connect.
 pub data CannotBegin {S : Type 0} (connected : Result S Error → Type 0) (reason : Absence) : Type 0 where
   no_request : reason ≡ absence.NoMemory → CannotBegin connected reason
   unconnected : (error : Error) → connected (Err error) → reason ≡ unconnected_by (error_kind error)
       → CannotBegin connected reason
 
 module _ {A : Type 0} (served : A → Panels → Type 0) (answered : AnswerCall A) (reported : FaultCall A) where
-  -- An exchange for an open question begins, or fails at once.
+  -- Holds if an exchange for an open question begins, or fails at once.
   pub data AsksAbout {S : Type 0} (connected : ConnectCall A S) (written : Request → List ℕ) (boot now conn : ℕ)
       (question : Question) (old : A) (result : Result Bool Fault) (new : A) (after : Option (Exchange S))
       : Type 0 where
@@ -293,7 +294,7 @@ module _ {A : Type 0} (served : A → Panels → Type 0) (answered : AnswerCall 
         → Fails answered reported old conn question.ticket (why.Absent reason) result new
         → AsksAbout connected written boot now conn question old result new after
 
-  -- Where no exchange is under way, one begins if a question is open.
+  -- Holds for a turn without a current exchange: one begins if a question is open.
   pub data Asks {S : Type 0} (connected : ConnectCall A S) (asked : QuestionCall A) (written : Request → List ℕ)
       (boot now conn : ℕ) (old : A) (result : Result Bool Fault) (new : A) (after : Option (Exchange S))
       : Type 0 where
@@ -305,7 +306,7 @@ module _ {A : Type 0} (served : A → Panels → Type 0) (answered : AnswerCall 
     asking_fails : (fault : Fault) → asked old conn (Err fault) → after ≡ None → new ≡ old → result ≡ Err fault
         → Asks connected asked written boot now conn old result new after
 
-  -- An exchange that is under way stays so, or ends; then it is gone.
+  -- Holds for a turn of the current exchange: it continues, or it ends and its slot is empty.
   pub data Goes {S : Type 0} (gave : ReadCall S) (took : WriteCall S) (noted : ReplyCall A) (has_operator : Bool)
       (now most conn : ℕ) (exchange : Exchange S) (old : A) (result : Result Bool Fault) (new : A)
       (after : Option (Exchange S)) : Type 0 where
@@ -320,7 +321,7 @@ module _ {A : Type 0} (served : A → Panels → Type 0) (answered : AnswerCall 
         → Ends answered reported noted served exchange.panel old conn exchange.ticket outcome result new
         → Goes gave took noted has_operator now most conn exchange old result new after
 
-  -- by the exchange that is under way, if one is
+  -- holds for a turn of a connection, with or without a current exchange
   abbrev pub Turns : {S : Type 0} → ReadCall S → WriteCall S → ConnectCall A S → QuestionCall A → ReplyCall A
       → (written : Request → List ℕ) → (boot now most : ℕ) → (has_operator : Bool) → (conn : ℕ) → Option (Exchange S)
       → A → Result Bool Fault → A → Option (Exchange S) → Type 0
@@ -329,7 +330,7 @@ module _ {A : Type 0} (served : A → Panels → Type 0) (answered : AnswerCall 
   Turns gave took connected asked noted written boot now most has_operator conn (Some exchange) old result new after =
       Goes gave took noted has_operator now most conn exchange old result new after
 
--- the exchange of a connection number, and all exchanges with another there
+-- the exchange of a connection number, and all exchanges after that one was set
 module _ {S : Type 0} where
   abbrev pub slot_at : ℕ → List (Option (Exchange S)) → Option (Exchange S)
   slot_at conn slots = slice_index_or slots conn None

@@ -1,4 +1,4 @@
--- The host of a panel text, and the fault by which a text has none (our profile).
+-- The host of a panel text, and the fault if a text defines none (our profile).
 use Rattle.std.specs.Prelude.{◌≡◌, ⊤, ℕ, List, Option, map}
 use Rattle.tn3270e_msg.specs.Lu.{lu_of}
 use Rattle.host_core.specs.State.{Host, host_for}
@@ -15,24 +15,24 @@ use Rattle.panels.specs.declared.fault.PanelFault.TheVariants as panel_fault
 use Rattle.job_streams.specs.declared.fault.Fault.{Fault}
 use Rattle.job_streams.specs.declared.fault.Fault.TheVariants.{Panels, Pool, NoMemory}
 
--- the panels' LUs, each read as a name
+-- the panels' LUs, each parsed as an LU name
 abbrev pub lus_of : PanelsRead → List (Option (List ℕ))
 lus_of panels = map lu_of panels.lus
 
--- the text's panels, and a pool of their LUs; the text and the names have no fault
+-- holds if these are the text's panels and a pool of their LUs; neither the text nor the names have a fault
 pub record IsApplicationOf (text : List ℕ) (panels : PanelsRead) (pool : List Entry) : Type 0 where
   pub panels_read : IsReadFrom text panels
   pub pool_read : IsPoolReadFrom (lus_of panels) pool
   pub lus_right : IsRight (lus_of panels)
 
--- a host of these, for such terminals
+-- holds if this is the host of the text's panels, for these terminals
 pub record IsHostOf (terminals : Terminals) (text : List ℕ) (host : Host) : Type 0 where
   pub panels : PanelsRead
   pub pool : List Entry
   pub is_application : IsApplicationOf text panels pool
   pub host_is : host ≡ host_for terminals panels pool
 
--- the run's fault for one of a panel text, and for one of its LUs' names
+-- the job's fault for a fault of a panel text, and for a fault of the LU names
 abbrev pub of_panels : PanelFault → Fault
 of_panels panel_fault.Memory = NoMemory
 of_panels panel_fault.NotToml = Panels panel_fault.NotToml
@@ -44,7 +44,7 @@ of_pool (pool_fault.BadName place) = Pool (pool_fault.BadName place)
 of_pool (pool_fault.Twice place) = Pool (pool_fault.Twice place)
 of_pool pool_fault.BadCount = Pool pool_fault.BadCount
 
--- why a text defines no panels; a refusal of memory is no fault of the text
+-- holds if a text defines no panels for this reason; refused memory is no fault of the text
 abbrev pub HasPanelFault : List ℕ → PanelFault → Type 0
 HasPanelFault text panel_fault.Memory = ⊥
 HasPanelFault text panel_fault.NotToml = IsReason text panel_fault.NotToml
@@ -56,13 +56,13 @@ IsLuFault lus (pool_fault.BadName place) = IsFirstFault lus (pool_fault.BadName 
 IsLuFault lus (pool_fault.Twice place) = IsFirstFault lus (pool_fault.Twice place)
 IsLuFault lus pool_fault.BadCount = IsFirstFault lus pool_fault.BadCount
 
--- it defines panels, and their LUs are no pool
+-- holds if the text defines panels, and their LUs are no pool
 pub record HasPoolFault (text : List ℕ) (fault : PoolFault) : Type 0 where
   pub panels : PanelsRead
   pub panels_read : IsReadFrom text panels
   pub is_fault : IsLuFault (lus_of panels) fault
 
--- the fault by which a text has no world; a refusal of memory says nothing of the text
+-- holds if a text defines no host for this reason; refused memory says nothing of the text
 abbrev pub HasNoWorld : List ℕ → Fault → Type 0
 HasNoWorld text (Panels fault) = HasPanelFault text fault
 HasNoWorld text (Pool fault) = HasPoolFault text fault

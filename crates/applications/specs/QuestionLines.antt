@@ -1,4 +1,4 @@
--- The question that is open on a connection, and how a script prints it (our profile).
+-- The open question of a connection, and how a script prints it (our profile).
 use Rattle.std.specs.Prelude.{ℕ, ◌+◌, ◌/◌, ◌%◌, nat_lt, List, [], ◌++◌, Option, Some, None, if◌then◌else◌, codes, slice_get, unwrap_or}
 use Rattle.std.specs.Char.{encode_utf8}
 use Rattle.std.specs.Fmt.{decimal}
@@ -17,29 +17,32 @@ use Rattle.panels.specs.declared.panel.Field.{Field}
 use Rattle.tn3270e_msg.specs.Words.{lu_text}
 use Rattle.applications.specs.Applications.{key_name, shown_character}
 
--- ---- which question is open
+-- ---- the open question
 
--- none if there is no such connection
+-- the open question of a connection; None if none is open or there is no such connection
 abbrev pub question_on : ℕ → Host → Option Question
 question_on conn host =
-    if nat_lt conn most_connections then question_of (application_of host.panels) (session_at conn host) (service_at conn host) else None
+    if nat_lt conn most_connections
+    then question_of (application_of host.panels) (session_at conn host) (service_at conn host) else None
 
--- the ticket of an answer by hand: that of the open question. If none is open the host takes no answer, so this may be any.
+-- the ticket for a script's answer: that of the open question. If none is open, it is arbitrary, since the host takes
+-- no answer
 abbrev pub ticket_on : ℕ → Host → Ticket
-ticket_on conn host = option_map_or (λ question. question.ticket) (question_on conn host) (record { session = 0; turn = 0 })
+ticket_on conn host = option_map_or (λ question. question.ticket) (question_on conn host)
+    (record { session = 0; turn = 0 })
 
 -- ---- how it is printed
 
--- a text in the host's code, in Unicode
+-- the Unicode text for bytes of code page 037
 abbrev pub unicode_of : List ℕ → List ℕ
 unicode_of bytes = flat_map (λ byte. encode_utf8 (shown_character byte)) bytes
 
--- the row and the column of an address, from 1 on
+-- the row and the column of a buffer address, both 1-based
 abbrev pub row_of : ℕ → Shape → ℕ
-row_of address shape = address / shape.columns + 1
+row_of address size = address / size.columns + 1
 
 abbrev pub column_of : ℕ → Shape → ℕ
-column_of address shape = address % shape.columns + 1
+column_of address size = address % size.columns + 1
 
 -- the LU, the panel's name, the key, and the cursor's row and column
 abbrev pub heading : PanelParts → Question → List ℕ
@@ -59,4 +62,5 @@ panel_text panel question = heading panel question ++ flat_map (field_line quest
 -- a line for the question, and one for each field of its panel, in the panel's order
 abbrev pub question_text : Panels → Option Question → List ℕ
 question_text panels None = codes "no question\n"
-question_text panels (Some question) = option_map_or (λ panel. panel_text panel question) (slice_get panels.panels question.panel) []
+question_text panels (Some question) = option_map_or (λ panel. panel_text panel question)
+    (slice_get panels.panels question.panel) []

@@ -1,4 +1,4 @@
-//! The operand of a script's `answer`: the name of a panel, and pairs name=value.
+//! The operand of a script's `answer`: the name of a panel, and pairs name=value (our profile).
 ghost use Rattle.std.specs.Prelude.{◌≡◌, ◌<◌, IfOk, drop, false, option_map, take};
 ghost use Rattle.std.specs.Str.{IsCharBoundary};
 ghost use Rattle.applications.specs.AnswerDrafts.{parts_in};
@@ -13,14 +13,14 @@ use std::alloc::{AllocError, Global};
 
 // ---- words
 
-/// Whether the text after a letter is between quotes.
+/// Whether the text after a character is between quotes, given whether the character was.
 fn is_quoted_after(letter: u8, quoted: bool) -> bool
     ensures { result ≡ is_quoted_after letter quoted }
 {
     if letter == b'"' { !quoted } else { quoted }
 }
 
-/// The length of the first word of a text. A blank between quotes is the word's own.
+/// The length of the first word of a text, in bytes. A blank between quotes belongs to the word.
 fn word_length(text: &[u8]) -> usize
     ensures length { result ≡ word_length false text.now }
     ensures boundary { IsCharBoundary text.now result }
@@ -35,7 +35,7 @@ fn word_length(text: &[u8]) -> usize
     text.len()
 }
 
-/// The first word of a text, and the rest: nothing, or a blank and the other words.
+/// The first word of a text, and the rest, which is empty or begins with a blank.
 fn first_word(text: &str) -> (&str, &str)
     ensures word { result.0.now ≡ take (word_length false text.now) text.now }
     ensures rest { result.1.now ≡ drop (word_length false text.now) text.now }
@@ -43,7 +43,7 @@ fn first_word(text: &str) -> (&str, &str)
     text.split_at(word_length(text.as_bytes()))
 }
 
-/// The texts before and after the first of an ASCII character, if there is one.
+/// The texts before and after the first occurrence of an ASCII character; None if there is none.
 fn cut_at(mark: char, text: &str) -> Option<(&str, &str)>
     requires { mark < 128 }
     ensures { option_map (λ parts. (parts.0.now, parts.1.now)) result ≡ cut_at mark text.now }
@@ -51,7 +51,7 @@ fn cut_at(mark: char, text: &str) -> Option<(&str, &str)>
     text.split_once(mark)
 }
 
-/// The text of a value: it is between two quotes, or has none.
+/// The text of a value: what is between its two quotes, or the value itself if it has no quotes.
 fn value_text(value: &str) -> Option<&str>
     ensures { option_map (λ text. text.now) result ≡ value_text value.now }
 {
@@ -65,7 +65,7 @@ fn value_text(value: &str) -> Option<&str>
     if after.is_empty() { Some(text) } else { None }
 }
 
-/// A word's name and its text; the name is before the first `=`.
+/// A word's name and its text. The name ends before the first `=`.
 fn pair_of(word: &str) -> Option<(&str, &str)>
     ensures { option_map (λ pair. (pair.0.now, pair.1.now)) result ≡ pair_of word.now }
 {
@@ -76,7 +76,7 @@ fn pair_of(word: &str) -> Option<(&str, &str)>
 
 // ---- the parts of an answer
 
-/// The message of a text.
+/// The message with this text.
 fn message_text(alloc: Global, text: &str) -> Result<MessageText, AllocError>
     ensures { IfOk result (λ message. message ≡ message_text text.now) }
 {
@@ -84,7 +84,7 @@ fn message_text(alloc: Global, text: &str) -> Result<MessageText, AllocError>
     Ok(MessageText::new(characters.as_slice()))
 }
 
-/// What the pairs of an answer say, as far as they are read.
+/// The parts of an answer that the pairs read so far give.
 #[derive(Drop)]
 struct AnswerDraft {
     values: Values,
@@ -104,9 +104,10 @@ impl AnswerDraft {
         }
     }
 
-    /// Takes the message. False if there is one already, or if a character has no code.
+    /// Sets the message. False if there is one already, or if a character has no code in code page 037.
     fn set_message(&mut self, alloc: Global, text: &str) -> Result<bool, AllocError>
-        ensures { IfOk result (λ taken. with_message text.now (parts_in self.old) ≡ taken_as taken (parts_in self.new)) }
+        ensures { IfOk result
+            (λ taken. with_message text.now (parts_in self.old) ≡ taken_as taken (parts_in self.new)) }
     {
         if self.message.is_some() || lacks_code(text) {
             return Ok(false);
@@ -115,9 +116,10 @@ impl AnswerDraft {
         Ok(true)
     }
 
-    /// Takes the field that the cursor is to be in, by its name. False if there is no such field, or if one is taken already.
+    /// Sets the field for the cursor, by its name. False if there is no such field, or if it is already set.
     fn set_cursor(&mut self, panels: &PanelSet, name: &str) -> bool
-        ensures { with_cursor_in (field_named name.now panels.now) (parts_in self.old) ≡ taken_as result (parts_in self.new) }
+        ensures { with_cursor_in (field_named name.now panels.now) (parts_in self.old)
+            ≡ taken_as result (parts_in self.new) }
     {
         let Some(field) = panels.field_named(name) else {
             return false;
@@ -129,8 +131,8 @@ impl AnswerDraft {
         true
     }
 
-    /// Takes the text of the field of a name. False if there is no such field, if it has a text already, or if a character has no
-    /// code.
+    /// Sets the text of the field with this name. False if there is no such field, if it has a text already, or if a
+    /// character has no code in code page 037.
     fn set_field(
         &mut self,
         alloc: Global,
@@ -138,7 +140,8 @@ impl AnswerDraft {
         name: &str,
         text: &str,
     ) -> Result<bool, AllocError>
-        ensures { IfOk result (λ taken. with_text_of (field_named name.now panels.now) text.now (parts_in self.old) ≡ taken_as taken (parts_in self.new)) }
+        ensures { IfOk result (λ taken. with_text_of (field_named name.now panels.now) text.now (parts_in self.old)
+            ≡ taken_as taken (parts_in self.new)) }
     {
         let Some(field) = panels.field_named(name) else {
             return Ok(false);
@@ -150,7 +153,7 @@ impl AnswerDraft {
         Ok(true)
     }
 
-    /// Takes what a pair says. False if it isn't understood.
+    /// Sets what one pair gives. False if the pair is invalid.
     fn set(
         &mut self,
         alloc: Global,
@@ -158,7 +161,8 @@ impl AnswerDraft {
         name: &str,
         text: &str,
     ) -> Result<bool, AllocError>
-        ensures { IfOk result (λ taken. with_pair panels.now name.now text.now (parts_in self.old) ≡ taken_as taken (parts_in self.new)) }
+        ensures { IfOk result
+            (λ taken. with_pair panels.now name.now text.now (parts_in self.old) ≡ taken_as taken (parts_in self.new)) }
     {
         match name {
             "message" => self.set_message(alloc, text),
@@ -167,9 +171,10 @@ impl AnswerDraft {
         }
     }
 
-    /// Takes a word. False if it isn't understood.
+    /// Takes one word, a pair name=value. False if it is invalid.
     fn take(&mut self, alloc: Global, panels: &PanelSet, word: &str) -> Result<bool, AllocError>
-        ensures { IfOk result (λ taken. with_word panels.now (pair_of word.now) (parts_in self.old) ≡ taken_as taken (parts_in self.new)) }
+        ensures { IfOk result (λ taken. with_word panels.now (pair_of word.now) (parts_in self.old)
+            ≡ taken_as taken (parts_in self.new)) }
     {
         match pair_of(word) {
             Some((name, text)) => self.set(alloc, panels, name, text),
@@ -177,9 +182,10 @@ impl AnswerDraft {
         }
     }
 
-    /// Takes words, each after a blank. False at the first that isn't understood.
+    /// Takes words, each after a blank. False at the first invalid one.
     fn take_all(&mut self, alloc: Global, panels: &PanelSet, text: &str) -> Result<bool, AllocError>
-        ensures { IfOk result (λ taken. with_words panels.now (words_after text.now) (parts_in self.old) ≡ taken_as taken (parts_in self.new)) }
+        ensures { IfOk result (λ taken. with_words panels.now (words_after text.now) (parts_in self.old)
+            ≡ taken_as taken (parts_in self.new)) }
     {
         let mut rest = text;
         while let Some(words) = rest.strip_prefix(' ') {
@@ -192,7 +198,7 @@ impl AnswerDraft {
         Ok(true)
     }
 
-    /// The answer that shows a panel, or the same again.
+    /// The answer that shows this panel, or the current one if it is None.
     fn into_answer(self, panel: Option<usize>) -> Answer
         ensures { result ≡ answer_of_parts panel (parts_in self) }
     {
@@ -207,7 +213,7 @@ impl AnswerDraft {
 
 // ---- the answer
 
-/// The number of the panel of a name, or None for `-`, the panel that is shown; None if there is no such panel.
+/// The number of the panel with this name; Some(None) for `-`, the panel that is shown; None if there is no such panel.
 fn panel_of_name(panels: &PanelSet, name: &str) -> Option<Option<usize>>
     ensures { result ≡ panel_of_name panels.now name.now }
 {
@@ -217,8 +223,8 @@ fn panel_of_name(panels: &PanelSet, name: &str) -> Option<Option<usize>>
     }
 }
 
-/// The answer that a text says. None if it has no such panel, no such field or a name twice, if a character has no code in code page
-/// 037, or if its quotes don't match.
+/// The answer that a text describes. None if there is no such panel or field, if a name occurs twice, if a character
+/// has no code in code page 037, or if the quotes don't match. An error if memory is refused.
 pub fn answer_in(alloc: Global, panels: &PanelSet, text: &str) -> Result<Option<Answer>, AllocError>
     ensures { IfOk result (λ answer. answer ≡ answer_in panels.now text.now) }
 {

@@ -9,7 +9,7 @@ use std::fmt;
 /// The most characters of a key that the log shows.
 const MOST_SHOWN: usize = 64;
 
-/// Why an application isn't there.
+/// Why an application can't be reached.
 #[derive(Clone, Copy)]
 pub enum Absence {
     /// Nothing listens at its address.
@@ -25,9 +25,9 @@ pub enum Absence {
 /// Why a question has no answer.
 #[derive(Drop)]
 pub enum ApplicationFault {
-    /// The application isn't there.
+    /// The application can't be reached.
     Absent(Absence),
-    /// The reply is none.
+    /// The response is not a valid reply.
     Reply(ReplyFault),
     /// The host can't do what the reply says.
     Answer(AnswerFault),
@@ -35,17 +35,17 @@ pub enum ApplicationFault {
     Left,
 }
 
-/// The message on an operator's screen after a failure.
+/// The message on the operator's screen after a failure.
 #[derive(Clone, Copy, PartialEq, Eq)]
 pub enum FailureMessage {
-    /// The application isn't there.
+    /// The application can't be reached.
     NotAvailable,
     /// The application's reply is wrong.
     Error,
 }
 
 impl FailureMessage {
-    /// Its text.
+    /// The message's text.
     pub fn text(self) -> &'static str
         ensures { result.now ≡ failure_text self }
     {
@@ -56,7 +56,7 @@ impl FailureMessage {
     }
 }
 
-/// The message after a reply that is none.
+/// The message after an invalid reply.
 fn message_for_reply(fault: &ReplyFault) -> FailureMessage
     ensures { result ≡ message_for_reply fault.now }
 {
@@ -66,7 +66,7 @@ fn message_for_reply(fault: &ReplyFault) -> FailureMessage
     }
 }
 
-/// The message after a reply that the host can't do.
+/// The message after a reply that the host can't carry out.
 fn message_for_answer(fault: &AnswerFault) -> FailureMessage
     ensures { result ≡ message_for_answer fault.now }
 {
@@ -92,7 +92,7 @@ impl ApplicationFault {
 
 // ---- what the log says
 
-/// The front of a key. Prints in quotes.
+/// The first characters of a key. Prints in quotes.
 #[derive(Clone, Copy)]
 struct Key<'a>(&'a str);
 
@@ -100,7 +100,7 @@ impl fmt::Display for Key<'_> {
     fn fmt<W: fmt::Write>(&self, f: &mut fmt::Formatter<W>) -> fmt::Result {
         f.write_char('"')?;
         for character in self.0.chars().take(MOST_SHOWN) {
-            // A quote or a control character would end the value, or the line.
+            // A quote or a control character would end the value or the line.
             if character == '"' || character == '\\' || character.is_control() {
                 f.write_char('?')?;
             } else {
@@ -122,7 +122,7 @@ impl fmt::Display for Absence {
     }
 }
 
-/// What is wrong with a key, as a word.
+/// The word for what is wrong with a key.
 fn key_word(what: KeyFault) -> &'static str {
     match what {
         KeyFault::UnknownKey => "unknown-key",
@@ -132,7 +132,7 @@ fn key_word(what: KeyFault) -> &'static str {
     }
 }
 
-/// Adds why a reply is none.
+/// Adds why a reply is invalid.
 fn put_reply_fault<W: fmt::Write>(f: &mut fmt::Formatter<W>, fault: &ReplyFault) -> fmt::Result {
     let reason = match fault {
         ReplyFault::Memory => "no-memory",
@@ -153,7 +153,7 @@ fn put_reply_fault<W: fmt::Write>(f: &mut fmt::Formatter<W>, fault: &ReplyFault)
     write!(f, " reason={reason}")
 }
 
-/// Adds why the host can't do what a reply says.
+/// Adds why the host can't carry out a reply.
 fn put_answer_fault<W: fmt::Write>(f: &mut fmt::Formatter<W>, fault: &AnswerFault) -> fmt::Result {
     let (reason, key) = match fault {
         AnswerFault::Memory => return f.write_str(" reason=no-memory"),
@@ -165,7 +165,7 @@ fn put_answer_fault<W: fmt::Write>(f: &mut fmt::Formatter<W>, fault: &AnswerFaul
     write!(f, " reason={reason} key={key}")
 }
 
-/// What happened, as a word.
+/// The word for what happened.
 fn event_word(fault: &ApplicationFault) -> &'static str {
     match fault.message() {
         Some(FailureMessage::NotAvailable) => "application-not-available",
@@ -174,7 +174,7 @@ fn event_word(fault: &ApplicationFault) -> &'static str {
     }
 }
 
-/// Prints as the event and its reason: what was wrong and where, and no field's text.
+/// Prints as the event and its reason: what was wrong and in which key, but no field's text.
 impl fmt::Display for ApplicationFault {
     fn fmt<W: fmt::Write>(&self, f: &mut fmt::Formatter<W>) -> fmt::Result {
         let event = event_word(self);
@@ -188,8 +188,7 @@ impl fmt::Display for ApplicationFault {
     }
 }
 
-/// Prints as the event: the first key of the reply with a character that was replaced, and the number of such
-/// characters.
+/// Prints as the event: the first key of the reply with a replaced character, and the number of replaced characters.
 impl fmt::Display for Replaced<'_> {
     fn fmt<W: fmt::Write>(&self, f: &mut fmt::Formatter<W>) -> fmt::Result {
         let key = Key(self.key);

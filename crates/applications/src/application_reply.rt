@@ -1,4 +1,4 @@
-//! What becomes of an application's reply: names and characters of panels, and numbers and bytes of the host.
+//! Turns an application's reply, with its names and Unicode texts, into an answer for the host, with numbers and bytes.
 ghost use Rattle.std.specs.BTreeMap.{insert_entry};
 ghost use Rattle.std.specs.Ordering.{nat_cmp};
 ghost use Rattle.std.specs.Prelude.{◌≡◌, ◌<◌, [], IfErr, IfOk, OnErr, OnOk, chars, length, option_and_then, option_copied, option_map, string_bytes, take, true, unwrap_or};
@@ -17,28 +17,29 @@ use panels::{MessageText, PanelSet, Values};
 use plain_text::{count_without_code, lacks_code, plain_text};
 use std::alloc::{AllocError, Global};
 
-/// The most characters of a field's text: as many as the largest screen has cells, that of model 5.
+/// The most characters of a field's text: the number of cells of the largest screen, model 5.
 const MOST_CHARACTERS: usize = 3_564;
 
-/// Why the host can't do what a reply says.
+/// Why the host can't carry out a reply.
 #[derive(Debug, Drop)]
 pub enum AnswerFault {
-    /// Memory was refused to what is stored of the reply: a text, a field's first value, or the name of an unknown field.
+    /// Memory was refused for a part of the reply that must be stored: a text, a field's first value, or the name of an
+    /// unknown field.
     Memory,
-    /// There is no such panel.
+    /// There is no panel with this name.
     UnknownPanel,
-    /// The cursor is to be in a field that the panel doesn't have.
+    /// The reply puts the cursor in a field that the panel doesn't have.
     UnknownCursor,
-    /// There is no field of this name.
+    /// There is no field with this name.
     UnknownField(String),
 }
 
-/// The characters of a reply that are replaced, since code page 037 doesn't have them.
+/// The characters of a reply that are replaced, because code page 037 doesn't have them.
 #[derive(Clone, Copy)]
 pub struct Replaced<'a> {
-    /// The first key whose text has one: `message`, or the name of a field.
+    /// The first key whose text has such a character: `message`, or the name of a field.
     pub key: &'a str,
-    /// How many the whole reply has.
+    /// The number of such characters in the whole reply.
     pub characters: usize,
 }
 
@@ -52,7 +53,7 @@ impl From<AllocError> for AnswerFault {
     }
 }
 
-/// The codes of a text's characters, as far as they have one. Those of an empty text take no memory.
+/// The codes of a text's characters; a character without a code is left out. An empty text takes no memory.
 #[tactic(auto, using(crate::proofs::Replies::no_codes))]
 fn codes_of(alloc: Global, text: &str) -> Result<Vec<u8>, AllocError>
     ensures codes { IfOk result (λ codes. codes.items ≡ codes_of (chars text.now)) }
@@ -66,7 +67,7 @@ fn codes_of(alloc: Global, text: &str) -> Result<Vec<u8>, AllocError>
         .collect(alloc)
 }
 
-/// The front of a field's text, as far as the largest screen can show it.
+/// The start of a field's text, as much as the largest screen can show.
 fn cut(codes: &[u8]) -> &[u8]
     ensures { result.now ≡ take most_characters codes.now }
 {
@@ -77,7 +78,8 @@ fn cut(codes: &[u8]) -> &[u8]
     }
 }
 
-/// Sets the value of a field to a text, whose characters have codes. An empty text takes memory only if the field has no value yet.
+/// Sets the value of a field to a text, converted to codes. An empty text takes memory only if the field has no value
+/// yet.
 #[tactic(auto, using(crate::proofs::Replies::takes_memory, crate::proofs::Replies::value_takes_memory))]
 pub(crate) fn set_text(
     alloc: Global,
@@ -92,7 +94,7 @@ pub(crate) fn set_text(
     values.set(field, cut(codes.as_slice()))
 }
 
-/// Sets the value of the field of a name to its text, in plain characters.
+/// Sets the value of the field with this name to its text, in plain characters.
 #[tactic(auto, using(crate::proofs::Replies::takes_memory, crate::proofs::Replies::plain_takes))]
 fn set_value(
     alloc: Global,
@@ -113,7 +115,7 @@ fn set_value(
     Ok(())
 }
 
-/// The values of fields.
+/// The values of fields. The first fault ends the call.
 fn values_of(alloc: Global, panels: &PanelSet, fields: &[FieldText]) -> Result<Values, AnswerFault>
     ensures set { IfOk result (λ values. values ≡ with_texts panels.now fields.now []) }
     ensures known { OnOk result (AreKnownTexts panels.now fields.now) }
@@ -128,9 +130,11 @@ fn values_of(alloc: Global, panels: &PanelSet, fields: &[FieldText]) -> Result<V
 
 /// The number of the panel that a reply names, if it names one.
 fn panel_of(panels: &PanelSet, name: Option<&str>) -> Result<Option<usize>, AnswerFault>
-    ensures found { IfOk result (λ panel. panel ≡ option_and_then (panel_number panels.now) (option_map (λ it. it.now) name.entry)) }
+    ensures found { IfOk result
+        (λ panel. panel ≡ option_and_then (panel_number panels.now) (option_map (λ it. it.now) name.entry)) }
     ensures known { OnOk result (IsKnown (panel_number panels.now) (option_map (λ it. it.now) name.entry)) }
-    ensures wrong { IfErr result (λ why. (why ≡ flaw.UnknownPanel) × IsUnknown (panel_number panels.now) (option_map (λ it. it.now) name.entry)) }
+    ensures wrong { IfErr result (λ why. (why ≡ flaw.UnknownPanel)
+        × IsUnknown (panel_number panels.now) (option_map (λ it. it.now) name.entry)) }
 {
     let Some(name) = name else {
         return Ok(None);
@@ -141,7 +145,7 @@ fn panel_of(panels: &PanelSet, name: Option<&str>) -> Result<Option<usize>, Answ
     }
 }
 
-/// The number of a panel's field with a name.
+/// The number of a panel's field with this name.
 fn number_on(panels: &PanelSet, panel: usize, name: &str) -> Option<usize>
     ensures { result ≡ number_on panels.now panel name.now }
 {
@@ -149,15 +153,17 @@ fn number_on(panels: &PanelSet, panel: usize, name: &str) -> Option<usize>
     Some(field.number)
 }
 
-/// The number of the field of a panel that a reply puts the cursor in, if it does.
+/// The number of the panel's field in which a reply puts the cursor, if it does.
 fn cursor_of(
     panels: &PanelSet,
     panel: usize,
     name: Option<&str>,
 ) -> Result<Option<usize>, AnswerFault>
-    ensures found { IfOk result (λ cursor. cursor ≡ option_and_then (number_on panels.now panel) (option_map (λ it. it.now) name.entry)) }
+    ensures found { IfOk result
+        (λ cursor. cursor ≡ option_and_then (number_on panels.now panel) (option_map (λ it. it.now) name.entry)) }
     ensures known { OnOk result (IsKnown (number_on panels.now panel) (option_map (λ it. it.now) name.entry)) }
-    ensures wrong { IfErr result (λ why. (why ≡ flaw.UnknownCursor) × IsUnknown (number_on panels.now panel) (option_map (λ it. it.now) name.entry)) }
+    ensures wrong { IfErr result (λ why. (why ≡ flaw.UnknownCursor)
+        × IsUnknown (number_on panels.now panel) (option_map (λ it. it.now) name.entry)) }
 {
     let Some(name) = name else {
         return Ok(None);
@@ -168,14 +174,15 @@ fn cursor_of(
     }
 }
 
-/// A character as one byte, if it is one of U+0000 to U+00FF.
+/// A character as one byte; None if it is not one of U+0000 to U+00FF.
 fn as_byte(character: char) -> Option<u8>
     ensures { result ≡ as_byte character }
 {
     u8::try_from(character).ok()
 }
 
-/// The characters of a message as bytes; those beyond U+00FF, which have no code, are left out. An empty message takes no memory.
+/// The characters of a message as bytes. Those beyond U+00FF, which have no code, are left out. An empty message takes
+/// no memory.
 #[tactic(auto, using(crate::proofs::Replies::no_bytes))]
 pub(crate) fn message_bytes(alloc: Global, text: &str) -> Result<Vec<u8>, AllocError>
     ensures bytes { IfOk result (λ bytes. bytes.items ≡ message_bytes text.now) }
@@ -200,7 +207,7 @@ fn message_of(alloc: Global, text: &str) -> Result<MessageText, AllocError>
     Ok(MessageText::new(characters.as_slice()))
 }
 
-/// A text that a reply may have.
+/// The text of an optional string.
 fn text_of(text: &Option<String>) -> Option<&str>
     ensures { option_map (λ it. it.now) result ≡ option_map string_bytes text.now }
 {
@@ -217,8 +224,8 @@ fn message_in(reply: &Reply) -> &str
     text_of(&reply.message).unwrap_or("")
 }
 
-/// What the host does for a reply, if the panel of this number is on the screen: the reply's panel is found first, then its cursor's
-/// field, then its message and its fields. The fault of a refused reply is the first of these.
+/// The host's answer for a reply, if the panel with this number is on the screen. It looks up the reply's panel, then
+/// the cursor's field, then converts the message and the fields. The first fault in this order is returned.
 #[tactic(auto, using(crate::proofs::Replies::fields_refused, crate::proofs::Replies::message_refused))]
 pub(crate) fn answer_of(
     alloc: Global,
@@ -264,7 +271,7 @@ fn first_replaced(reply: &Reply) -> Option<&str>
     }
 }
 
-/// What is replaced in a reply, if anything is.
+/// What is replaced in a reply; None if nothing is.
 pub fn replaced_in(reply: &Reply) -> Option<Replaced<'_>>
     ensures { option_map (λ replaced. replaced.key.now) result ≡ first_replaced reply.now }
 {
@@ -276,7 +283,7 @@ pub fn replaced_in(reply: &Reply) -> Option<Replaced<'_>>
     Some(Replaced { key, characters })
 }
 
-/// The answer that shows the same panel again, with a message.
+/// The answer that shows the current panel again, with a message.
 pub(crate) fn telling(alloc: Global, message: &str) -> Answer
     ensures { result ≡ telling message.now }
 {

@@ -1,4 +1,4 @@
-//! What an application is sent for a question: names and characters of panels, in place of numbers and bytes of the host.
+//! Turns the host's question, with numbers and bytes, into a request to an application, with names and Unicode texts.
 ghost use Rattle.std.specs.Prelude.{◌≡◌, IfOk, map, option_map, string_bytes};
 ghost use Rattle.application_http.specs.Replies.{field_text};
 ghost use Rattle.application_http.specs.Requests.{request_bytes};
@@ -16,17 +16,17 @@ use panels::{Field, Panel, PanelSet, Values};
 use std::alloc::{AllocError, Global};
 use std::fmt;
 
-/// The character for a byte that code page 037 has none for (Unicode, REPLACEMENT CHARACTER).
+/// The character for a byte that has none in code page 037 (Unicode, REPLACEMENT CHARACTER).
 const NO_CHARACTER: char = '\u{FFFD}';
 
-/// A byte of the host's code as a character.
+/// The character for a byte of code page 037.
 fn shown_character(byte: u8) -> char
     ensures { result ≡ shown_character byte }
 {
     to_latin1(byte).unwrap_or(NO_CHARACTER)
 }
 
-/// A text in the host's code, in Unicode.
+/// The Unicode text for bytes of code page 037.
 pub(crate) fn unicode_of(alloc: Global, bytes: &[u8]) -> Result<String, AllocError>
     ensures { IfOk result (λ text. string_bytes text ≡ unicode_of bytes.now) }
 {
@@ -37,7 +37,7 @@ pub(crate) fn unicode_of(alloc: Global, bytes: &[u8]) -> Result<String, AllocErr
     Ok(text)
 }
 
-/// A key, which prints as its name in a panel text. No key has no name.
+/// An AID that prints as the key's name in a panel text. The AID for no key prints as nothing.
 #[derive(Clone, Copy)]
 pub struct KeyName(pub Aid);
 
@@ -72,7 +72,7 @@ pub(crate) fn key_name(alloc: Global, aid: Aid) -> Result<String, AllocError>
     format!(in alloc; "{key}")
 }
 
-/// The row and the column of an address on a screen of a size, each from 1 on.
+/// The row and the column of a buffer address on a screen of this size, both 1-based.
 pub(crate) fn place_of(address: Addr, size: Size) -> (u16, u16)
     ensures row { result.0 ≡ row_of address size }
     ensures column { result.1 ≡ column_of address size }
@@ -92,7 +92,7 @@ fn text_asked(alloc: Global, field: &Field, values: &Values) -> Result<FieldText
     })
 }
 
-/// The names and texts of fields, in their order.
+/// The names and texts of fields, in the order of the fields.
 fn texts_asked(
     alloc: Global,
     fields: &[Field],
@@ -107,7 +107,7 @@ fn texts_asked(
     Ok(texts)
 }
 
-/// The name of the session that a question is of, at a host that drew this number when it started.
+/// The session name for a question, if the host's start drew `boot`.
 fn session_asking(boot: u64, question: &Question) -> SessionName
     ensures { result ≡ session_asking boot question.now }
 {
@@ -117,7 +117,7 @@ fn session_asking(boot: u64, question: &Question) -> SessionName
     }
 }
 
-/// The request of a question on a panel, by the texts of its session, its LU, its key and its fields.
+/// The request for a question on a panel, from the texts of its session, its LU, its key and its fields.
 fn request_by<'a>(
     panel: &'a Panel,
     question: &Question,
@@ -146,7 +146,7 @@ fn request_by<'a>(
     }
 }
 
-/// The request of a question on a panel, as it is sent.
+/// The bytes of the request for a question on a panel.
 fn request_on(
     alloc: Global,
     endpoint: &Endpoint,
@@ -154,7 +154,8 @@ fn request_on(
     panel: &Panel,
     question: &Question,
 ) -> Result<String, AllocError>
-    ensures { IfOk result (λ text. IsRequestOn (request_bytes endpoint.now) boot panel.now question.now (string_bytes text)) }
+    ensures { IfOk result
+        (λ text. IsRequestOn (request_bytes endpoint.now) boot panel.now question.now (string_bytes text)) }
 {
     let session = session_text(alloc, session_asking(boot, question))?;
     let lu = question.lu;
@@ -174,7 +175,7 @@ fn request_on(
     Ok(text)
 }
 
-/// The request of a question, from a start of the host that drew this number; None if its panel isn't one of the panels.
+/// The request for a question, if the host's start drew `boot`; None if its panel isn't one of the panels.
 pub(crate) fn request_of(
     alloc: Global,
     endpoint: &Endpoint,
@@ -182,7 +183,8 @@ pub(crate) fn request_of(
     panels: &PanelSet,
     question: &Question,
 ) -> Result<Option<String>, AllocError>
-    ensures { IfOk result (λ text. IsRequestFor (request_bytes endpoint.now) boot panels.now question.now (option_map string_bytes text)) }
+    ensures { IfOk result (λ text. IsRequestFor (request_bytes endpoint.now) boot panels.now question.now
+        (option_map string_bytes text)) }
 {
     match panels.panel(question.panel) {
         Some(panel) => Ok(Some(request_on(alloc, endpoint, boot, panel, question)?)),

@@ -1,4 +1,4 @@
-//! Panels that ask an application, at a job that has none.
+//! The refusal of panels that ask an application, by a job that has none.
 ghost use Rattle.std.specs.Prelude.{◌≡◌, map, option_map};
 ghost use Rattle.std.specs.List.{range_with_len};
 ghost use Rattle.codes3270.specs.declared.attention.Aid.TheVariants.{Pa, Pf};
@@ -12,7 +12,7 @@ use job_streams::Sink;
 use panels::{Next, Panel, PanelSet};
 use std::fmt;
 
-/// The exit status of a job that refuses panels that ask.
+/// The exit status of a job that refuses such panels.
 const PANELS_ASK: u8 = 2;
 
 /// A job that has no application.
@@ -24,7 +24,7 @@ pub enum Refusing {
     Host,
 }
 
-/// A key about which a panel asks, at a job that has no application. Prints as the line that refuses the panels.
+/// A key about which a panel asks, in a job that has no application. Prints as the line that refuses the panels.
 #[derive(Clone, Copy)]
 struct AskedKey<'a> {
     /// The panel's name.
@@ -35,7 +35,7 @@ struct AskedKey<'a> {
     by: Refusing,
 }
 
-/// What to do.
+/// The advice at the end of the line.
 fn advice_of(by: Refusing) -> &'static str
     ensures { result.now ≡ advice_of by }
 {
@@ -66,7 +66,7 @@ fn is_asked(panel: &Panel, key: Aid) -> bool
     matches!(panel.next(key), Next::Ask)
 }
 
-/// The first program attention key that a panel asks about.
+/// The first PA key that a panel asks about, if there is one.
 fn asked_pa(panel: &Panel) -> Option<Aid>
     ensures { result ≡ asked_among panel.now (map Pa (range_with_len 1 3)) }
 {
@@ -79,7 +79,7 @@ fn asked_pa(panel: &Panel) -> Option<Aid>
     None
 }
 
-/// The first program function key that a panel asks about.
+/// The first PF key that a panel asks about, if there is one.
 fn asked_pf(panel: &Panel) -> Option<Aid>
     ensures { result ≡ asked_among panel.now (map Pf (range_with_len 1 24)) }
 {
@@ -92,7 +92,7 @@ fn asked_pf(panel: &Panel) -> Option<Aid>
     None
 }
 
-/// The first key that a panel asks about, if it asks: Enter, PA1 to PA3, PF1 to PF24.
+/// The first key that a panel asks about, in the order Enter, PA1 to PA3, PF1 to PF24; None if it asks about none.
 fn asked_key(panel: &Panel) -> Option<Aid>
     ensures { result ≡ asked_key panel.now }
 {
@@ -105,7 +105,7 @@ fn asked_key(panel: &Panel) -> Option<Aid>
     }
 }
 
-/// The name of the first panel that asks the application, if one does, and its first key.
+/// The name of the first panel that asks the application, and its first such key; None if no panel asks.
 pub fn first_asked(panels: &PanelSet) -> Option<(&str, Aid)>
     ensures { option_map (λ asked. (asked.0.now, asked.1)) result ≡ first_asked panels.now.panels }
 {
@@ -119,7 +119,8 @@ pub fn first_asked(panels: &PanelSet) -> Option<(&str, Aid)>
     None
 }
 
-/// Prints that a panel asks an application about a key, and returns the exit status. A line that can't be written is left out.
+/// Prints that a panel asks an application about a key, and returns the exit status. A line that can't be written is
+/// left out.
 pub fn refuse_asking<E: Sink>(panel: &str, key: Aid, by: Refusing, faults: &mut E) -> u8
     ensures status { result ≡ panels_ask }
     ensures told { IsToldIn (E.seen faults.old) (E.seen faults.new) (asked_text panel.now key by) }

@@ -1,4 +1,4 @@
-//! An exchange with an application: the request of one question, and the reply that comes on the same connection.
+//! An exchange with an application: the request for one question, and the reply on the same connection.
 ghost use Rattle.std.specs.Prelude.{◌≡◌, drop, length, string_bytes};
 ghost use Rattle.std.specs.IoError.{error_kind};
 ghost use Rattle.applications.specs.Applications.{is_reply_late};
@@ -12,13 +12,13 @@ use std::alloc::Global;
 use std::io::{Error, ErrorKind};
 use std::marker::Model;
 
-/// The size of the buffer of each read.
+/// The size of the buffer of each read, in bytes.
 const READ_ROOM: usize = 8_192;
 
 /// What one turn did for an exchange.
 #[derive(Drop)]
-pub enum Progress {
-    /// Bytes came or were sent.
+pub enum IoProgress {
+    /// Bytes were read or sent.
     Moved,
     /// Nothing.
     Still,
@@ -26,7 +26,7 @@ pub enum Progress {
     Over(Result<Reply, ApplicationFault>),
 }
 
-/// Why an exchange fails by an error of this kind. None if the error means only that the call did nothing this time.
+/// The reason for which an error of this kind ends an exchange; None if the call did nothing and will be repeated.
 fn absence_by(kind: ErrorKind) -> Option<Absence>
     ensures { result ≡ absence_by kind }
 {
@@ -38,65 +38,65 @@ fn absence_by(kind: ErrorKind) -> Option<Absence>
     }
 }
 
-/// Why no exchange begins, by the error of connecting.
+/// The reason for which no exchange begins, from the error of connecting.
 pub(crate) fn absence_of(error: &Error) -> Absence
     ensures { result ≡ unconnected_by (error_kind error.now) }
 {
     absence_by(error.kind()).unwrap_or(Absence::Broken)
 }
 
-/// What an error of a read makes of an exchange.
-fn failed_by(kind: ErrorKind) -> Progress
+/// The progress of an exchange after a read failed.
+fn failed_by(kind: ErrorKind) -> IoProgress
     ensures { result ≡ failed_by (absence_by kind) }
 {
     match absence_by(kind) {
-        Some(absence) => Progress::Over(Err(ApplicationFault::Absent(absence))),
-        None => Progress::Still,
+        Some(absence) => IoProgress::Over(Err(ApplicationFault::Absent(absence))),
+        None => IoProgress::Still,
     }
 }
 
-/// What an error of a write makes of an exchange. A connection that isn't there yet takes nothing.
-fn unsent_by(kind: ErrorKind) -> Progress
+/// The progress of an exchange after a write failed. A stream that isn't connected yet takes nothing.
+fn unsent_by(kind: ErrorKind) -> IoProgress
     ensures { result ≡ unsent_by kind }
 {
     match kind {
-        ErrorKind::NotConnected => Progress::Still,
+        ErrorKind::NotConnected => IoProgress::Still,
         _ => failed_by(kind),
     }
 }
 
-/// What an answer of the reader makes of an exchange.
-fn read_as(answer: Result<Option<Reply>, ReplyFault>) -> Progress
+/// The progress of an exchange after the reply's reader answered.
+fn read_as(answer: Result<Option<Reply>, ReplyFault>) -> IoProgress
     ensures { result ≡ read_as answer }
 {
     match answer {
-        Ok(Some(reply)) => Progress::Over(Ok(reply)),
-        Ok(None) => Progress::Moved,
-        Err(fault) => Progress::Over(Err(ApplicationFault::Reply(fault))),
+        Ok(Some(reply)) => IoProgress::Over(Ok(reply)),
+        Ok(None) => IoProgress::Moved,
+        Err(fault) => IoProgress::Over(Err(ApplicationFault::Reply(fault))),
     }
 }
 
-/// What a turn did, if the reply may be late: then an exchange that isn't over is.
-fn in_time(is_late: bool, progress: Progress) -> Progress
+/// The progress of a turn, given whether the reply is late: an exchange whose reply is late is over.
+fn in_time(is_late: bool, progress: IoProgress) -> IoProgress
     ensures { result ≡ in_time is_late progress }
 {
     match progress {
-        Progress::Moved | Progress::Still if is_late => {
-            Progress::Over(Err(ApplicationFault::Absent(Absence::Late)))
+        IoProgress::Moved | IoProgress::Still if is_late => {
+            IoProgress::Over(Err(ApplicationFault::Absent(Absence::Late)))
         }
         progress => progress,
     }
 }
 
-/// Whether the reply is late, by when its request began and how long it may take, in milliseconds.
+/// Whether the reply is late, by when its request began and how long it may take, all in milliseconds.
 fn is_reply_late(began: u64, now: u64, most: u64) -> bool
     ensures { result ≡ is_reply_late began now most }
 {
     now.saturating_sub(began) >= most
 }
 
-/// An exchange on a stream of its own. Contracts see its question's ticket and panel, the request, how much of it was
-/// sent, and what was heard.
+/// An exchange on its own stream. Contracts see its question's ticket and panel, the request, how many of its bytes
+/// were sent, and the bytes that were received.
 #[derive(Drop)]
 pub(crate) struct Exchange<S> {
     alloc: Global,
@@ -132,7 +132,7 @@ impl<S> Model for Exchange<S> {
 }
 
 impl<S: RawRead + RawWrite + Drop> Exchange<S> {
-    /// An exchange that begins now, on a stream that connects: nothing is sent, and nothing heard.
+    /// An exchange that begins at `began` on a connecting stream: nothing is sent or received yet.
     pub(crate) fn new(
         alloc: Global,
         stream: S,
@@ -161,29 +161,29 @@ impl<S: RawRead + RawWrite + Drop> Exchange<S> {
         self.ticket
     }
 
-    /// The number of its question's panel.
+    /// The number of the panel of its question.
     pub(crate) fn panel(&self) -> usize
         ensures { result ≡ self.now.panel }
     {
         self.panel
     }
 
-    /// Writes what is left of the request, as much as the stream takes.
-    fn write(&mut self) -> Progress
+    /// Writes the rest of the request, as much as the stream takes.
+    fn write(&mut self) -> IoProgress
         ensures { Writes S.write_took self.old result self.new }
     {
         let unsent = &self.request.as_bytes()[self.sent..];
         match self.stream.write_once(unsent) {
             Ok(count) => {
                 self.sent += count;
-                Progress::Moved
+                IoProgress::Moved
             }
             Err(error) => unsent_by(error.kind()),
         }
     }
 
-    /// Looks for the reply in all bytes that were heard, with these behind them. No bytes are the connection's end.
-    fn hear(&mut self, bytes: &[u8]) -> Progress
+    /// Adds received bytes and looks for the reply in all of them. No bytes mean that the connection is closed.
+    fn hear(&mut self, bytes: &[u8]) -> IoProgress
         ensures hears { Hears bytes.now self.old.heard result self.new.heard }
         ensures rest { self.new ≡ hearing self.new.heard self.old.stream self.old }
     {
@@ -194,8 +194,8 @@ impl<S: RawRead + RawWrite + Drop> Exchange<S> {
         }
     }
 
-    /// Reads once. The end of the connection may be the reply's.
-    fn read(&mut self) -> Progress
+    /// Reads once. The end of the connection may be the end of the reply.
+    fn read(&mut self) -> IoProgress
         ensures { Reads S.read_gave self.old result self.new }
     {
         let mut buffer = [0; READ_ROOM];
@@ -205,8 +205,8 @@ impl<S: RawRead + RawWrite + Drop> Exchange<S> {
         }
     }
 
-    /// Writes what is left of the request, or reads once.
-    fn serve(&mut self) -> Progress
+    /// Writes the rest of the request; once it is sent, reads once.
+    fn serve(&mut self) -> IoProgress
         ensures { Serves S.read_gave S.write_took self.old result self.new }
     {
         if self.sent < self.request.len() {
@@ -216,13 +216,13 @@ impl<S: RawRead + RawWrite + Drop> Exchange<S> {
         }
     }
 
-    /// One turn, at this time and with so much time for the reply, in milliseconds. It is over if the operator left, or
+    /// One turn at `now`, with at most `most` milliseconds for the reply. The exchange is over if the operator left, or
     /// if the reply is late.
-    pub(crate) fn go_on(&mut self, has_operator: bool, now: u64, most: u64) -> Progress
+    pub(crate) fn go_on(&mut self, has_operator: bool, now: u64, most: u64) -> IoProgress
         ensures { GoesOn S.read_gave S.write_took has_operator now most self.old result self.new }
     {
         if !has_operator {
-            return Progress::Over(Err(ApplicationFault::Left));
+            return IoProgress::Over(Err(ApplicationFault::Left));
         }
         let is_late = is_reply_late(self.began, now, most);
         in_time(is_late, self.serve())

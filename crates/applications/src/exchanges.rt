@@ -1,4 +1,4 @@
-//! The exchanges of a server's connections with an application: at most one on each, and nothing waits for one.
+//! The exchanges of a server's connections with an application: at most one for each connection. No call waits.
 ghost use Rattle.std.specs.Prelude.{◌≡◌, ◌<◌, IfErr, IfOk, None, replicate};
 ghost use Rattle.application_http.specs.Requests.{request_bytes};
 ghost use Rattle.applications.specs.ExchangeTurns.{Asks, AsksAbout, BeginsFor, CannotBegin, Ends, Fails, Goes, Hands, Shows, Turns, slot_at, unless_failed, with_slot};
@@ -7,7 +7,7 @@ ghost use Rattle.host_core.specs.State.{most_connections};
 use crate::application_fault::{Absence, ApplicationFault};
 use crate::application_reply::{answer_of, telling};
 use crate::application_request::request_of;
-use crate::exchange::{Exchange, Progress, absence_of};
+use crate::exchange::{Exchange, IoProgress, absence_of};
 use application_http::{Endpoint, Reply};
 use host_core::{Acted, Answer, MOST_CONNECTIONS, Question, Ticket};
 use job_streams::{Fault, RawRead, RawWrite};
@@ -18,9 +18,9 @@ use std::marker::Model;
 
 /// A server whose host asks an application.
 ///
-/// Each relation is between the server before a call, what the call was given, its answer, and the server after it.
-/// Code that is generic over servers has one only from a call. So its contract can say which calls it made, in which
-/// order, and with what.
+/// Each relation is between the server before a call, the arguments of the call, its answer, and the server after it.
+/// Generic code obtains a relation only by a call, so its contract can say which calls it made, in which order, and
+/// with what.
 pub trait AskingServer {
     ghost use Rattle.std.specs.Prelude.{◌<◌};
     ghost use Rattle.host_core.specs.State.{most_connections};
@@ -42,16 +42,16 @@ pub trait AskingServer {
 
     ghost noted: { ReplyCall Self };
 
-    /// What it serves.
+    /// The panels that it serves.
     fn panels(&self) -> &PanelSet
         ensures { served self.now result.now };
 
-    /// The question that is open on a connection, if one is.
+    /// The open question of a connection, if there is one.
     fn question(&self, conn: usize) -> Result<Option<Question>, Fault>
         requires { conn < most_connections }
         ensures { asked self.now conn result };
 
-    /// Begins to connect to the application.
+    /// Begins to connect to the application, without waiting for it.
     fn connect(&self) -> io::Result<Self::Stream>
         ensures { connected self.now result };
 
@@ -71,13 +71,14 @@ pub trait AskingServer {
         ensures { noted self.old conn reply.now result self.new };
 }
 
-/// How an application is asked.
+/// The parameters of asking an application.
 #[derive(Clone, Copy)]
 pub struct Asking<'a> {
+    /// The allocator of requests, replies and answers.
     pub alloc: Global,
-    /// Where it listens.
+    /// The endpoint of the application.
     pub endpoint: &'a Endpoint,
-    /// What the names of the host's sessions begin with.
+    /// The first part of the names of the host's sessions.
     pub boot: u64,
     /// The server's time, in milliseconds.
     pub now: u64,
@@ -85,7 +86,7 @@ pub struct Asking<'a> {
     pub most: u64,
 }
 
-/// What a turn did, unless a report fails.
+/// The result of a turn: `did`, or the fault of a report.
 fn unless_failed(did: bool, report: Result<(), Fault>) -> Result<bool, Fault>
     ensures { result ≡ unless_failed did report }
 {
@@ -95,7 +96,7 @@ fn unless_failed(did: bool, report: Result<(), Fault>) -> Result<bool, Fault>
     }
 }
 
-/// Hands the host an answer. Answers whether it is shown. One to a question that isn't open any more is dropped.
+/// Hands the host an answer. Answers whether it is shown. The host drops it if the question is no longer open.
 fn hand<A: AskingServer>(
     server: &mut A,
     conn: usize,
@@ -136,7 +137,7 @@ fn fail<A: AskingServer>(
     }
 }
 
-/// Shows what a reply says, and reports what was replaced in it.
+/// Shows what a reply says, and reports which of its characters were replaced.
 fn show<A: AskingServer>(
     server: &mut A,
     conn: usize,
@@ -159,7 +160,7 @@ fn show<A: AskingServer>(
     }
 }
 
-/// Does what the end of an exchange asks for: shows what the reply says, or the message of a fault.
+/// Ends an exchange: shows what the reply says, or the message for a fault.
 fn end<A: AskingServer>(
     alloc: Global,
     server: &mut A,
@@ -186,7 +187,7 @@ fn end<A: AskingServer>(
     }
 }
 
-/// An exchange for a question.
+/// A new exchange for a question.
 fn begin<S: RawRead + RawWrite + Drop, A: AskingServer<Stream = S>>(
     asking: Asking<'_>,
     server: &A,
@@ -255,7 +256,7 @@ fn ask<S: RawRead + RawWrite + Drop, A: AskingServer<Stream = S>>(
     }
 }
 
-/// Goes on with an exchange, and puts it back into its slot, which is empty, unless it is over.
+/// Continues an exchange, and puts it back into its empty slot unless it is over.
 fn go_on<S: RawRead + RawWrite + Drop, A: AskingServer<Stream = S>>(
     slot: &mut Option<Exchange<S>>,
     mut exchange: Exchange<S>,
@@ -271,19 +272,19 @@ fn go_on<S: RawRead + RawWrite + Drop, A: AskingServer<Stream = S>>(
 {
     let (ticket, panel) = (exchange.ticket(), exchange.panel());
     match exchange.go_on(has_operator, asking.now, asking.most) {
-        Progress::Moved => {
+        IoProgress::Moved => {
             *slot = Some(exchange);
             Ok(true)
         }
-        Progress::Still => {
+        IoProgress::Still => {
             *slot = Some(exchange);
             Ok(false)
         }
-        Progress::Over(outcome) => end(asking.alloc, server, conn, ticket, panel, &outcome),
+        IoProgress::Over(outcome) => end(asking.alloc, server, conn, ticket, panel, &outcome),
     }
 }
 
-/// Does what there is to do on a connection with this slot.
+/// Takes a turn on a connection with this slot.
 fn turn_of<S: RawRead + RawWrite + Drop, A: AskingServer<Stream = S>>(
     slot: &mut Option<Exchange<S>>,
     asking: Asking<'_>,
@@ -343,9 +344,9 @@ impl<S: RawRead + RawWrite + Drop> Exchanges<S> {
         })
     }
 
-    /// Does what there is to do on a connection, which has an operator or not: begins an exchange for a question that
-    /// is open, goes on with one that is under way, and ends it. Answers whether a byte was read or written, or the host
-    /// answered. NoMemory if memory is refused to the host, and any fault of the server's calls.
+    /// Takes a turn on a connection: begins an exchange if a question is open, continues the current one, or ends it.
+    /// `has_operator` says whether the connection has an operator. Answers whether a byte was read or written, or the
+    /// host answered. NoMemory if the host is refused memory; any fault of the server's calls is returned.
     pub fn turn<A: AskingServer<Stream = S>>(
         &mut self,
         asking: Asking<'_>,

@@ -1,9 +1,11 @@
-//! What an application is asked and what it answers, as HTTP and as lines of a script; and the host of a panel text.
+//! What an application is asked and what it answers, as requests and replies and as lines of a script; and the host of
+//! a panel text.
 //!
-//! It opens no socket. [`Exchanges`] asks an application the open questions of an [`AskingServer`], over streams that
-//! this connects, and hands it the answers and the faults; [`put_question`] and [`answer_in`] write a question and read
-//! an answer as lines of a script. [`host_of`] makes a host of a panel text, and [`first_asked`] finds a panel that
-//! needs an application. `specs/ExchangeTurns` says what a turn of an exchange is; `ApplicationRequests`,
+//! This crate opens no socket, and it does not write or parse HTTP and JSON (crate `application_http` does).
+//! [`Exchanges`] takes the open questions of an [`AskingServer`], sends each as a request on a stream that the server
+//! connects, and hands the server the answer or the fault. [`put_question`] prints a question for a script, and
+//! [`answer_in`] reads an answer from one. [`host_of`] makes a host from a panel text, and [`first_asked`] finds a
+//! panel that needs an application. `specs/ExchangeTurns` defines a turn of an exchange; `ApplicationRequests`,
 //! `Applications`, `QuestionLines` and `AnswerLines` define the texts.
 #![tactic(auto)]
 
@@ -23,7 +25,7 @@ pub use application_fault::{Absence, ApplicationFault, FailureMessage};
 pub use application_reply::{AnswerFault, Replaced, replaced_in};
 pub use application_request::KeyName;
 pub use asked_key::{Refusing, first_asked, refuse_asking};
-pub use exchange::Progress;
+pub use exchange::IoProgress;
 pub use exchanges::{Asking, AskingServer, Exchanges};
 pub use panel_host::{application_of, host_of};
 pub use question_line::{put_question, question_on, ticket_on};

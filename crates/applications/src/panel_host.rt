@@ -1,4 +1,4 @@
-//! What a panel text defines: panels, a pool of their LUs, and a host that serves them.
+//! What a panel text defines: its panels, a pool of their LUs, and a host that serves them.
 ghost use Rattle.std.specs.Prelude.{◌≡◌, IfOk, IfErr};
 ghost use Rattle.applications.specs.PanelHosts.{HasNoWorld, IsApplicationOf, IsHostOf, of_panels, of_pool};
 
@@ -8,7 +8,7 @@ use lu_pool::{Pool, PoolFault};
 use panels::{PanelFault, PanelSet};
 use std::alloc::Global;
 
-/// The run's fault for this fault of a panel text: NoMemory exactly if that is Memory.
+/// The job's fault for a fault of a panel text. It is NoMemory exactly if the fault is Memory.
 fn of_panels(fault: PanelFault) -> Fault
     ensures { result ≡ of_panels fault }
 {
@@ -18,7 +18,7 @@ fn of_panels(fault: PanelFault) -> Fault
     }
 }
 
-/// The run's fault for this fault of the LUs' names: NoMemory exactly if that is Memory.
+/// The job's fault for a fault of the LU names. It is NoMemory exactly if the fault is Memory.
 fn of_pool(fault: PoolFault) -> Fault
     ensures { result ≡ of_pool fault }
 {
@@ -28,7 +28,7 @@ fn of_pool(fault: PoolFault) -> Fault
     }
 }
 
-/// The panels of a panel text, and a pool of their LUs. Faults as of [`host_of`].
+/// The panels of a panel text, and a pool of their LUs. Its faults are those of [`host_of`].
 pub fn application_of(alloc: Global, text: &str) -> Result<(PanelSet, Pool), Fault>
     ensures application { IfOk result (λ parts. IsApplicationOf text.now parts.0 parts.1) }
     ensures fault { IfErr result (HasNoWorld text.now) }
@@ -44,7 +44,7 @@ pub fn application_of(alloc: Global, text: &str) -> Result<(PanelSet, Pool), Fau
     Ok((panels, pool))
 }
 
-/// The host of a panel text, for these terminals: its panels, and a pool of their LUs.
+/// The host of a panel text, for these terminals: it serves the text's panels, with a pool of their LUs.
 ///
 /// Panels if the text defines no panels, Pool if their LUs are no pool, and NoMemory if memory is refused.
 pub fn host_of(alloc: Global, terminals: Terminals, text: &str) -> Result<Host, Fault>

@@ -1,4 +1,4 @@
-//! The question that is open on a connection, and how a script prints it.
+//! The open question of a connection, and how a script prints it.
 ghost use Rattle.std.specs.Prelude.{◌≡◌, ◌++◌, IfOk, OnOk, string_bytes};
 ghost use Rattle.std.specs.List.{flat_map};
 ghost use Rattle.applications.specs.QuestionLines.{field_line, heading, panel_text, question_on, question_text, ticket_on};
@@ -8,7 +8,7 @@ use host_core::{Host, MOST_CONNECTIONS, Question, Ticket};
 use panels::{Field, Panel, PanelSet, Values};
 use std::alloc::{AllocError, Global};
 
-/// The question that is open on a connection. None if none is open, or if there is no such connection.
+/// The open question of a connection. None if none is open, or if there is no such connection.
 pub fn question_on(host: &Host, conn: usize) -> Result<Option<Question>, AllocError>
     ensures { IfOk result (λ question. question ≡ question_on conn host.now) }
 {
@@ -21,7 +21,7 @@ pub fn question_on(host: &Host, conn: usize) -> Result<Option<Question>, AllocEr
     }
 }
 
-/// The ticket of the open question. If none is open the host takes no answer, so any ticket does.
+/// The ticket of the open question. If none is open, it is an arbitrary one, since the host takes no answer then.
 pub fn ticket_on(host: &Host, conn: usize) -> Result<Ticket, AllocError>
     ensures { IfOk result (λ ticket. ticket ≡ ticket_on conn host.now) }
 {
@@ -34,7 +34,7 @@ pub fn ticket_on(host: &Host, conn: usize) -> Result<Ticket, AllocError>
     }
 }
 
-/// Adds the LU, the panel's name, the key, and the cursor's row and column.
+/// Adds the LU, the panel's name, the key, and the cursor's row and column, both 1-based.
 fn put_heading(
     alloc: Global,
     text: &mut String,
@@ -71,7 +71,8 @@ fn put_fields(
     fields: &[Field],
     values: &Values,
 ) -> Result<(), AllocError>
-    ensures { OnOk result (string_bytes text.new ≡ string_bytes text.old ++ flat_map (field_line values.now) fields.now) }
+    ensures { OnOk result
+        (string_bytes text.new ≡ string_bytes text.old ++ flat_map (field_line values.now) fields.now) }
 {
     for field in fields {
         put_field(alloc, text, field, values)?;
@@ -92,7 +93,7 @@ fn put_panel(
     put_fields(alloc, text, panel.fields(), &question.values)
 }
 
-/// Adds a line for the question, if there is one, and one for each field of its panel; or `no question`.
+/// Adds a line for the question and one for each field of its panel, or `no question` if there is none.
 pub fn put_question(
     alloc: Global,
     text: &mut String,

@@ -6,12 +6,12 @@ use std::alloc::{AllocError, Global};
 use std::random::RandomSource;
 use std::{fmt, io};
 
-/// The name of a session, unlike that of any other session, also if the host was started again. Prints as `BOOT-N`.
+/// The name of a session. No other session has it, not even after the host is started again. Prints as `BOOT-N`.
 #[derive(Clone, Copy)]
 pub struct SessionName {
-    /// What the host drew when it started (BOOT). Prints as 16 hexadecimal digits.
+    /// BOOT: the number that the host drew when it started. Prints as 16 hexadecimal digits.
     pub boot: u64,
-    /// How many sessions began before it since then (N). Prints in decimal digits.
+    /// N: how many sessions began before it since that start. Prints in decimal digits.
     pub number: u64,
 }
 
@@ -28,7 +28,7 @@ impl fmt::Display for SessionName {
 }
 
 impl SessionName {
-    /// The name of the session that begins next at the same host. The count has 64 bits, and begins again after them.
+    /// The name of the next session of this host. The count wraps round after 2^64 sessions.
     pub fn next(self) -> SessionName
         ensures { result ≡ session_after self }
     {
@@ -46,8 +46,8 @@ pub(crate) fn session_text(alloc: Global, session: SessionName) -> Result<String
     format!(in alloc; "{session}")
 }
 
-/// Draws the first part of the names of all sessions of a start of the host: 64 bits that the system gives at random. Two of a
-/// thousand starts draw the same with a probability below 2^-44.
+/// Draws the first part of the names of all sessions of one start of the host: 64 random bits from the system. The
+/// probability that any two of a thousand starts draw the same bits is below 2^-44.
 pub fn draw_boot(source: &impl RandomSource) -> io::Result<u64> {
     let mut bytes = [0; 8];
     source.fill_bytes(&mut bytes)?;

@@ -1,4 +1,4 @@
--- The command line (specs/Words) as clap's values.
+-- The command line (specs/Words) as values of the crate clap.
 use Rattle.std.specs.Prelude.{◌≡◌, ◌⊎◌, ℕ, List, [], ◌∷◌, true, false}
 use Rattle.clap.specs.Built.{AddsArg, AddsSubcommand}
 use Rattle.clap.specs.Faults.{fault_of}
@@ -22,23 +22,25 @@ pub record IsCommand (app : App) (command : Command) : Type 0 where
   pub local : (out-Command command).has_globals ≡ false
 
 abbrev pub IsJob : Shape → Command → Type 0
-IsJob shape command = IsCommand (record { top = shape; subs = [] }) command
+IsJob size command = IsCommand (record { top = size; subs = [] }) command
 
--- arguments with these rules are added to a job in turn
+-- holds if arguments with these rules are added to a job, one after another
 abbrev pub AddsArguments : List Rule → Command → Command → Type 0
 AddsArguments [] old new = old ≡ new
-AddsArguments (rule ∷ rules) old new = (argument : Arg) × (mid : Command) × IsArgument rule argument × AddsArg old argument mid × AddsArguments rules mid new
+AddsArguments (rule ∷ rules) old new = (argument : Arg) × (mid : Command) × IsArgument rule argument
+    × AddsArg old argument mid × AddsArguments rules mid new
 
--- jobs of these shapes are added to a command in turn
+-- holds if jobs of these shapes are added to a command, one after another
 abbrev pub AddsJobs : List Shape → Command → Command → Type 0
 AddsJobs [] old new = old ≡ new
-AddsJobs (shape ∷ shapes) old new = (job mid : Command) × IsJob shape job × AddsSubcommand old job mid × AddsJobs shapes mid new
+AddsJobs (size ∷ shapes) old new = (job mid : Command) × IsJob size job × AddsSubcommand old job mid
+    × AddsJobs shapes mid new
 
--- the command line takes the words, and parses them as these matches
+-- holds if clap accepts the words, and parses them as these matches
 pub record IsMatch (words : List (List ℕ)) (matches : ArgMatches) : Type 0 where
   pub taken : is_taken words ≡ true
   pub rows : subcommand_rows_of matches ≡ subcommand_of program words
 
--- a parse of the words may fail by this kind of error
+-- holds if parsing the words may fail with this kind of error
 abbrev pub MayFail : List (List ℕ) → ErrorKind → Type 0
 MayFail words kind = (kind ≡ OutOfMemory) ⊎ IsAmong kind (fault_of program words)

@@ -4,7 +4,7 @@ use Rattle.job_streams.specs.Counting.{Output, Untouched, more}
 use Rattle.job_streams.specs.Faults.{status_of}
 use Rattle.job_streams.specs.declared.fault.Fault.TheVariants.{OutputFailed}
 
--- the status is 0, and no write failed; or it is that of a failed output, and the write failed
+-- holds if the status is 0 and no write failed, or if it is that of a failed output and the write failed
 abbrev pub PrintsLine : (out_old out_new faults_old faults_new : Output) → (status : ℕ) → Type 0
 PrintsLine out_old out_new faults_old faults_new status =
     ((status ≡ 0) × (out_new.failures ≡ out_old.failures) × Untouched faults_old faults_new)

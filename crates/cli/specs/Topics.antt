@@ -10,7 +10,7 @@ use Rattle.jobs.specs.OptionValues.{address_of, model_of, port_of, reply_time_of
 
 -- ---- names
 
--- the name of a topic's job; the whole program has none
+-- the name of a topic's job; empty for the whole program
 abbrev pub name_of : Topic → List ℕ
 name_of topic.Program = []
 name_of topic.Script = codes "script"
@@ -26,7 +26,8 @@ name_of topic.Version = codes "version"
 
 -- the jobs of the program
 abbrev pub jobs : List Topic
-jobs = topic.Script ∷ topic.Selfrun ∷ topic.Show ∷ topic.Check ∷ topic.Host ∷ topic.Serve ∷ topic.Term ∷ topic.Operate ∷ topic.Help
+jobs = topic.Script ∷ topic.Selfrun ∷ topic.Show ∷ topic.Check ∷ topic.Host ∷ topic.Serve ∷ topic.Term ∷ topic.Operate
+    ∷ topic.Help
     ∷ topic.Version ∷ []
 
 -- the job with this name
@@ -46,12 +47,12 @@ topic_named name =
 
 -- ---- options
 
--- an option takes a value, unless it is a flag
+-- whether an option takes a value; a flag doesn't
 abbrev pub takes_value : ValueKind → Bool
 takes_value kind.Flag = false
 takes_value _ = true
 
--- an option: its name, what its value is, and whether it must be given
+-- an option: its name, the kind of its value, and whether it must be given
 pub record OptionRow : Type 0 where
   pub name : List ℕ
   pub kind : ValueKind
@@ -73,17 +74,22 @@ options_of topic.Show = optional (codes "model") kind.Model ∷ []
 options_of topic.Selfrun = optional (codes "turns") kind.Turns ∷ []
 options_of topic.Host = needed (codes "port") kind.Port ∷ optional (codes "turns") kind.Turns ∷ []
 options_of topic.Serve =
-    needed (codes "port") kind.ServicePort ∷ optional (codes "listen") kind.Address ∷ optional (codes "panels") kind.File
-    ∷ optional (codes "negotiate") kind.Seconds ∷ optional (codes "keepalive") kind.Seconds ∷ optional (codes "idle") kind.Seconds
+    needed (codes "port") kind.ServicePort ∷ optional (codes "listen") kind.Address
+    ∷ optional (codes "panels") kind.File
+    ∷ optional (codes "negotiate") kind.Seconds ∷ optional (codes "keepalive") kind.Seconds
+    ∷ optional (codes "idle") kind.Seconds
     ∷ optional (codes "application") kind.Url ∷ optional (codes "application-timeout") kind.ReplyTime
-    ∷ optional (codes "metrics") kind.ServicePort ∷ optional (codes "own-terminals") kind.Flag ∷ optional (codes "verify") kind.Flag
+    ∷ optional (codes "metrics") kind.ServicePort ∷ optional (codes "own-terminals") kind.Flag
+    ∷ optional (codes "verify") kind.Flag
     ∷ optional (codes "quiet") kind.Flag ∷ []
-options_of topic.Term = needed (codes "port") kind.Port ∷ optional (codes "lu") kind.LuName ∷ optional (codes "model") kind.Model ∷ []
+options_of topic.Term = needed (codes "port") kind.Port ∷ optional (codes "lu") kind.LuName
+    ∷ optional (codes "model") kind.Model ∷ []
 options_of topic.Operate =
-    needed (codes "port") kind.Port ∷ optional (codes "lu") kind.LuName ∷ optional (codes "model") kind.Model ∷ optional (codes "raw") kind.TtySize ∷ []
+    needed (codes "port") kind.Port ∷ optional (codes "lu") kind.LuName ∷ optional (codes "model") kind.Model
+    ∷ optional (codes "raw") kind.TtySize ∷ []
 options_of _ = []
 
--- the name of the word that a job may be given without an option: the job that `help` is asked for, the file that `check` reads
+-- the name of a job's operand, a word without an option name: the job after `help`, the file after `check`
 abbrev pub operand_of : Topic → Option (List ℕ)
 operand_of topic.Help = Some (codes "job")
 operand_of topic.Check = Some (codes "file")

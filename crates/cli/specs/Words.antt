@@ -1,6 +1,7 @@
--- The job of the program's arguments (our profile). The first argument names the job. Its options follow in any order, each at most
--- once. The crate clap says in its specs/Walk and specs/Faults how arguments spell a subcommand and its options; Topics has the
--- subcommands and options. `--help` or `-h` in any place, and `--version` in place of a job, are those that clap adds by itself.
+-- The job of the program's arguments (our profile). The first argument names the job. Its options follow in any order,
+-- each at most once. How arguments spell a subcommand and its options is defined in the crate clap's specs/Walk and
+-- specs/Faults; the subcommands and options are defined in Topics. clap itself adds `--help` and `-h` at any place, and
+-- `--version` in place of a job.
 use Rattle.std.specs.Prelude.{◌≡◌, ◌⊎◌, ℕ, Bool, true, false, List, [], ◌∷◌, ◌++◌, map, Option, Some, None, codes, bytes_eq, option_map, unwrap_or, if◌then◌else◌}
 use Rattle.std.specs.Option.{option_and_then, option_map_or}
 use Rattle.std.specs.declared.net.ip_addr.IpAddr.{IpAddr}
@@ -31,7 +32,7 @@ use Rattle.cli.specs.declared.refusal.WordFault.TheVariants.{Memory}
 
 -- ---- the command line
 
--- an option, as `--port 5000` or `--port=5000`; a flag has no value
+-- the rule of an option, given as `--port 5000` or `--port=5000`; a flag has no value
 abbrev pub option_rule : OptionRow → Rule
 option_rule option = record (new_rule option.name) {
   long = Some option.name;
@@ -43,9 +44,11 @@ abbrev pub operand_rules : Option (List ℕ) → List Rule
 operand_rules None = []
 operand_rules (Some name) = new_rule name ∷ []
 
--- a job's name, options and operand
+-- a job's shape: its name, options and operand
 abbrev pub job_shape : Topic → Shape
-job_shape topic = record (new_shape (name_of topic)) { rules = map option_rule (options_of topic) ++ operand_rules (operand_of topic) }
+job_shape topic = record (new_shape (name_of topic)) {
+  rules = map option_rule (options_of topic) ++ operand_rules (operand_of topic);
+}
 
 -- the program; clap's own subcommand `help` isn't used
 abbrev pub program : App
@@ -59,7 +62,7 @@ program = record {
   subs = map job_shape jobs;
 }
 
--- ---- what is given
+-- ---- the values given
 
 abbrev pub given_port : List Row → Option ℕ
 given_port options = option_and_then port_of (first_of (codes "port") options)
@@ -67,7 +70,7 @@ given_port options = option_and_then port_of (first_of (codes "port") options)
 abbrev pub given_turns : List Row → Option ℕ
 given_turns options = option_map_or turns_of (first_of (codes "turns") options) (Some usual_turns)
 
--- none if the word isn't an LU's name
+-- the value of `--lu`, if it is given; None if the word isn't an LU name
 abbrev pub given_lu : List Row → Option (Option (List ℕ))
 given_lu options = option_map_or (λ word. option_map Some (lu_of word)) (first_of (codes "lu") options) (Some None)
 
@@ -80,23 +83,26 @@ given_service_port options = option_and_then service_port_of (first_of (codes "p
 abbrev pub given_address : List Row → Option IpAddr
 given_address options = option_map_or address_of (first_of (codes "listen") options) (Some this_machine)
 
--- an option of seconds; `usual` if it isn't given
+-- the value of an option in seconds; `usual` if it isn't given
 abbrev pub given_seconds : (name : List ℕ) → (usual : ℕ) → List Row → Option ℕ
 given_seconds name usual options = option_map_or seconds_of (first_of name options) (Some usual)
 
--- none if the word is no size of a tty
+-- the value of `--raw`, if it is given; None if the word isn't a tty size
 abbrev pub given_tty : List Row → Option (Option TtySize)
-given_tty options = option_map_or (λ word. option_map Some (tty_size_of word)) (first_of (codes "raw") options) (Some None)
+given_tty options = option_map_or (λ word. option_map Some (tty_size_of word))
+    (first_of (codes "raw") options) (Some None)
 
--- none if the word is no port
+-- the value of `--metrics`, if it is given; None if the word isn't a port number
 abbrev pub given_metrics : List Row → Option (Option ℕ)
-given_metrics options = option_map_or (λ word. option_map Some (service_port_of word)) (first_of (codes "metrics") options) (Some None)
+given_metrics options = option_map_or (λ word. option_map Some (service_port_of word))
+    (first_of (codes "metrics") options) (Some None)
 
--- clap gives a flag that is there the value `true`
+-- whether a flag is given: clap gives it the value `true`
 abbrev pub is_given : (flag : List ℕ) → List Row → Bool
 is_given flag options = option_map_or (λ word. bytes_eq word (codes "true")) (first_of flag options) false
 
--- which terminals connect, by whether all are ours, which wait, and whether the host verifies them; none if both are said
+-- the terminals that connect, given whether all are ours, which wait, and whether the host verifies them; None if both
+-- are given
 abbrev pub terminals_by : (own verify : Bool) → Option Terminals
 terminals_by own true = if own then None else Some Verified
 terminals_by own false = Some (if own then Waiting else Any)
@@ -104,31 +110,35 @@ terminals_by own false = Some (if own then Waiting else Any)
 abbrev pub given_terminals : List Row → Option Terminals
 given_terminals options = terminals_by (is_given (codes "own-terminals") options) (is_given (codes "verify") options)
 
--- which terminals the host of a script serves: the script's wait, but it need not rely on that
+-- the terminals that the host of a script serves: the script's own wait, but the host need not rely on that
 abbrev pub given_script_terminals : List Row → Terminals
 given_script_terminals options = if is_given (codes "any-terminal") options then Any else Waiting
 
 abbrev pub given_limits : List Row → Option TimeLimits
 given_limits options =
-    option_and_then (λ negotiate. option_and_then (λ keepalive. option_map (λ idle. record { negotiate = negotiate; keepalive = keepalive; idle = idle })
+    option_and_then (λ negotiate. option_and_then
+    (λ keepalive. option_map (λ idle. record { negotiate = negotiate; keepalive = keepalive; idle = idle })
     (given_seconds (codes "idle") usual_idle options))
     (given_seconds (codes "keepalive") usual_keepalive options))
     (given_seconds (codes "negotiate") usual_negotiate options)
 
 abbrev pub given_service : List Row → Option Service
 given_service options =
-    option_and_then (λ port. option_and_then (λ listen. option_and_then (λ limits. option_and_then (λ metrics. option_map (λ terminals. record {
+    option_and_then (λ port. option_and_then
+    (λ listen. option_and_then (λ limits. option_and_then (λ metrics. option_map (λ terminals. record {
       listen = listen;
       port = port;
       limits = limits;
       terminals = terminals;
       quiet = is_given (codes "quiet") options;
       metrics = metrics;
-    }) (given_terminals options)) (given_metrics options)) (given_limits options)) (given_address options)) (given_service_port options)
+    }) (given_terminals options)) (given_metrics options)) (given_limits options)) (given_address options))
+    (given_service_port options)
 
--- none if metrics were answered on the port that terminals connect to
+-- the service; None if a value is invalid, or if the metrics port is the port for terminals
 abbrev pub sound_service : List Row → Option Service
-sound_service options = option_and_then (λ service. if is_same_port service.port service.metrics then None else Some service) (given_service options)
+sound_service options = option_and_then
+    (λ service. if is_same_port service.port service.metrics then None else Some service) (given_service options)
 
 abbrev pub given_live_options : List Row → Option LiveOptions
 given_live_options options =
@@ -140,12 +150,14 @@ given_live_options options =
     }) (given_tty options)) (given_model options)) (given_lu options)) (given_port options)
 
 abbrev pub given_reply_time : List Row → Option ℕ
-given_reply_time options = option_map_or reply_time_of (first_of (codes "application-timeout") options) (Some usual_reply_time)
+given_reply_time options = option_map_or reply_time_of (first_of (codes "application-timeout") options)
+    (Some usual_reply_time)
 
--- which application decides
+-- the application that decides, and the time for its reply
 abbrev pub given_application : List Row → Option ApplicationChoice
 given_application options =
-    option_map (λ reply_time. record { url = first_of (codes "application") options; reply_time = reply_time }) (given_reply_time options)
+    option_map (λ reply_time. record { url = first_of (codes "application") options; reply_time = reply_time })
+    (given_reply_time options)
 
 -- the topic after `help`: the whole program if no job is named
 abbrev pub given_topic : List Row → Option Topic
@@ -160,12 +172,15 @@ job_of topic.Script options = Some (job.Script (given_script_terminals options))
 job_of topic.Show options = option_map (λ model. job.Show model) (given_model options)
 job_of topic.Selfrun options = option_map (λ turns. job.Selfrun turns) (given_turns options)
 job_of topic.Check options = Some (job.Check (first_of (codes "file") options))
-job_of topic.Host options = option_and_then (λ port. option_map (λ turns. job.Host port turns) (given_turns options)) (given_port options)
+job_of topic.Host options = option_and_then (λ port. option_map (λ turns. job.Host port turns) (given_turns options))
+    (given_port options)
 job_of topic.Serve options =
-    option_and_then (λ service. option_map (λ application. job.Serve service (first_of (codes "panels") options) application) (given_application options))
+    option_and_then (λ service. option_map
+    (λ application. job.Serve service (first_of (codes "panels") options) application) (given_application options))
     (sound_service options)
 job_of topic.Term options =
-    option_and_then (λ port. option_and_then (λ lu. option_map (λ model. job.Term port lu model) (given_model options)) (given_lu options)) (given_port options)
+    option_and_then (λ port. option_and_then (λ lu. option_map (λ model. job.Term port lu model) (given_model options))
+    (given_lu options)) (given_port options)
 job_of topic.Operate options = option_map (λ live. job.Operate live) (given_live_options options)
 job_of topic.Help options = option_map (λ topic. job.Help topic) (given_topic options)
 job_of topic.Version options = Some job.Version
@@ -173,17 +188,17 @@ job_of topic.Version options = Some job.Version
 abbrev pub job_named : List ℕ → List Row → Option Job
 job_named name options = option_and_then (λ topic. job_of topic options) (topic_named name)
 
--- without arguments the job is `script`
+-- the job of a parse; `script` if there are no arguments
 abbrev pub job_by : Option (List ℕ × List Row) → Option Job
 job_by None = Some (job.Script Waiting)
 job_by (Some named) = job_named named.0 named.1
 
--- The last word is `--`, which ends the options: nothing follows it. `dashes`: the word before these is.
+-- Whether the last word is the `--` that ends the options. `dashes`: the word before these is `--`.
 abbrev pub ends_by_dashes : (dashes : Bool) → List (List ℕ) → Bool
 ends_by_dashes dashes [] = dashes
 ends_by_dashes dashes (word ∷ words) = ends_by_dashes (bytes_eq word (codes "--")) words
 
--- the job of words that the command line takes
+-- the job of words that clap accepts
 abbrev pub job_taken : List (List ℕ) → Option (List ℕ × List Row) → Option Job
 job_taken words named = if ends_by_dashes false words then None else job_by named
 
@@ -192,32 +207,32 @@ abbrev pub topic_of : List (List ℕ) → Topic
 topic_of [] = topic.Program
 topic_of (word ∷ words) = unwrap_or (topic_named word) topic.Program
 
--- the command line takes the arguments
+-- whether clap accepts the arguments
 abbrev pub is_taken : List (List ℕ) → Bool
 is_taken words = is_empty (fault_of program words)
 
--- what arguments that the command line doesn't take ask for, by a kind of clap's error: help, the version, or no job
+-- what arguments that clap doesn't accept ask for, by the kind of its error: help, the version, or no job
 abbrev pub job_by_kind : List (List ℕ) → ErrorKind → Option Job
 job_by_kind words kind.DisplayHelp = Some (job.Help (topic_of words))
 job_by_kind words kind.DisplayVersion = Some job.Version
 job_by_kind words _ = None
 
--- the command line takes the arguments, and this is their job, if any
+-- holds if clap accepts the arguments, and this is their job, if any
 pub record IsTakenFor (words : List (List ℕ)) (answer : Option Job) : Type 0 where
   pub taken : is_taken words ≡ true
   pub job : job_taken words (subcommand_of program words) ≡ answer
 
--- The command line doesn't take the arguments, and this is what a kind of error that clap has for them asks for. It has one kind, but
--- for a word that may be an unknown job or an unknown option, which asks for nothing either way.
+-- Holds if clap doesn't accept the arguments, and this is what a kind of its error asks for. There is one kind, except
+-- for a word that may be an unknown job or an unknown option, which asks for nothing in either case.
 pub record IsAskedFor (words : List (List ℕ)) (answer : Option Job) : Type 0 where
   pub kind : ErrorKind
   pub among : IsAmong kind (fault_of program words)
   pub job : job_by_kind words kind ≡ answer
 
--- the job of the arguments; none if they are refused
+-- holds if this is the job of the arguments; None if they are refused
 abbrev pub IsJobOf : List (List ℕ) → Option Job → Type 0
 IsJobOf words answer = IsTakenFor words answer ⊎ IsAskedFor words answer
 
--- why the arguments give no job: memory was refused, or they have none
+-- holds if the arguments give no job for this reason: memory was refused, or they are refused
 abbrev pub HasNoJob : List (List ℕ) → WordFault → Type 0
 HasNoJob words fault = (fault ≡ Memory) ⊎ IsJobOf words None

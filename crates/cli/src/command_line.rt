@@ -1,4 +1,4 @@
-//! Reads the program's arguments.
+//! Parses the program's arguments.
 ghost use Rattle.std.specs.Prelude.{◌≡◌, [], IfOk, IfErr, Some, codes, false, map, option_map, string_bytes, true};
 ghost use Rattle.clap.specs.Matches.{found_of};
 ghost use Rattle.clap.specs.Simple.{subcommand_rows_of};
@@ -26,7 +26,7 @@ use tn3270e_msg::Lu;
 
 // ---- the command line
 
-/// An option.
+/// The clap argument of an option.
 fn argument<'a>(alloc: Global, option: &JobOption<'a>) -> Arg<'a>
     ensures { IsArgument (option_rule (row_of option.now)) result }
 {
@@ -40,7 +40,7 @@ fn argument<'a>(alloc: Global, option: &JobOption<'a>) -> Arg<'a>
     }
 }
 
-/// A job with these options.
+/// A job's subcommand with these options added.
 fn with_options<'a>(
     alloc: Global,
     job: Command<'a>,
@@ -55,7 +55,7 @@ fn with_options<'a>(
     Ok(job)
 }
 
-/// A job that may be given a word without an option.
+/// A job's subcommand with an operand: a word without an option name.
 fn with_word<'a>(alloc: Global, job: Command<'a>, name: &'a str) -> Result<Command<'a>, AllocError>
     ensures { IfOk result (AddsArguments (operand_rules (Some name.entry.now)) job.entry) }
 {
@@ -63,7 +63,7 @@ fn with_word<'a>(alloc: Global, job: Command<'a>, name: &'a str) -> Result<Comma
     job.arg(word)
 }
 
-/// A job with its operand, if it has one.
+/// A job's subcommand with its operand, if the job has one.
 fn with_operand<'a>(
     alloc: Global,
     job: Command<'a>,
@@ -77,7 +77,7 @@ fn with_operand<'a>(
     }
 }
 
-/// A job with its options and its operand.
+/// A job's subcommand with its options and its operand.
 fn job<'a>(alloc: Global, topic: Topic) -> Result<Command<'a>, AllocError>
     ensures { IfOk result (IsJob (job_shape topic)) }
 {
@@ -101,7 +101,7 @@ fn with_jobs<'a>(
     Ok(command)
 }
 
-/// The program without its jobs. Its own `help` is used in place of clap's.
+/// The program without its jobs. Its own job `help` replaces clap's.
 fn bare<'a>(alloc: Global) -> Result<Command<'a>, AllocError>
     ensures { IfOk result (IsCommand (record program { top = record program.top { is_leaf = true }; subs = [] })) }
 {
@@ -118,7 +118,7 @@ fn program<'a>(alloc: Global) -> Result<Command<'a>, AllocError>
     with_jobs(alloc, command, &JOBS)
 }
 
-// ---- what was given
+// ---- the values given
 
 /// The value of an option, if it is given.
 fn given<'a>(options: &ArgMatches<'a>, name: &str) -> Option<&'a str>
@@ -127,21 +127,21 @@ fn given<'a>(options: &ArgMatches<'a>, name: &str) -> Option<&'a str>
     options.get_str(name)
 }
 
-/// The value of an option or operand that is kept as text, if it is given.
+/// The value of an option or operand whose value is any text, if it is given.
 fn text_in<'a>(options: &ArgMatches<'a>, name: &str) -> Option<WordText<'a>>
     ensures { result ≡ first_of name.now (rows_of (found_of options.now)) }
 {
     Some(WordText::new(given(options, name)?))
 }
 
-/// The value of `--port`, of a job for users without privileges.
+/// The value of `--port`, 1024 to 65535.
 fn port_in(options: &ArgMatches<'_>) -> Option<Port>
     ensures { result ≡ given_port (rows_of (found_of options.now)) }
 {
     Port::read(given(options, "port")?)
 }
 
-/// The value of `--turns`; the usual number if it isn't given.
+/// The value of `--turns`; the default if it isn't given.
 fn turns_in(options: &ArgMatches<'_>) -> Option<Turns>
     ensures { result ≡ given_turns (rows_of (found_of options.now)) }
 {
@@ -151,7 +151,7 @@ fn turns_in(options: &ArgMatches<'_>) -> Option<Turns>
     }
 }
 
-/// The value of `--lu`, if it is given. None if it isn't an LU's name.
+/// The value of `--lu`, if it is given. None if it isn't an LU name.
 fn lu_in(options: &ArgMatches<'_>) -> Option<Option<Lu>>
     ensures { result ≡ given_lu (rows_of (found_of options.now)) }
 {
@@ -171,7 +171,7 @@ fn model_in(options: &ArgMatches<'_>) -> Option<Model>
     }
 }
 
-/// The value of `--raw`, if it is given. None if it is no size of a tty.
+/// The value of `--raw`, if it is given. None if it isn't a tty size.
 fn tty_in(options: &ArgMatches<'_>) -> Option<Option<TtySize>>
     ensures { result ≡ given_tty (rows_of (found_of options.now)) }
 {
@@ -181,7 +181,7 @@ fn tty_in(options: &ArgMatches<'_>) -> Option<Option<TtySize>>
     }
 }
 
-/// The value of `--port`, of a service.
+/// The value of `--port` of `serve`, 1 to 65535.
 fn service_port_in(options: &ArgMatches<'_>) -> Option<ServicePort>
     ensures { result ≡ given_service_port (rows_of (found_of options.now)) }
 {
@@ -198,7 +198,7 @@ fn address_in(options: &ArgMatches<'_>) -> Option<IpAddr>
     }
 }
 
-/// The value of an option of seconds; `usual` if it isn't given.
+/// The value of an option in seconds; `usual` if it isn't given.
 fn seconds_in(options: &ArgMatches<'_>, name: &str, usual: Seconds) -> Option<Seconds>
     ensures { result ≡ given_seconds name.now usual (rows_of (found_of options.now)) }
 {
@@ -219,7 +219,7 @@ fn limits_in(options: &ArgMatches<'_>) -> Option<TimeLimits>
     })
 }
 
-/// The value of `--metrics`, if it is given. None if it is no port.
+/// The value of `--metrics`, if it is given. None if it isn't a port number.
 fn metrics_in(options: &ArgMatches<'_>) -> Option<Option<ServicePort>>
     ensures { result ≡ given_metrics (rows_of (found_of options.now)) }
 {
@@ -239,7 +239,7 @@ pub(crate) fn is_given(options: &ArgMatches<'_>, flag: &str) -> bool
     }
 }
 
-/// Which terminals connect, by whether all are ours and whether the host verifies them. None if both are said.
+/// The terminals that connect, given whether all are ours and whether the host verifies them. None if both are given.
 fn terminals_by(own: bool, verify: bool) -> Option<Terminals>
     ensures { result ≡ terminals_by own verify }
 {
@@ -251,8 +251,8 @@ fn terminals_by(own: bool, verify: bool) -> Option<Terminals>
     }
 }
 
-/// Which terminals connect: those that wait if `--own-terminals` is given, else any, which the host verifies if `--verify` is given.
-/// None if both are given.
+/// The terminals that connect: those that wait for the host if `--own-terminals` is given, otherwise any, which the
+/// host verifies if `--verify` is given. None if both are given.
 fn terminals_in(options: &ArgMatches<'_>) -> Option<Terminals>
     ensures { result ≡ given_terminals (rows_of (found_of options.now)) }
 {
@@ -262,7 +262,8 @@ fn terminals_in(options: &ArgMatches<'_>) -> Option<Terminals>
     )
 }
 
-/// Which terminals the host of a script serves: any if `--any-terminal` is given, else those that wait.
+/// The terminals that the host of a script serves: any if `--any-terminal` is given, otherwise those that wait for the
+/// host.
 fn script_terminals_in(options: &ArgMatches<'_>) -> Terminals
     ensures { result ≡ given_script_terminals (rows_of (found_of options.now)) }
 {
@@ -273,7 +274,7 @@ fn script_terminals_in(options: &ArgMatches<'_>) -> Terminals
     }
 }
 
-/// How `serve` serves.
+/// The service that the options of `serve` describe. None if a value is invalid.
 fn service_in(options: &ArgMatches<'_>) -> Option<Service>
     ensures { result ≡ given_service (rows_of (found_of options.now)) }
 {
@@ -287,7 +288,7 @@ fn service_in(options: &ArgMatches<'_>) -> Option<Service>
     })
 }
 
-/// Whether another port, if there is one, is the same.
+/// Whether another port is given and is equal to this one.
 fn is_same_port(port: ServicePort, other: Option<ServicePort>) -> bool
     ensures { result ≡ is_same_port port other }
 {
@@ -297,7 +298,8 @@ fn is_same_port(port: ServicePort, other: Option<ServicePort>) -> bool
     }
 }
 
-/// How `serve` serves. None if metrics were answered on the port that terminals connect to.
+/// The service that the options of `serve` describe. None if a value is invalid, or if the metrics port is the port for
+/// terminals.
 fn sound_service_in(options: &ArgMatches<'_>) -> Option<Service>
     ensures { result ≡ sound_service (rows_of (found_of options.now)) }
 {
@@ -309,7 +311,7 @@ fn sound_service_in(options: &ArgMatches<'_>) -> Option<Service>
     }
 }
 
-/// What `operate` connects to, and its tty.
+/// The options of `operate`.
 fn live_options_in(options: &ArgMatches<'_>) -> Option<LiveOptions>
     ensures { result ≡ given_live_options (rows_of (found_of options.now)) }
 {
@@ -321,7 +323,7 @@ fn live_options_in(options: &ArgMatches<'_>) -> Option<LiveOptions>
     })
 }
 
-/// The value of `--application-timeout`; the usual time if it isn't given.
+/// The value of `--application-timeout`; the default if it isn't given.
 fn reply_time_in(options: &ArgMatches<'_>) -> Option<ReplyTime>
     ensures { result ≡ given_reply_time (rows_of (found_of options.now)) }
 {
@@ -331,7 +333,7 @@ fn reply_time_in(options: &ArgMatches<'_>) -> Option<ReplyTime>
     }
 }
 
-/// Which application decides for `serve`.
+/// The application that decides for `serve`, and the time for its reply.
 fn application_in<'a>(options: &ArgMatches<'a>) -> Option<ApplicationChoice<'a>>
     ensures { result ≡ given_application (rows_of (found_of options.now)) }
 {
@@ -341,7 +343,7 @@ fn application_in<'a>(options: &ArgMatches<'a>) -> Option<ApplicationChoice<'a>>
     })
 }
 
-/// The topic after `help`: the whole program if no job is named. None if the word is no job's name.
+/// The topic after `help`: the whole program if no job is named. None if the word isn't the name of a job.
 fn topic_in(options: &ArgMatches<'_>) -> Option<Topic>
     ensures { result ≡ given_topic (rows_of (found_of options.now)) }
 {
@@ -410,7 +412,7 @@ fn job_named<'a>(name: &str, options: &ArgMatches<'a>) -> Option<Job<'a>>
     }
 }
 
-/// The job of a parsed command line: `script` if there is no argument.
+/// The job of a parsed command line; `script` if there is no argument.
 fn job_in<'a>(matches: &ArgMatches<'a>) -> Option<Job<'a>>
     ensures { result ≡ job_by (subcommand_rows_of matches.now) }
 {
@@ -422,7 +424,7 @@ fn job_in<'a>(matches: &ArgMatches<'a>) -> Option<Job<'a>>
     }
 }
 
-/// Whether the last word is the one that ends options, so that nothing follows it.
+/// Whether the last word is the `--` that ends the options, so that nothing follows it.
 pub(crate) fn ends_by_dashes(words: &[String]) -> bool
     ensures { result ≡ ends_by_dashes false (map string_bytes words.now) }
 {
@@ -433,7 +435,7 @@ pub(crate) fn ends_by_dashes(words: &[String]) -> bool
     dashes
 }
 
-/// The job of words that are parsed as these matches.
+/// The job of words that were parsed as these matches.
 fn job_taken<'a>(words: &[String], matches: &ArgMatches<'a>) -> Option<Job<'a>>
     ensures { result ≡ job_taken (map string_bytes words.now) (subcommand_rows_of matches.now) }
 {
@@ -446,7 +448,7 @@ fn job_taken<'a>(words: &[String], matches: &ArgMatches<'a>) -> Option<Job<'a>>
 
 // ---- words
 
-/// The job that words ask for whose parse failed by this kind of error; None if they are refused.
+/// The job for words whose parse failed with this kind of error: help or the version. None if the words are refused.
 fn job_by_kind<'a>(words: &[String], kind: ErrorKind) -> Option<Job<'a>>
     ensures { result ≡ job_by_kind (map string_bytes words.now) kind }
 {
@@ -466,10 +468,11 @@ fn matches_of<'a>(alloc: Global, words: &'a [String]) -> Result<ArgMatches<'a>, 
     command.try_get_matches_from(words)
 }
 
-/// The job of the program's arguments: `script` if there are none.
+/// The job of the program's arguments; `script` if there are none.
 ///
-/// None if the command line doesn't take them, if a port, a number of turns or seconds, an address, an LU's name, a model, a size or a
-/// job's name isn't valid, if `--metrics` has the port of `--port`, or if the last word is `--`; Memory if memory is refused.
+/// The error is Memory if memory is refused. Any other error says that clap doesn't accept the arguments, that a port,
+/// a number of turns or seconds, an address, an LU name, a model, a size or a job's name is invalid, that `--metrics`
+/// has the port of `--port`, or that the last word is `--`.
 pub fn words<'a>(alloc: Global, words: &'a [String]) -> Result<Job<'a>, WordFault<'a>>
     ensures job { IfOk result (λ job. IsJobOf (map string_bytes words.now) (Some job)) }
     ensures fault { IfErr result (HasNoJob (map string_bytes words.now)) }

@@ -1,13 +1,23 @@
-//! `help` and `--version`: the texts that tell how the program is used.
+//! `help` and `--version`: the texts about the use of the program.
 ghost use Rattle.cli.specs.Helps.{PrintsLine};
 
 use crate::job_table::{JOBS, JobOption, name_of, options_of};
-use job_streams::{Fault, Sink, WriteFailed, end_by};
+use job_streams::{Fault, Sink, WriteFailed, report_and_exit_code};
 use jobs::Topic;
 use std::fmt;
 
-/// The program's name and version.
-pub(crate) const VERSION: &str = "panel3270 1.1";
+/// The program's version.
+pub const VERSION: &str = "1.1";
+
+/// Prints as the program's name and version.
+#[derive(Clone, Copy, Drop)]
+struct NamedVersion;
+
+impl fmt::Display for NamedVersion {
+    fn fmt<W: fmt::Write>(&self, f: &mut fmt::Formatter<W>) -> fmt::Result {
+        write!(f, "panel3270 {VERSION}")
+    }
+}
 
 const BEFORE_JOBS: &str = "panel3270: TN3270E hosts and terminals, and 3270 screens
 
@@ -24,28 +34,30 @@ options:
 INPUT is UTF-8 of at most 1048576 bytes, in lines that end with LF, which the last may lack.
 status: 0 done, 1 input refused, 2 words refused, 3 no memory, 4 socket failed, 5 turns over, 6 output failed";
 
-/// What help says of a job.
+/// The help texts of a job.
 #[derive(Clone, Copy)]
 struct JobText {
-    /// What it does, in the list of jobs.
+    /// The job's line in the list of jobs.
     summary: &'static str,
-    /// What it does, in its own help.
+    /// The first lines of the job's own help.
     purpose: &'static str,
-    /// What its own help ends with.
+    /// The last lines of the job's own help.
     notes: &'static str,
 }
 
-/// What help says of the job of a topic.
+/// The help texts of a topic's job.
 fn text_of(topic: Topic) -> JobText {
     match topic {
         Topic::Script => JobText {
             summary: "serve panels to terminals, which do commands; this is the job if no word is given",
-            purpose: "Serve panels to four terminals, of models 2 to 5, which do commands, and print what their operators see.",
+            purpose: "Serve panels to four terminals, of models 2 to 5, which do commands, and print what their \
+                operators see.",
             notes: "\n\nINPUT is panels in TOML, a line %%, and commands, one a line.",
         },
         Topic::Selfrun => JobText {
             summary: "do the same over sockets",
-            purpose: "Serve panels to four terminals, of models 2 to 5, over sockets of this machine. The terminals do commands. Print what their operators see.",
+            purpose: "Serve panels to four terminals, of models 2 to 5, over sockets of this machine. The terminals do \
+                commands. Print what their operators see.",
             notes: "\n\nINPUT is panels in TOML, a line %%, and commands, one a line.",
         },
         Topic::Show => JobText {
@@ -55,7 +67,8 @@ fn text_of(topic: Topic) -> JobText {
         },
         Topic::Check => JobText {
             summary: "print every fault of a panel text",
-            purpose: "Print every fault of a panel text, and warnings, each with its line. Without FILE the text is standard input.",
+            purpose: "Print every fault of a panel text, and warnings, each with its line. Without FILE the text is \
+                standard input.",
             notes: "\n\nFILE is panels in TOML. A line %% ends them.",
         },
         Topic::Host => JobText {
@@ -75,7 +88,8 @@ fn text_of(topic: Topic) -> JobText {
         },
         Topic::Operate => JobText {
             summary: "be a terminal of the host at 127.0.0.1, for an operator at a tty",
-            purpose: "Be a terminal of the host at 127.0.0.1, for an operator at this tty. Start it by the script bin/operate [OPTION ..] PORT [LU].",
+            purpose: "Be a terminal of the host at 127.0.0.1, for an operator at this tty. Start it by the script \
+                bin/operate [OPTION ..] PORT [LU].",
             notes: "\n\nThe status row has the keyboard's lock, the LU and the cursor. Ctrl-] ends the program.",
         },
         Topic::Program | Topic::Help => JobText {
@@ -91,7 +105,7 @@ fn text_of(topic: Topic) -> JobText {
     }
 }
 
-/// What follows the options in the usage line of a job.
+/// The words after the options in the usage line of a job.
 fn after_options(topic: Topic) -> &'static str {
     match topic {
         Topic::Check => " [FILE]",
@@ -101,7 +115,7 @@ fn after_options(topic: Topic) -> &'static str {
     }
 }
 
-/// The most options that a usage line lists; of more it lists those that are needed.
+/// The most options that a usage line lists. If a job has more, it lists the required ones.
 const MOST_LISTED: usize = 4;
 
 /// Prints as the options in a usage line.
@@ -123,10 +137,10 @@ impl fmt::Display for Usage<'_> {
     }
 }
 
-/// The columns of an option's name and value in a list.
+/// The width of the column of an option's name and value in a list, in characters.
 const OPTION_WIDTH: usize = 17;
 
-/// Prints as the list of a job's options, under a heading; as nothing if there are none.
+/// Prints as the list of a job's options with a heading, or as nothing if there are none.
 #[derive(Clone, Copy)]
 struct OptionList<'a>(&'a [JobOption<'a>]);
 
@@ -144,7 +158,7 @@ impl fmt::Display for OptionList<'_> {
     }
 }
 
-/// Prints as the help about a topic.
+/// Prints as the help on a topic.
 #[derive(Clone, Copy, Drop)]
 struct Help(Topic);
 
@@ -174,11 +188,11 @@ fn print_line<D: fmt::Display + Drop, O: Sink, E: Sink>(text: D, out: &mut O, fa
 {
     match out.write_line(text) {
         Ok(()) => 0,
-        Err(WriteFailed) => end_by(Fault::OutputFailed, faults),
+        Err(WriteFailed) => report_and_exit_code(Fault::OutputFailed, faults),
     }
 }
 
-/// Prints the help about a topic, and returns the exit status: 0, or 6 if the output fails.
+/// Prints the help on a topic, and returns the exit status: 0, or 6 if the output fails.
 pub fn run_help<O: Sink, E: Sink>(topic: Topic, out: &mut O, faults: &mut E) -> u8
     ensures { PrintsLine (O.seen out.old) (O.seen out.new) (E.seen faults.old) (E.seen faults.new) result }
 {
@@ -189,5 +203,5 @@ pub fn run_help<O: Sink, E: Sink>(topic: Topic, out: &mut O, faults: &mut E) -> 
 pub fn run_version<O: Sink, E: Sink>(out: &mut O, faults: &mut E) -> u8
     ensures { PrintsLine (O.seen out.old) (O.seen out.new) (E.seen faults.old) (E.seen faults.new) result }
 {
-    print_line(VERSION, out, faults)
+    print_line(NamedVersion, out, faults)
 }

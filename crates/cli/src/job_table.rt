@@ -1,10 +1,10 @@
-//! The jobs: their names, their options, and what help says of them.
+//! The jobs: their names, their options, and the help texts of these.
 ghost use Rattle.std.specs.Prelude.{◌≡◌, map, option_map};
 ghost use Rattle.cli.specs.Topics.{name_of, operand_of, options_of, row_of, takes_value, topic_named};
 
 use jobs::Topic;
 
-/// What the value of an option is; a flag has none.
+/// The kind of an option's value. A flag has none.
 #[derive(Clone, Copy)]
 pub(crate) enum ValueKind {
     Port,
@@ -29,7 +29,7 @@ impl ValueKind {
         !matches!(self, ValueKind::Flag)
     }
 
-    /// What usage lines have for the value, after a blank.
+    /// The text for the value in usage lines, with a blank before it.
     pub(crate) fn placeholder(self) -> &'static str {
         match self {
             ValueKind::Port | ValueKind::ServicePort => " P",
@@ -49,17 +49,17 @@ impl ValueKind {
 /// An option of a job.
 #[derive(Clone, Copy)]
 pub(crate) struct JobOption<'a> {
-    /// Its name, which follows two dashes.
+    /// Its name, without the two dashes.
     pub(crate) name: &'a str,
-    /// What its value is.
+    /// The kind of its value.
     pub(crate) kind: ValueKind,
     /// Whether it must be given.
     pub(crate) required: bool,
-    /// What help says of it.
+    /// Its help text.
     pub(crate) help: &'a str,
 }
 
-/// An option that a job `needs` or `takes`: its name, what its value is, and what help says of it.
+/// An option that a job `needs` or `takes`: its name, the kind of its value, and its help text.
 macro_rules! option {
     (needs $name:literal: $kind:ident, $help:literal) => {
         JobOption { name: $name, kind: ValueKind::$kind, required: true, help: $help }
@@ -74,15 +74,14 @@ const PORT: JobOption<'static> = option!(needs "port": Port, "the port, 1024 to 
 const TURNS: JobOption<'static> =
     option!(takes "turns": Turns, "the number of turns, 1 to 1000000 [default: 10000]");
 
-const LU: JobOption<'static> =
-    option!(takes "lu": LuName, "the LU to ask for: 1 to 8 of A to Z, 0 to 9, @, # and $, the first no digit [default: any LU]");
+const LU: JobOption<'static> = option!(takes "lu": LuName,
+    "the LU to ask for: 1 to 8 of A to Z, 0 to 9, @, # and $, the first no digit [default: any LU]");
 
 const MODEL: JobOption<'static> =
     option!(takes "model": Model, "the model of the terminal, 2 to 5 [default: 2]");
 
-static SCRIPT: [JobOption<'static>; 1] = [
-    option!(takes "any-terminal": Flag, "the host serves any terminal, as that of serve does, and so doesn't rely on these, which wait"),
-];
+static SCRIPT: [JobOption<'static>; 1] = [option!(takes "any-terminal": Flag,
+    "the host serves any terminal, as that of serve does, and so doesn't rely on these, which wait")];
 
 static SHOW: [JobOption<'static>; 1] = [
     option!(takes "model": Model, "the model of the screen, 2 to 5 [default: 2]"),
@@ -94,16 +93,21 @@ static HOST: [JobOption<'static>; 2] = [PORT, TURNS];
 
 static SERVE: [JobOption<'static>; 12] = [
     option!(needs "port": ServicePort, "the port, 1 to 65535"),
-    option!(takes "listen": Address, "the IPv4 or IPv6 address to listen on; localhost is 127.0.0.1 [default: 127.0.0.1]"),
+    option!(takes "listen": Address,
+        "the IPv4 or IPv6 address to listen on; localhost is 127.0.0.1 [default: 127.0.0.1]"),
     option!(takes "panels": File, "the file that has the panels [default: INPUT]"),
     option!(takes "negotiate": Seconds, "drop a connection without a session after this time [default: 30]"),
     option!(takes "keepalive": Seconds, "test a connection that sends nothing for this time [default: 60]"),
     option!(takes "idle": Seconds, "drop a connection that sends nothing for this time [default: 0]"),
-    option!(takes "application": Url, "the application of this machine for keys that panels ask about, as http://127.0.0.1:8080/bank"),
+    option!(takes "application": Url,
+        "the application of this machine for keys that panels ask about, as http://127.0.0.1:8080/bank"),
     option!(takes "application-timeout": ReplyTime, "the time that an answer may take, 1 to 3600 [default: 30]"),
-    option!(takes "metrics": ServicePort, "the port of 127.0.0.1 that answers with metrics, 1 to 65535, not that of --port"),
-    option!(takes "own-terminals": Flag, "all terminals are this project's own, in which only the host ends the wait after a key"),
-    option!(takes "verify": Flag, "read the screen after each key, and drop a terminal that broke a rule; without --own-terminals"),
+    option!(takes "metrics": ServicePort,
+        "the port of 127.0.0.1 that answers with metrics, 1 to 65535, not that of --port"),
+    option!(takes "own-terminals": Flag,
+        "all terminals are this project's own, in which only the host ends the wait after a key"),
+    option!(takes "verify": Flag,
+        "read the screen after each key, and drop a terminal that broke a rule; without --own-terminals"),
     option!(takes "quiet": Flag, "log no connection"),
 ];
 
@@ -147,7 +151,7 @@ pub(crate) fn options_of(topic: Topic) -> &'static [JobOption<'static>]
     }
 }
 
-/// The name of the word that a job may be given without an option.
+/// The name of the operand of a job, which is a word without an option name; None if the job has none.
 pub(crate) fn operand_of<'a>(topic: Topic) -> Option<&'a str>
     ensures { option_map (λ name. name.now) result ≡ operand_of topic }
 {

@@ -1,9 +1,10 @@
-//! The words of the command line: the job that they ask for, why they are refused, and the help.
+//! The command line: the job that the arguments ask for, the refusal of others, and the help.
 //!
-//! It does no job. [`words`] makes a [`Job`](jobs::Job) of the arguments, by clap, or a [`WordFault`], which
-//! [`refuse_words`] prints; [`run_help`] prints the help of a topic. All go by one table of the jobs and their options
-//! (job_table.rt). `specs/Topics` has each job's options, `Words` which arguments give which job, `Refusals` and `Helps`
-//! how the others and a run of help end. Texts have no definitions: cases compare them.
+//! This crate runs no job. [`words`] parses the arguments with clap into a [`Job`](jobs::Job), or returns a
+//! [`WordFault`], which [`refuse_words`] prints. [`run_help`] prints the help on a topic. All use one table of the jobs
+//! and their options (job_table.rt). `specs/Topics` defines each job's options, `Words` which arguments give which job,
+//! `Refusals` the exit status of a refusal, and `Helps` how a run of help ends. Printed texts have no definitions;
+//! tests compare them.
 #![tactic(auto)]
 
 mod command_line;
@@ -12,5 +13,5 @@ mod job_table;
 mod refusal;
 
 pub use command_line::words;
-pub use help::{run_help, run_version};
+pub use help::{VERSION, run_help, run_version};
 pub use refusal::{WordFault, refuse_words};

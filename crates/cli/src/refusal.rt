@@ -1,4 +1,4 @@
-//! Why words give no job, and the lines that say so.
+//! Why arguments give no job, and the lines that say so.
 ghost use Rattle.std.specs.Prelude.{◌≡◌};
 ghost use Rattle.clap.specs.Values.{kind_of};
 ghost use Rattle.clap.specs.declared.error.kind.ErrorKind.TheVariants.{OutOfMemory};
@@ -16,7 +16,7 @@ use std::fmt;
 use thiserror::Error;
 use tn3270e_msg::Lu;
 
-/// Prints as the line that says where the help on a topic is.
+/// Prints as the line that says how to get help on a topic.
 #[derive(Clone, Copy)]
 struct SeeHelp(Topic);
 
@@ -30,7 +30,7 @@ impl fmt::Display for SeeHelp {
     }
 }
 
-/// Why words give no job. Prints as what is wrong, and where help is.
+/// Why arguments give no job. Prints as the error, and how to get help.
 #[derive(Debug, Drop, Error)]
 pub enum WordFault<'a> {
     /// Memory was refused.
@@ -39,16 +39,16 @@ pub enum WordFault<'a> {
     /// A word isn't UTF-8.
     #[error("error: a word isn't UTF-8{help}", help = SeeHelp(Topic::Program))]
     NotText,
-    /// The command line doesn't take the words, as clap says in this text.
+    /// Clap doesn't accept the arguments, and gives this text.
     #[error("{text}", text = .0.as_str().trim_end())]
     NotTaken(String),
-    /// There is no job of this name for `help` to tell of.
+    /// `help` is given a word that isn't the name of a job.
     #[error("error: unknown job '{0}'{help}", help = SeeHelp(Topic::Program))]
     UnknownJob(&'a str),
-    /// The job's option doesn't take this value.
+    /// The value of this job's option is invalid.
     #[error("error: invalid value '{2}' for '--{1}'{help}", help = SeeHelp(*.0))]
     Invalid(Topic, &'static str, &'a str),
-    /// Nothing follows `--`, which ends the options.
+    /// Nothing follows `--`, which ends the options of this job.
     #[error("error: unexpected word '--'{help}", help = SeeHelp(*.0))]
     Dashes(Topic),
     /// `--metrics` of `serve` has the port of `--port`.
@@ -71,7 +71,7 @@ impl WordFault<'_> {
     }
 }
 
-/// Why words give no job whose parse failed by an error that asks for none.
+/// The refusal of arguments whose parse failed with this error, which doesn't ask for help or the version.
 pub(crate) fn not_taken<'a>(alloc: Global, error: &clap::Error) -> WordFault<'a>
     ensures { kind_of error.now ≡ OutOfMemory → result ≡ Memory }
 {
@@ -84,7 +84,7 @@ pub(crate) fn not_taken<'a>(alloc: Global, error: &clap::Error) -> WordFault<'a>
     }
 }
 
-/// Whether a word is a value of this kind.
+/// Whether a word is a valid value of this kind.
 fn is_value(kind: ValueKind, word: &str) -> bool {
     match kind {
         ValueKind::Port => Port::read(word).is_some(),
@@ -100,8 +100,8 @@ fn is_value(kind: ValueKind, word: &str) -> bool {
     }
 }
 
-/// Why the options of a job that the command line takes are refused: the first value that isn't one, else what
-/// excludes another.
+/// Why the options of a job are refused although clap accepts them: the first invalid value, or otherwise two options
+/// that exclude each other.
 fn wrong_options<'a>(topic: Topic, options: &ArgMatches<'a>) -> WordFault<'a> {
     for option in options_of(topic) {
         if let Some(word) = options.get_str(option.name) {
@@ -119,7 +119,7 @@ fn wrong_options<'a>(topic: Topic, options: &ArgMatches<'a>) -> WordFault<'a> {
     WordFault::OnePort
 }
 
-/// Why words are refused that are parsed as these matches.
+/// Why arguments that were parsed as these matches are refused.
 pub(crate) fn refusal_of<'a>(words: &[String], matches: &ArgMatches<'a>) -> WordFault<'a> {
     match matches.subcommand() {
         Some((_, options)) if !ends_by_dashes(words) => wrong_options(topic_of(words), options),
@@ -127,7 +127,8 @@ pub(crate) fn refusal_of<'a>(words: &[String], matches: &ArgMatches<'a>) -> Word
     }
 }
 
-/// Prints why words give no job, and returns the exit status: 2, or 3 if memory was refused. Lines that can't be written are left out.
+/// Prints why arguments give no job, and returns the exit status: 2, or 3 if memory was refused. A line that can't be
+/// written is left out.
 pub fn refuse_words<E: Sink>(fault: WordFault<'_>, faults: &mut E) -> u8
     ensures { result ≡ status_of fault.entry }
 {

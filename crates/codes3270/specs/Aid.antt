@@ -1,12 +1,11 @@
--- Attention identifiers: the key that caused the terminal to send (GA23-0059-07 on attention
--- identification).
+-- Attention identifiers: the key that caused the terminal to send (GA23-0059-07 on attention identification).
 use Rattle.std.specs.Prelude.{◌==◌, ℕ, ◌+◌, ◌-◌, ◌≤◌, ⊤, List, [], ◌∷◌, ◌++◌, Bool, true, false, Option, Some, slice_index, if◌then◌else◌}
 use Rattle.std.specs.List.{range_with_len, position}
 use Rattle.std.specs.Option.{option_map, option_or}
 use Rattle.codes3270.specs.declared.attention.Aid.{Aid}
 use Rattle.codes3270.specs.declared.attention.Aid.TheVariants.{NoAid, Enter, Clear, Pf, Pa}
 
--- an identifier of a key that exists: no key, Enter, Clear, PF1 to PF24, PA1 to PA3
+-- holds if the identifier is a real one: no AID, Enter, Clear, PF1 to PF24, or PA1 to PA3
 abbrev pub IsRealAid : Aid → Type 0
 IsRealAid NoAid = ⊤
 IsRealAid Enter = ⊤
@@ -26,7 +25,7 @@ pa_codes = 0x6C ∷ 0x6E ∷ 0x6B ∷ []
 abbrev pub key_number : List ℕ → ℕ → Option ℕ
 key_number codes byte = option_map (λ place. place + 1) (position (λ code. code == byte) codes)
 
--- the byte of an identifier that is real
+-- the byte that encodes an identifier, which must be real
 abbrev pub byte_of_aid : Aid → ℕ
 byte_of_aid NoAid = 0x60
 byte_of_aid Enter = 0x7D
@@ -34,7 +33,7 @@ byte_of_aid Clear = 0x6D
 byte_of_aid (Pf number) = slice_index pf_codes (number - 1)
 byte_of_aid (Pa number) = slice_index pa_codes (number - 1)
 
--- the identifier with a byte
+-- the identifier that a byte encodes, if it encodes one
 abbrev pub aid_of : ℕ → Option Aid
 aid_of byte =
     if byte == 0x60 then Some NoAid else if byte == 0x7D then Some Enter else if byte == 0x6D then Some Clear

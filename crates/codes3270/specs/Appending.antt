@@ -10,8 +10,8 @@ module _ {A E : Type 0} (old new : Vec ℕ A) (result : Result (Unit {0}) E) (by
     pub room : OnErr result (vec_capacity old < vec_len old + length bytes)
     pub capacity : vec_capacity old ≤ vec_capacity new
 
-  -- The same for a call of several parts. If it fails, some of the bytes may remain after the old
-  -- ones.
+  -- The call appends the bytes, or fails and may leave some of them after the old ones. It fails only if the
+  -- bytes exceed the vector's capacity. The capacity never shrinks.
   pub record AppendsSome : Type 0 where
     pub ok : OnOk result (new.items ≡ old.items ++ bytes)
     pub kept : take (vec_len old) new.items ≡ old.items

@@ -2,8 +2,7 @@
 use Rattle.std.specs.Prelude.{◌==◌, ℕ, Bool, List, ◌++◌, slice_index}
 use Rattle.std.specs.List.{range_with_len, list_any}
 
--- the codes of the values 0 to 63, in order: each run of consecutive codes by its first code and
--- its length
+-- the codes of the values 0 to 63, in order: each run of consecutive codes by its first code and its length
 abbrev pub six_bit_codes : List ℕ
 six_bit_codes =
     range_with_len 0x40 1 ++ range_with_len 0xC1 9 ++ range_with_len 0x4A 6

@@ -3,14 +3,14 @@ use Rattle.std.specs.Prelude.{◌==◌, ℕ, ◌*◌, if◌then◌else◌}
 use Rattle.codes3270.specs.declared.size.Model.{Model}
 use Rattle.codes3270.specs.declared.size.Model.TheVariants.{M2, M3, M4, M5}
 
--- the rows of a screen, and the cells of a row
+-- the size of a screen: its rows, and the cells of a row
 pub record Shape : Type 0 where
   pub rows : ℕ
   pub columns : ℕ
 
 -- the number of cells of a screen
 abbrev pub cells_in : Shape → ℕ
-cells_in shape = shape.rows * shape.columns
+cells_in size = size.rows * size.columns
 
 -- the size at the start of every connection, and after Erase/Write
 abbrev pub model_2 : Shape
@@ -23,23 +23,25 @@ alternate_of M3 = record { rows = 32; columns = 80 }
 alternate_of M4 = record { rows = 43; columns = 80 }
 alternate_of M5 = record { rows = 27; columns = 132 }
 
--- The four sizes have different numbers of cells, so that such a number tells the size.
+-- the model whose alternate size has this number of cells; the four numbers are different
 abbrev pub model_with : ℕ → Model
 model_with cells = if cells == 1920 then M2 else if cells == 2560 then M3 else if cells == 3440 then M4 else M5
 
--- the most cells of a screen, those of model 5
+-- the number of cells of the largest screen, that of model 5
 abbrev pub most_cells : ℕ
 most_cells = 3564
 
--- and of a row, those of model 5, too
+-- the number of cells of the longest row, that of model 5
 abbrev pub most_columns : ℕ
 most_columns = 132
 
 -- ---- the numbers of model 2, written as numerals for the prover; by `size_laws` they are the model's
 
+-- the number of rows
 abbrev pub rows : ℕ
 rows = 24
 
+-- the number of cells of a row
 abbrev pub columns : ℕ
 columns = 80
 

@@ -141,7 +141,7 @@ impl Addr {
     }
 }
 
-/// The position at which a walk arrives that has gone round the end of the screen at most once.
+/// A position modulo the number of cells. The position must be less than twice that number.
 const fn round_the_end(position: u16, cells: u16) -> u16
     requires { position < 2 * cells }
     ensures value { result ≡ position % cells }
@@ -197,7 +197,8 @@ impl Iterator for Addrs {
 pub fn addr_to_bytes(addr: Addr) -> [u8; 2]
     ensures bytes { result ≡ address_bytes addr }
     ensures read_back { address_of (slice_index result 0) (slice_index result 1) ≡ addr }
-    ensures graphic { (is_six_bit_code (slice_index result 0) ≡ true) × (is_six_bit_code (slice_index result 1) ≡ true) }
+    ensures graphic { (is_six_bit_code (slice_index result 0) ≡ true)
+        × (is_six_bit_code (slice_index result 1) ≡ true) }
     ensures in_range { addr < most_cells }
 {
     let position = addr.position;
@@ -207,10 +208,9 @@ pub fn addr_to_bytes(addr: Addr) -> [u8; 2]
     ]
 }
 
-/// Decodes an address from two bytes (GA23-0059-07 on buffer addressing). It has fourteen bits if
-/// the top two bits of the first byte are 0. If they aren't, it has twelve: the low six bits of
-/// each byte, which needn't be a graphic code. The error is `TooLarge` if a screen of this size has
-/// no such cell.
+/// Decodes an address from two bytes (GA23-0059-07 on buffer addressing). It has fourteen bits if the top two bits of
+/// the first byte are 0. If they aren't, it has twelve: the low six bits of each byte, which needn't be a graphic code.
+/// The error is `TooLarge` if a screen of this size has no such cell.
 pub fn addr_from_bytes(bytes: [u8; 2], size: Size) -> Result<Addr, AddrFault>
     ensures { let address = address_of (slice_index bytes 0) (slice_index bytes 1) in
         MatchResult result (λ addr. (address < cells_in size) × (addr ≡ address)) (λ _. address < cells_in size → ⊥) }

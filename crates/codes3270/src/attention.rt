@@ -42,8 +42,7 @@ impl Model for PaNo {
     ghost inverse = { λ number. record { number = number } };
 }
 
-/// An attention identifier (AID): the key that caused the terminal to send (GA23-0059-07 on
-/// attention identification).
+/// An attention identifier (AID): the key that caused the terminal to send (GA23-0059-07 on attention identification).
 #[derive(Clone, Copy, Debug, PartialEq, Eq)]
 pub enum Aid {
     /// No key was pressed since the keyboard was restored.

@@ -23,13 +23,13 @@ pub enum Display {
 /// field's first character.
 #[derive(Clone, Copy, Debug, PartialEq, Eq)]
 pub struct Attr {
-    /// The operator can't change the field.
+    /// Whether the operator can't change the field.
     pub protected: bool,
-    /// The operator can type only numbers. With `protected`, the cursor skips the field.
+    /// Whether the operator can type only numbers. If `protected` is also set, the cursor skips the field.
     pub numeric: bool,
     /// How the field is displayed.
     pub display: Display,
-    /// The modified data tag (MDT): the field was modified, and Read Modified sends it.
+    /// The modified data tag (MDT): whether the field was modified. Read Modified sends fields that have it.
     pub mdt: bool,
 }
 
@@ -67,8 +67,7 @@ fn bits_of_display(display: Display) -> u8
 }
 
 impl Attr {
-    /// Decodes an attribute. Bits 80, 40 and 02 have no meaning and are ignored, so every byte
-    /// decodes.
+    /// Decodes an attribute. Bits 80, 40 and 02 have no meaning and are ignored, so every byte decodes.
     pub fn from_code(code: u8) -> Attr
         ensures { result ≡ attr_of code }
     {
@@ -122,7 +121,7 @@ impl Attr {
         self.mdt
     }
 
-    /// The same attribute with this modified data tag.
+    /// A copy of the attribute with this modified data tag.
     pub fn with_mdt(self, mdt: bool) -> Attr
         ensures { result ≡ record self { mdt = mdt } }
     {

@@ -45,8 +45,7 @@ fn place_of(character: char) -> Option<usize>
     CHARACTERS.iter().position(|c| char::from(*c) == character)
 }
 
-/// The code of a character in code page 037; `None` unless it is one of the 191 characters with the
-/// codes 40 to FE.
+/// The code of a character in code page 037; `None` unless it is one of the 191 characters with the codes 40 to FE.
 pub fn from_latin1(character: char) -> Option<u8>
     ensures code { result ≡ code_of character }
     ensures back { IfSome result (λ code. character_of code ≡ Some character) }

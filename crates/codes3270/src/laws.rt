@@ -1,4 +1,4 @@
-//! Laws of codes and sizes: each is the contract of a function that does nothing. Proofs of
+//! Laws of codes and sizes. Each is the contract of a function that does nothing. Proofs of
 //! other crates use them; no program calls them, and the root doesn't export them.
 ghost use Rattle.std.specs.Prelude.{◌≡◌, ◌*◌, ◌<◌, ◌≤◌, ◌↔◌, ℕ, Some, ◌/◌, ◌%◌};
 ghost use Rattle.codes3270.specs.Size.{rows, columns, cell_count, model_2, most_cells, cells_in};
@@ -26,8 +26,7 @@ pub const fn code_laws()
     ensures range { (code character : ℕ) → code_of character ≡ Some code → (0x40 ≤ code) × (code ≤ 0xFE) }
 {}
 
-/// Law: these constants are the numbers that contracts name, the model has these numbers, and the
-/// rows fill the screen.
+/// Law: these constants are the numbers that contracts use, they are those of a model 2, and the rows fill the screen.
 pub const fn size_laws()
     ensures rows { ROWS ≡ rows }
     ensures columns { COLUMNS ≡ columns }

@@ -2,10 +2,10 @@
 //! sizes, buffer addresses, field attributes, write control characters, attention identifiers, and
 //! characters in EBCDIC code page 037.
 //!
-//! Each code has a call that encodes and one that decodes. The encoder's contract says that its
-//! bytes decode to the same value. No call allocates. A call returns `None` or an error only if the
-//! number, byte or character has no meaning in our profile. Codes in these documents are
-//! hexadecimal.
+//! Each code has a function that encodes and one that decodes. The encoder's contract says that its
+//! bytes decode to the same value. No call allocates. A function returns `None` or an error only if the
+//! number, byte or character has no meaning in our profile. Codes in these documents are hexadecimal.
+//! Commands, orders and inbound data are the crate `datastream`'s.
 #![tactic(auto)]
 
 mod address;

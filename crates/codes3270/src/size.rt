@@ -4,19 +4,19 @@ ghost use Rattle.codes3270.specs.Size.{alternate_of, cells_in, model_2, most_cel
 
 use std::marker;
 
-/// The most cells of a screen of any model, as a length.
+/// The number of cells of the largest screen, that of model 5, as a length.
 pub const MOST_CELLS: usize = 3564;
 
-/// The most cells of a row, those of model 5's rows.
+/// The number of cells of the longest row, that of model 5.
 pub const MOST_COLUMNS: usize = 132;
 
-/// The number of rows of a model 2's screen.
+/// The number of rows of a model 2's screen (24).
 pub const ROWS: u16 = 24;
 
-/// The number of cells of a row of a model 2's screen.
+/// The number of cells of a row of a model 2's screen (80).
 pub const COLUMNS: u16 = 80;
 
-/// The number of cells of a model 2's screen.
+/// The number of cells of a model 2's screen (1920).
 pub const CELLS: u16 = ROWS * COLUMNS;
 
 /// `CELLS` as a length, for lists with an item for each cell.
@@ -58,7 +58,7 @@ impl marker::Model for Size {
 
     ghost view = { λ size. alternate_of size.model };
 
-    ghost inverse = { λ shape. record { model = model_with (cells_in shape) } };
+    ghost inverse = { λ size. record { model = model_with (cells_in size) } };
 }
 
 impl Size {
@@ -69,7 +69,7 @@ impl Size {
         Size { model: Model::M2 }
     }
 
-    /// The number of rows.
+    /// The number of rows: 24, 32, 43 or 27.
     pub const fn rows(self) -> u16
         ensures { result ≡ self.rows }
     {
@@ -81,7 +81,7 @@ impl Size {
         }
     }
 
-    /// The number of cells of a row.
+    /// The number of cells of a row: 80 or 132.
     pub const fn cols(self) -> u16
         ensures value { result ≡ self.columns }
         ensures few { result ≤ most_columns }

@@ -9,7 +9,7 @@ use Rattle.codes3270.specs.declared.attribute.Attr.{Attr as Attribute}
 use Rattle.datastream.specs.Screen.{attribute_in, last_attribute, attribute_over, protects, is_protected}
 use Rattle.datastream.specs.Span.{is_within}
 use Rattle.datastream.specs.Meaning.{erased, opened, open_unmodified}
-use Rattle.datastream.specs.Held.{Hold, hold_of, hold_under, CharHeld, AttrHeld, CellHeld, Held, erased_input}
+use Rattle.datastream.specs.KeptByKeys.{Hold, hold_of, hold_under, CharHeld, AttrHeld, CellHeld, KeptByKeys, erased_input}
 use Rattle.datastream.specs.HeldRound.{HeldFrom, HeldRound, erased_from, erased_round}
 use Rattle.datastream.proofs.Fields.{last_attribute-append, option_or-none, option_or_assoc}
 use Rattle.datastream.proofs.Places.{length-across, get_or-across}
@@ -55,7 +55,7 @@ held_from erases before (Attr left ∷ lefts) (Attr now ∷ nows) same each = (
       (λ place below. subst (λ (o : Option Attribute). CellHeld erases o (get_or lefts place (Char 0)) (get_or nows place (Char 0))) (walked_past before (Attr now) nows place) (each (suc place) (omega arith))),
 )
 
-pub held_round : (erases : Bool) (lefts nows : List Cell) → Held erases lefts nows → HeldRound erases lefts nows
+pub held_round : (erases : Bool) (lefts nows : List Cell) → KeptByKeys erases lefts nows → HeldRound erases lefts nows
 held_round erases lefts nows held =
     held_from erases (last_attribute nows) lefts nows held.same_length
     (λ place below. subst (λ (o : Option Attribute). CellHeld erases o (get_or lefts place (Char 0)) (get_or nows place (Char 0))) (over_is_walked nows place) (held.each place below))
@@ -84,7 +84,7 @@ held_at erases before (Char left ∷ lefts) (Char now ∷ nows) (suc place) held
 held_at erases before (Attr left ∷ lefts) (Attr now ∷ nows) (suc place) held below =
     subst (λ (o : Option Attribute). CellHeld erases o (get_or lefts place (Char 0)) (get_or nows place (Char 0))) (sym (walked_past before (Attr now) nows place)) (held_at erases (Some now) lefts nows place held.1 (omega arith))
 
-pub round_held : (erases : Bool) (lefts nows : List Cell) → HeldRound erases lefts nows → Held erases lefts nows
+pub round_held : (erases : Bool) (lefts nows : List Cell) → HeldRound erases lefts nows → KeptByKeys erases lefts nows
 round_held erases lefts nows held = record {
   same_length = held_length erases (hold_under erases (last_attribute nows)) lefts nows held;
   each = λ place below. subst (λ (o : Option Attribute). CellHeld erases o (get_or lefts place (Char 0)) (get_or nows place (Char 0))) (sym (over_is_walked nows place)) (held_at erases (last_attribute nows) lefts nows place held below);
@@ -178,7 +178,7 @@ erased_held before (Attr attribute ∷ cells) = (
   erased_held (Some attribute) cells,
 )
 
-pub erase_input_holds : (cells : List Cell) → Held true cells (erased_input cells)
+pub erase_input_holds : (cells : List Cell) → KeptByKeys true cells (erased_input cells)
 erase_input_holds cells =
     rw (erased_input_round cells)
     (round_held true cells (erased_round cells)
@@ -200,7 +200,7 @@ all_stay before [] = tt
 all_stay before (Char byte ∷ cells) = (char_stays before byte, all_stay before cells)
 all_stay before (Attr attribute ∷ cells) = ((refl, λ p. refl, λ p off none. off), all_stay (Some attribute) cells)
 
-pub held_at_first : (cells : List Cell) → Held false cells cells
+pub held_at_first : (cells : List Cell) → KeptByKeys false cells cells
 held_at_first cells = round_held false cells cells (all_stay (last_attribute cells) cells)
 
 -- ---- one after another
@@ -278,7 +278,7 @@ last_follows more hold (Attr y ∷ mids) (Attr z ∷ nows) held =
     either (Some mid) None follows = absurd follows
     either (Some mid) (Some now) follows = follows
 
-pub held_composes : (erases more : Bool) (lefts mids nows : List Cell) → Held erases lefts mids → Held more mids nows → Held (erases || more) lefts nows
+pub held_composes : (erases more : Bool) (lefts mids nows : List Cell) → KeptByKeys erases lefts mids → KeptByKeys more mids nows → KeptByKeys (erases || more) lefts nows
 held_composes erases more lefts mids nows first second =
     let later : HeldRound more mids nows = held_round more mids nows second in
     round_held (erases || more) lefts nows

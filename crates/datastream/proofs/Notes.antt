@@ -13,11 +13,11 @@ use Rattle.codes3270.specs.declared.attribute.Cell.TheVariants.{Char, Attr}
 use Rattle.codes3270.specs.declared.attribute.Attr.{Attr as Attribute}
 use Rattle.datastream.specs.declared.command_code.CommandCode.TheVariants.{Write}
 use Rattle.datastream.specs.declared.order.Order.{Order}
-use Rattle.datastream.specs.declared.order.Order.TheVariants.{Sf, Sba, Ic, Pt, Ra, Eua, Char as Data}
+use Rattle.datastream.specs.declared.order.Order.TheVariants.{Sf, Sba, Ic, Pt, Ra, Eua, Char as CharData}
 use Rattle.datastream.specs.Grammar.{CommandParts, IsProper}
 use Rattle.datastream.specs.Screen.{Screen, attribute_in, last_attribute, attribute_over, ring, protects, is_protected, is_char, is_char_at, places_from}
 use Rattle.datastream.specs.Meaning.{all_executed, restored, after_code, after_command}
-use Rattle.datastream.specs.Held.{Hold, hold_under, CharHeld, Held}
+use Rattle.datastream.specs.KeptByKeys.{Hold, hold_under, CharHeld, KeptByKeys}
 use Rattle.datastream.specs.HeldRound.{HeldFrom}
 use Rattle.datastream.specs.InboundFields.{IsStorableCell, IsSendable}
 use Rattle.datastream.specs.Note.{quiet, IsNoteOrder, IsNote, places_from_on, places_noted, OverCharacters, IsProtectedChar, WritesProtected}
@@ -30,7 +30,7 @@ use Rattle.datastream.proofs.HeldRounds.{held_round}
 -- what orders of a note make of cells, from an address on
 abbrev noted : ℕ → List Order → List Cell → List Cell
 noted at [] cells = cells
-noted at (Data byte ∷ orders) cells = noted ((at + 1) % length cells) orders (set cells at (Char byte))
+noted at (CharData byte ∷ orders) cells = noted ((at + 1) % length cells) orders (set cells at (Char byte))
 noted at (Sba address ∷ orders) cells = noted address orders cells
 noted at (Sf attribute ∷ orders) cells = noted at orders cells
 noted at (Ic ∷ orders) cells = noted at orders cells
@@ -43,8 +43,8 @@ screen_of cells cursor aid = record { cells = cells; cursor = cursor; aid = aid 
 
 executed_note : (orders : List Order) (after_data : Bool) (cells : List Cell) (cursor : ℕ) (aid : Aid) (at : ℕ) → All IsNoteOrder orders → (all_executed orders (record { screen = screen_of cells cursor aid; address = at; after_data = after_data })).screen ≡ screen_of (noted at orders cells) cursor aid
 executed_note [] after_data cells cursor aid at each = refl
-executed_note (Data byte ∷ orders) after_data cells cursor aid at each =
-    executed_note orders true (set cells at (Char byte)) cursor aid ((at + 1) % length cells) (All-tail IsNoteOrder (Data byte) orders each)
+executed_note (CharData byte ∷ orders) after_data cells cursor aid at each =
+    executed_note orders true (set cells at (Char byte)) cursor aid ((at + 1) % length cells) (All-tail IsNoteOrder (CharData byte) orders each)
 executed_note (Sba address ∷ orders) after_data cells cursor aid at each =
     executed_note orders false cells cursor aid address (All-tail IsNoteOrder (Sba address) orders each)
 executed_note (Sf attribute ∷ orders) after_data cells cursor aid at each = absurd (All-head IsNoteOrder (Sf attribute) orders each)
@@ -68,7 +68,7 @@ places_are size command note = ap (places_from_on size 0) note.orders
 
 length-noted : (at : ℕ) (orders : List Order) (cells : List Cell) → length (noted at orders cells) ≡ length cells
 length-noted at [] cells = refl
-length-noted at (Data byte ∷ orders) cells = length-noted ((at + 1) % length cells) orders (set cells at (Char byte)) ∙ length-set cells at (Char byte)
+length-noted at (CharData byte ∷ orders) cells = length-noted ((at + 1) % length cells) orders (set cells at (Char byte)) ∙ length-set cells at (Char byte)
 length-noted at (Sba address ∷ orders) cells = length-noted address orders cells
 length-noted at (Sf attribute ∷ orders) cells = length-noted at orders cells
 length-noted at (Ic ∷ orders) cells = length-noted at orders cells
@@ -80,7 +80,7 @@ length-noted at (Eua stop ∷ orders) cells = length-noted at orders cells
 module _ (P : List Cell → Type 0) (At : ℕ → Type 0) (size : ℕ) (sized : (cells : List Cell) → P cells → length cells ≡ size) (stores : (cells : List Cell) (at byte : ℕ) → At at → P cells → P (set cells at (Char byte))) where
   noted_keeps : (at : ℕ) (orders : List Order) (cells : List Cell) → All At (places_from_on size at orders) → P cells → P (noted at orders cells)
   noted_keeps at [] cells each holds = holds
-  noted_keeps at (Data byte ∷ orders) cells each holds =
+  noted_keeps at (CharData byte ∷ orders) cells each holds =
       subst (λ (n : ℕ). P (noted ((at + 1) % n) orders (set cells at (Char byte)))) (sym (sized cells holds))
       (noted_keeps ((at + 1) % size) orders (set cells at (Char byte)) (All-tail At at (places_from_on size ((at + 1) % size) orders) each)
       (stores cells at byte (All-head At at (places_from_on size ((at + 1) % size) orders) each) holds))
@@ -211,7 +211,7 @@ stored_held : (erased : Bool) (over : Option Attribute) (byte : ℕ) → protect
 stored_held erased None byte is = tt
 stored_held erased (Some attribute) byte is = rw is refl
 
-held_set : (erased : Bool) (lefts nows : List Cell) (at byte : ℕ) → IsProtectedChar nows at → Held erased lefts nows → Held erased (set lefts at (Char byte)) (set nows at (Char byte))
+held_set : (erased : Bool) (lefts nows : List Cell) (at byte : ℕ) → IsProtectedChar nows at → KeptByKeys erased lefts nows → KeptByKeys erased (set lefts at (Char byte)) (set nows at (Char byte))
 held_set erased lefts nows at byte is held =
     let new_lefts : List Cell = set lefts at (Char byte) in
     let new_nows : List Cell = set nows at (Char byte) in
@@ -282,9 +282,9 @@ keeps_form command screen over =
 
 storable_noted : (size : ℕ) (at : ℕ) (orders : List Order) (cells : List Cell) → All (IsProper size) orders → All IsStorableCell cells → All IsStorableCell (noted at orders cells)
 storable_noted size at [] cells proper storable = storable
-storable_noted size at (Data byte ∷ orders) cells proper storable =
-    storable_noted size ((at + 1) % length cells) orders (set cells at (Char byte)) (All-tail (IsProper size) (Data byte) orders proper)
-    (All-set IsStorableCell cells at (Char byte) (All-head (IsProper size) (Data byte) orders proper) storable)
+storable_noted size at (CharData byte ∷ orders) cells proper storable =
+    storable_noted size ((at + 1) % length cells) orders (set cells at (Char byte)) (All-tail (IsProper size) (CharData byte) orders proper)
+    (All-set IsStorableCell cells at (Char byte) (All-head (IsProper size) (CharData byte) orders proper) storable)
 storable_noted size at (Sba address ∷ orders) cells proper storable = storable_noted size address orders cells (All-tail (IsProper size) (Sba address) orders proper) storable
 storable_noted size at (Sf attribute ∷ orders) cells proper storable = storable_noted size at orders cells (All-tail (IsProper size) (Sf attribute) orders proper) storable
 storable_noted size at (Ic ∷ orders) cells proper storable = storable_noted size at orders cells (All-tail (IsProper size) Ic orders proper) storable
@@ -317,12 +317,12 @@ guards_held erased hold (Attr left ∷ lefts) (Attr now ∷ nows) held =
     let here : left.protected ≡ now.protected = sym (ap (λ (a : Attribute). a.protected) held.0.0) in
     rw (here, guards_held erased _ lefts nows held.1)
 
-same_guards_held : (erased : Bool) (lefts nows : List Cell) → Held erased lefts nows → map guard lefts ≡ map guard nows
+same_guards_held : (erased : Bool) (lefts nows : List Cell) → KeptByKeys erased lefts nows → map guard lefts ≡ map guard nows
 same_guards_held erased lefts nows held = guards_held erased _ lefts nows (held_round erased lefts nows held)
 
-both_noted : (erased : Bool) (at : ℕ) (orders : List Order) (lefts nows : List Cell) → All (IsProtectedChar nows) (places_from_on (length nows) at orders) → Held erased lefts nows → Held erased (noted at orders lefts) (noted at orders nows)
+both_noted : (erased : Bool) (at : ℕ) (orders : List Order) (lefts nows : List Cell) → All (IsProtectedChar nows) (places_from_on (length nows) at orders) → KeptByKeys erased lefts nows → KeptByKeys erased (noted at orders lefts) (noted at orders nows)
 both_noted erased at [] lefts nows each held = held
-both_noted erased at (Data byte ∷ orders) lefts nows each held =
+both_noted erased at (CharData byte ∷ orders) lefts nows each held =
     let next : ℕ = (at + 1) % length nows in
     let new_lefts : List Cell = set lefts at (Char byte) in
     let new_nows : List Cell = set nows at (Char byte) in
@@ -330,7 +330,7 @@ both_noted erased at (Data byte ∷ orders) lefts nows each held =
     let others : All (IsProtectedChar nows) (places_from_on (length nows) next orders) = All-tail (IsProtectedChar nows) at (places_from_on (length nows) next orders) each in
     let same : map guard nows ≡ map guard new_nows = sym (same_guards new_nows nows (attributes_set nows at byte is.character)) in
     let still : All (IsProtectedChar new_nows) (places_from_on (length nows) next orders) = All-weaker (IsProtectedChar nows) (IsProtectedChar new_nows) (still_protected_char nows new_nows same) (places_from_on (length nows) next orders) others in
-    subst (λ (n : ℕ). Held erased (noted ((at + 1) % n) orders new_lefts) (noted next orders new_nows)) held.same_length
+    subst (λ (n : ℕ). KeptByKeys erased (noted ((at + 1) % n) orders new_lefts) (noted next orders new_nows)) held.same_length
     (both_noted erased next orders new_lefts new_nows
     (subst (λ (n : ℕ). All (IsProtectedChar new_nows) (places_from_on n next orders)) (sym (length-set nows at (Char byte))) still)
     (held_set erased lefts nows at byte is held))

@@ -1,5 +1,5 @@
--- What bytes spell commands of the 3270 data stream (GA23-0059-07, "3270 Data Stream Commands" and "Buffer Control Orders
--- and Order Codes"), and where others go wrong, in reading order (our profile).
+-- Which bytes are commands of the 3270 data stream (GA23-0059-07, "3270 Data Stream Commands" and "Buffer Control
+-- Orders and Order Codes"), and which fault others have, in reading order (our profile).
 use Rattle.std.specs.Prelude.{◌≡◌, ℕ, ◌<◌, ◌≤◌, List, [], ◌∷◌, ◌++◌, length, Bool, true, false, ◌==◌, ◌||◌, ◌⊎◌, Option, Some, None}
 use Rattle.codes3270.specs.Size.{Shape, cells_in, model_2}
 use Rattle.codes3270.specs.Address.{address_of}
@@ -35,24 +35,27 @@ repeat_to_address = 0x3C
 abbrev pub erase_unprotected_to_address : ℕ
 erase_unprotected_to_address = 0x12
 
--- In what follows, `size` is the number of cells of the screen that the orders act on.
+-- Below, `size` is the number of cells of the screen that the orders act on.
 
--- two bytes stand for an address
+-- holds if two bytes encode an address, and it is on the screen
 abbrev pub IsAddress : ℕ → ℕ → ℕ → ℕ → Type 0
 IsAddress size high low address = (address ≡ address_of high low) × (address < size)
 
--- the bytes that stand for an order
+-- holds if the bytes encode an order
 abbrev pub IsOrder : ℕ → Order → List ℕ → Type 0
 IsOrder size (Char char) bytes = (is_storable char ≡ true) × (bytes ≡ char ∷ [])
 IsOrder size (Sf attr) bytes = (code : ℕ) × (attr ≡ attr_of code) × (bytes ≡ start_field ∷ code ∷ [])
-IsOrder size (Sba address) bytes = (high low : ℕ) × IsAddress size high low address × (bytes ≡ set_buffer_address ∷ high ∷ low ∷ [])
+IsOrder size (Sba address) bytes = (high low : ℕ) × IsAddress size high low address
+    × (bytes ≡ set_buffer_address ∷ high ∷ low ∷ [])
 IsOrder size Ic bytes = bytes ≡ insert_cursor ∷ []
 IsOrder size Pt bytes = bytes ≡ program_tab ∷ []
 IsOrder size (Ra stop char) bytes =
-    (high low : ℕ) × IsAddress size high low stop × (is_storable char ≡ true) × (bytes ≡ repeat_to_address ∷ high ∷ low ∷ char ∷ [])
-IsOrder size (Eua stop) bytes = (high low : ℕ) × IsAddress size high low stop × (bytes ≡ erase_unprotected_to_address ∷ high ∷ low ∷ [])
+    (high low : ℕ) × IsAddress size high low stop × (is_storable char ≡ true)
+    × (bytes ≡ repeat_to_address ∷ high ∷ low ∷ char ∷ [])
+IsOrder size (Eua stop) bytes = (high low : ℕ) × IsAddress size high low stop
+    × (bytes ≡ erase_unprotected_to_address ∷ high ∷ low ∷ [])
 
--- an order's addresses and characters are in their ranges
+-- holds if an order's addresses are on the screen and its characters are storable
 abbrev pub IsProper : ℕ → Order → Type 0
 IsProper size (Char char) = is_storable char ≡ true
 IsProper size (Sf attr) = Unit {0}
@@ -62,21 +65,21 @@ IsProper size Pt = Unit {0}
 IsProper size (Ra stop char) = (stop < size) × (is_storable char ≡ true)
 IsProper size (Eua stop) = stop < size
 
--- the bytes that stand for orders, one after the other
+-- holds if the bytes encode these orders, one after another
 abbrev pub AreOrders : ℕ → List Order → List ℕ → Type 0
 AreOrders size [] bytes = bytes ≡ []
 AreOrders size (order ∷ orders) bytes =
     (front back : List ℕ) × IsOrder size order front × AreOrders size orders back × (bytes ≡ front ++ back)
 
--- the orders that have an address behind their code
+-- whether an order with this code has an address
 abbrev pub has_address : ℕ → Bool
 has_address code = code == set_buffer_address || code == erase_unprotected_to_address || code == repeat_to_address
 
--- the codes of orders
+-- whether a byte is an order's code
 abbrev pub is_order_code : ℕ → Bool
 is_order_code code = has_address code || code == start_field || code == insert_cursor || code == program_tab
 
--- What stands where an order should, and is none: the fault that a reader from left to right meets first (our profile).
+-- holds if the bytes don't begin with an order, and this is the first fault in them from left to right (our profile)
 pub data IsNoOrder (size : ℕ) (fault : CommandFault) (bytes : List ℕ) : Type 0 where
   unknown_code : (code : ℕ) (more : List ℕ) → is_order_code code ≡ false → is_storable code ≡ false
       → fault ≡ BadOrder → bytes ≡ code ∷ more → IsNoOrder size fault bytes
@@ -90,20 +93,21 @@ pub data IsNoOrder (size : ℕ) (fault : CommandFault) (bytes : List ℕ) : Type
   unstorable_character : (high low char : ℕ) (more : List ℕ) → address_of high low < size → is_storable char ≡ false
       → fault ≡ BadOrder → bytes ≡ repeat_to_address ∷ high ∷ low ∷ char ∷ more → IsNoOrder size fault bytes
 
--- the text is orders up to a place where none stands, and this is the fault there (our profile)
+-- holds if the text is some orders and then bytes that have this fault (our profile)
 abbrev pub HasFault : ℕ → CommandFault → List ℕ → Type 0
-HasFault size fault text = (orders : List Order) × (front back : List ℕ) × AreOrders size orders front × IsNoOrder size fault back × (text ≡ front ++ back)
+HasFault size fault text = (orders : List Order) × (front back : List ℕ) × AreOrders size orders front
+    × IsNoOrder size fault back × (text ≡ front ++ back)
 
 -- ---- commands (GA23-0059-07, "3270 Data Stream Commands")
 
--- what a command says, and the size that the screen has after it
+-- the content of a command, and the size that the screen has after it
 pub record CommandParts : Type 0 where
   pub code : CommandCode
   pub size : Shape
   pub wcc : Option Wcc
   pub orders : List Order
 
--- the two codes of each command, of which the second is sent
+-- the two codes of each command; a writer sends the second
 abbrev pub codes_of : CommandCode → ℕ × ℕ
 codes_of Write = (0x01, 0xF1)
 codes_of EraseWrite = (0x05, 0xF5)
@@ -113,6 +117,7 @@ codes_of ReadModified = (0x06, 0xF6)
 codes_of ReadModifiedAll = (0x0E, 0x6E)
 codes_of EraseAllUnprotected = (0x0F, 0x6F)
 
+-- holds if a byte is one of the command's two codes
 abbrev pub IsCode : CommandCode → ℕ → Type 0
 IsCode code byte = (byte ≡ (codes_of code).0) ⊎ (byte ≡ (codes_of code).1)
 
@@ -126,9 +131,8 @@ is_write ReadModified = false
 is_write ReadModifiedAll = false
 is_write EraseAllUnprotected = false
 
--- The size that a screen has after a command: Erase/Write sets the size that all models have, Erase/Write Alternate the
--- alternate size, and the others keep the size that the screen has now (GA23-0059-07 on Erase/Write and on Erase/Write
--- Alternate).
+-- The size of a screen after a command: Erase/Write sets 24 rows of 80 columns, Erase/Write Alternate the alternate
+-- size, and the others keep the present size `now` (GA23-0059-07 on Erase/Write and on Erase/Write Alternate).
 abbrev pub size_after : CommandCode → Shape → Shape → Shape
 size_after Write now alternate = now
 size_after EraseWrite now alternate = model_2
@@ -138,8 +142,8 @@ size_after ReadModified now alternate = now
 size_after ReadModifiedAll now alternate = now
 size_after EraseAllUnprotected now alternate = now
 
--- The bytes spell the command for a screen of these two sizes. Its addresses are judged by the size that holds after the
--- erase (our profile).
+-- Holds if the bytes encode the command, for a screen of these two sizes. Addresses are checked against the size after
+-- the erase (our profile).
 pub data IsCommand (now alternate : Shape) (command : CommandParts) (bytes : List ℕ) : Type 0 where
   write : (byte wcc : ℕ) (text : List ℕ) → is_write command.code ≡ true → IsCode command.code byte
       → command.size ≡ size_after command.code now alternate
@@ -150,11 +154,11 @@ pub data IsCommand (now alternate : Shape) (command : CommandParts) (bytes : Lis
       → command.wcc ≡ None → command.orders ≡ []
       → bytes ≡ byte ∷ ignored → IsCommand now alternate command bytes
 
--- some bytes spell the command, for a screen of some sizes
+-- holds if some bytes encode the command, for a screen of some sizes
 abbrev pub IsSpelt : CommandParts → Type 0
 IsSpelt command = (now alternate : Shape) × (bytes : List ℕ) × IsCommand now alternate command bytes
 
--- the bytes spell no command for a screen of these two sizes, and this is the first fault in them (our profile)
+-- holds if the bytes encode no command for screens of these sizes, and this is the first fault in them (our profile)
 pub data IsNoCommand (now alternate : Shape) (fault : CommandFault) (bytes : List ℕ) : Type 0 where
   no_bytes : fault ≡ Truncated → bytes ≡ [] → IsNoCommand now alternate fault bytes
   unknown_command : (byte : ℕ) (more : List ℕ) → ((code : CommandCode) → IsCode code byte → ⊥)
@@ -162,4 +166,5 @@ pub data IsNoCommand (now alternate : Shape) (fault : CommandFault) (bytes : Lis
   no_wcc : (code : CommandCode) (byte : ℕ) → is_write code ≡ true → IsCode code byte
       → fault ≡ Truncated → bytes ≡ byte ∷ [] → IsNoCommand now alternate fault bytes
   no_order : (code : CommandCode) (byte wcc : ℕ) (text : List ℕ) → is_write code ≡ true → IsCode code byte
-      → HasFault (cells_in (size_after code now alternate)) fault text → bytes ≡ byte ∷ wcc ∷ text → IsNoCommand now alternate fault bytes
+      → HasFault (cells_in (size_after code now alternate)) fault text → bytes ≡ byte ∷ wcc ∷ text
+      → IsNoCommand now alternate fault bytes

@@ -1,21 +1,22 @@
--- What keys keep (our profile): by place and by a walk it is the same, and what several keys keep one after another.
+-- What operator keys keep (our profile): two equal definitions, and how several keys compose.
 use Rattle.std.specs.Prelude.{◌↔◌, ◌||◌, Bool, true, false, List}
 use Rattle.codes3270.specs.declared.attribute.Cell.{Cell}
-use Rattle.datastream.specs.Held.{Held, erased_input}
+use Rattle.datastream.specs.KeptByKeys.{KeptByKeys, erased_input}
 use Rattle.datastream.specs.HeldRound.{HeldRound}
 
--- The relation place by place is the one that a walk from address 0 sees.
+-- The definition by address equals the one by a walk from address 0.
 abbrev pub HeldIsRound : Type 0
-HeldIsRound = (erased : Bool) (left now : List Cell) → Held erased left now ↔ HeldRound erased left now
+HeldIsRound = (erased : Bool) (left now : List Cell) → KeptByKeys erased left now ↔ HeldRound erased left now
 
--- What was left is held at first.
+-- Before any key, the screen is the one that the write left.
 abbrev pub HeldAtFirst : Type 0
-HeldAtFirst = (cells : List Cell) → Held false cells cells
+HeldAtFirst = (cells : List Cell) → KeptByKeys false cells cells
 
--- What keys keep of a screen on which others kept what was left, all of them keep of what was left.
+-- If some keys kept a screen and others kept the result, then all of them together kept the first screen.
 abbrev pub HeldComposes : Type 0
-HeldComposes = (erased more : Bool) (left mid now : List Cell) → Held erased left mid → Held more mid now → Held (erased || more) left now
+HeldComposes = (erased more : Bool) (left mid now : List Cell) → KeptByKeys erased left mid → KeptByKeys more mid now
+    → KeptByKeys (erased || more) left now
 
--- Erase Input keeps what is said of it.
+-- Erase Input makes only the changes that `KeptByKeys true` allows.
 abbrev pub EraseInputHolds : Type 0
-EraseInputHolds = (cells : List Cell) → Held true cells (erased_input cells)
+EraseInputHolds = (cells : List Cell) → KeptByKeys true cells (erased_input cells)

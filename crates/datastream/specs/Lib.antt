@@ -7,7 +7,7 @@ pub mod Span
 pub mod SpanLaws
 pub mod Meaning
 pub mod Inbound
-pub mod Held
+pub mod KeptByKeys
 pub mod HeldRound
 pub mod HeldLaws
 pub mod Note

@@ -1,22 +1,22 @@
--- Notes (our profile): Writes that put characters over characters from an address that an SBA gives, and do nothing else: a
--- write control character that asks for nothing (GA23-0059-07, "Write Control Character (WCC)"), and no orders that store
+-- Notes (our profile): a note is a Write that replaces characters by characters and does nothing else. It begins with
+-- an SBA, its WCC has no bit set (GA23-0059-07, "Write Control Character (WCC)"), and its orders don't store
 -- attributes, move the cursor, tab, repeat or erase (GA23-0059-07, "Buffer Control Orders and Order Codes").
 use Rattle.std.specs.Prelude.{◌≡◌, ⊤, ◌+◌, ◌%◌, ◌<◌, ℕ, true, false, List, [], ◌∷◌, All, length, Some}
 use Rattle.codes3270.specs.declared.attribute.Cell.{Cell}
 use Rattle.codes3270.specs.declared.write_control.Wcc.{Wcc}
 use Rattle.datastream.specs.declared.order.Order.{Order}
-use Rattle.datastream.specs.declared.order.Order.TheVariants.{Sf, Sba, Ic, Pt, Ra, Eua, Char as Data}
+use Rattle.datastream.specs.declared.order.Order.TheVariants.{Sf, Sba, Ic, Pt, Ra, Eua, Char as CharData}
 use Rattle.datastream.specs.declared.command_code.CommandCode.TheVariants.{Write}
 use Rattle.datastream.specs.Grammar.{CommandParts}
 use Rattle.datastream.specs.Screen.{is_char_at, is_protected}
 
--- MDT bits, the keyboard and the alarm are left alone
+-- the WCC that leaves MDT, the keyboard and the alarm alone
 abbrev pub quiet : Wcc
 quiet = record { alarm = false; restore = false; reset = false }
 
--- an order that sets the address, or stores a character
+-- holds if an order sets the buffer address or stores a character
 abbrev pub IsNoteOrder : Order → Type 0
-IsNoteOrder (Data byte) = ⊤
+IsNoteOrder (CharData byte) = ⊤
 IsNoteOrder (Sba address) = ⊤
 IsNoteOrder (Sf attribute) = ⊥
 IsNoteOrder Ic = ⊥
@@ -24,7 +24,7 @@ IsNoteOrder Pt = ⊥
 IsNoteOrder (Ra stop byte) = ⊥
 IsNoteOrder (Eua stop) = ⊥
 
--- an SBA comes first, so that the cursor's place doesn't matter
+-- holds if a command is a note; its first order is an SBA, so the cursor's address doesn't matter
 pub record IsNote (command : CommandParts) : Type 0 where
   pub first : ℕ
   pub others : List Order
@@ -33,9 +33,9 @@ pub record IsNote (command : CommandParts) : Type 0 where
   pub orders : command.orders ≡ Sba first ∷ others
   pub each : All IsNoteOrder others
 
--- the address behind an order of a note, on a screen of this size: each character advances it, round the end
+-- the buffer address after an order of a note; each character advances it, round the end of a screen of `size` cells
 abbrev pub address_behind : ℕ → ℕ → Order → ℕ
-address_behind size at (Data byte) = (at + 1) % size
+address_behind size at (CharData byte) = (at + 1) % size
 address_behind size at (Sba address) = address
 address_behind size at (Sf attribute) = at
 address_behind size at Ic = at
@@ -43,9 +43,9 @@ address_behind size at Pt = at
 address_behind size at (Ra stop byte) = at
 address_behind size at (Eua stop) = at
 
--- an order that stores a character does so at this address
+-- the places, with this address in front if the order stores a character
 abbrev pub and_place : Order → ℕ → List ℕ → List ℕ
-and_place (Data byte) at places = at ∷ places
+and_place (CharData byte) at places = at ∷ places
 and_place (Sba address) at places = places
 and_place (Sf attribute) at places = places
 and_place Ic at places = places
@@ -53,27 +53,27 @@ and_place Pt at places = places
 and_place (Ra stop byte) at places = places
 and_place (Eua stop) at places = places
 
--- where the orders of a note store characters, from an address on
+-- the addresses at which the orders of a note store characters, if the buffer address is `at` before them
 abbrev pub places_from_on : ℕ → ℕ → List Order → List ℕ
 places_from_on size at [] = []
 places_from_on size at (order ∷ orders) = and_place order at (places_from_on size (address_behind size at order) orders)
 
--- where a note stores characters on a screen of this size; its SBA sets the address, whatever that was
+-- the addresses at which a note stores characters, on a screen with `size` cells; its SBA sets the first one
 abbrev pub places_noted : ℕ → CommandParts → List ℕ
 places_noted size command = places_from_on size 0 command.orders
 
--- a note that is written over characters alone
+-- holds if the command is a note, and stores its characters only in cells that have characters
 pub record OverCharacters (command : CommandParts) (cells : List Cell) : Type 0 where
   pub note : IsNote command
   pub each : All (λ at. is_char_at cells at ≡ true) (places_noted (length cells) command)
 
--- a cell of the screen that holds a character of a protected field
+-- holds if the cell at an address has a character of a protected field
 pub record IsProtectedChar (cells : List Cell) (at : ℕ) : Type 0 where
   pub inside : at < length cells
   pub character : is_char_at cells at ≡ true
   pub protected : is_protected cells at ≡ true
 
--- a note that is written over characters of protected fields alone
+-- holds if the command is a note, and stores its characters only in cells that have characters of protected fields
 pub record WritesProtected (command : CommandParts) (cells : List Cell) : Type 0 where
   pub note : IsNote command
   pub each : All (IsProtectedChar cells) (places_noted (length cells) command)

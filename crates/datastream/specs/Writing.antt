@@ -1,5 +1,5 @@
--- What writing appends: the bytes of orders and commands (GA23-0059-07, "3270 Data Stream Commands" and "Buffer Control Orders
--- and Order Codes"). The calls, and what one leaves that is refused, are our profile.
+-- What a writer appends: the bytes of orders and commands (GA23-0059-07, "3270 Data Stream Commands" and "Buffer
+-- Control Orders and Order Codes"). The calls, and what a failed call leaves, are our profile.
 use Rattle.std.specs.Prelude.{◌≡◌, ℕ, List, [], ◌∷◌, ◌++◌, map, All, Some, None, Result, if◌then◌else◌, Vec}
 use Rattle.std.specs.Borrow.{MutBor}
 use Rattle.std.specs.List.{flat_map}
@@ -25,6 +25,7 @@ order_bytes Pt = program_tab ∷ []
 order_bytes (Ra stop char) = repeat_to_address ∷ address_bytes stop ++ char ∷ []
 order_bytes (Eua stop) = erase_unprotected_to_address ∷ address_bytes stop
 
+-- the bytes of orders, one after another
 abbrev pub orders_bytes : List Order → List ℕ
 orders_bytes orders = flat_map order_bytes orders
 
@@ -32,12 +33,13 @@ orders_bytes orders = flat_map order_bytes orders
 abbrev pub command_start : CommandCode → Wcc → List ℕ
 command_start code wcc = (codes_of code).1 ∷ (if is_write code then wcc_byte wcc ∷ [] else [])
 
--- the bytes that a write is written as
+-- the bytes of a write
 abbrev pub write_bytes : CommandCode → Wcc → List Order → List ℕ
 write_bytes code wcc orders = (codes_of code).1 ∷ wcc_byte wcc ∷ orders_bytes orders
 
--- a call appended the bytes to the writer's vector, or was refused and changed nothing
-pub record Writes {A E : Type 0} (old new : MutBor (Vec ℕ A)) (result : Result (Unit {0}) E) (bytes : List ℕ) : Type 0 where
+-- holds if a call appended the bytes to the writer's vector, or failed and changed nothing
+pub record Writes {A E : Type 0} (old new : MutBor (Vec ℕ A)) (result : Result (Unit {0}) E)
+    (bytes : List ℕ) : Type 0 where
   pub same_vector : new.ghost_name ≡ old.ghost_name
   pub appends : Appends old.now new.now result bytes
 
@@ -57,7 +59,7 @@ orders_of (chars text) = map (λ char. Char char) text
 orders_of (ra stop char) = Ra stop char ∷ []
 orders_of ic = Ic ∷ []
 
--- what has to hold of a call: addresses are on the screen, which has `size` cells, and characters storable
+-- holds if a call is allowed: its addresses are on the screen, which has `size` cells, and its characters are storable
 abbrev pub IsAllowed : ℕ → Call → Type 0
 IsAllowed size call = All (IsProper size) (orders_of call)
 
@@ -65,11 +67,11 @@ IsAllowed size call = All (IsProper size) (orders_of call)
 abbrev pub call_bytes : Call → List ℕ
 call_bytes call = orders_bytes (orders_of call)
 
--- the bytes of a command: `begin`, and the calls after it
+-- the bytes of a command: those of `begin`, and those of the calls after it
 abbrev pub command_bytes : CommandCode → Wcc → List Call → List ℕ
 command_bytes code wcc calls = command_start code wcc ++ flat_map call_bytes calls
 
--- the command that these calls name, for a screen that has this size after it: where it is no write, no more than its code
+-- the command that these calls name, for a screen that has this size after it; if it is no write, its code alone
 abbrev pub command_of_calls : Shape → CommandCode → Wcc → List Call → CommandParts
 command_of_calls size code wcc calls =
     if is_write code then record { code = code; size = size; wcc = Some wcc; orders = flat_map orders_of calls }

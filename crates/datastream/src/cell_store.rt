@@ -1,5 +1,5 @@
-//! What the screens of this and other crates are kept in, whatever their size: a cell in two bytes, the cells
-//! of a screen in a byte and a bit each, a bit for each cell, and walks over cells round the end.
+//! How this and other crates store a screen of any size: one cell in two bytes, all cells in a byte and a bit each,
+//! one bit per cell, and an iterator over cells that wraps round at the end.
 
 mod cell_bits;
 mod packed_cell;

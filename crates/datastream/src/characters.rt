@@ -1,4 +1,4 @@
-//! Characters one behind the other, looked at eight at a time.
+//! Runs of characters, scanned eight bytes at a time.
 ghost use Rattle.std.specs.Prelude.{◌≡◌, ◌≤◌, ◌<◌, ◌%◌, ◌/◌, ℕ, true, IsTrue, List, length, drop, slice_index_or};
 ghost use Rattle.std.specs.List.{prefix_len};
 ghost use Rattle.codes3270.specs.Storable.{is_storable};
@@ -13,7 +13,7 @@ use codes3270::storable;
 /// Bit 40 of each byte of a word.
 const BITS_40: u64 = 0x4040_4040_4040_4040;
 
-/// Eight bytes as a word, of which the first is the lowest.
+/// Eight bytes as a word. The first byte is the lowest.
 fn word_of(bytes: [u8; 8]) -> u64
     ensures { result ≡ word bytes }
 {
@@ -28,11 +28,12 @@ fn word_of(bytes: [u8; 8]) -> u64
         + u64::from(h) * 0x100_0000_0000_0000
 }
 
-/// How many bytes of a word are 40 or above before the first that isn't.
+/// The number of bytes of a word, from the lowest on, that are X'40' or above before the first that is below.
 #[inline(always)]
 fn count_high(word: u64) -> usize
     ensures few { result ≤ 8 }
-    ensures high { (bytes : List ℕ) → IsWordOf bytes word → (place : ℕ) → place < result → 0x40 ≤ slice_index_or bytes place 0 }
+    ensures high { (bytes : List ℕ) → IsWordOf bytes word → (place : ℕ) → place < result
+        → 0x40 ≤ slice_index_or bytes place 0 }
 {
     let low = !(word | word >> 1) & BITS_40;
     if low == 0 {
@@ -42,7 +43,7 @@ fn count_high(word: u64) -> usize
     }
 }
 
-/// How many of the first eight bytes are 40 or above before the first that isn't; none if there are fewer bytes.
+/// The number of bytes at the front, at most eight, that are X'40' or above; 0 if there are fewer than eight bytes.
 #[inline(always)]
 fn count_in_word(text: &[u8]) -> usize
     ensures bound { result ≤ length text.now }
@@ -54,7 +55,7 @@ fn count_in_word(text: &[u8]) -> usize
     }
 }
 
-/// The bytes from a place on.
+/// The bytes from an index on.
 #[inline(always)]
 fn bytes_from(text: &[u8], place: usize) -> &[u8]
     requires { place ≤ length text.now }
@@ -63,7 +64,7 @@ fn bytes_from(text: &[u8], place: usize) -> &[u8]
     &text[place..]
 }
 
-/// What is left of a text behind some of its first characters, none of which is null.
+/// The rest of a text after some of its leading characters. None of those passed over is null.
 #[inline(always)]
 pub(crate) fn behind_words(text: &[u8]) -> &[u8]
     ensures { PassesText text.now result.now }
@@ -77,7 +78,7 @@ pub(crate) fn behind_words(text: &[u8]) -> &[u8]
     bytes_from(rest, count)
 }
 
-/// Whether a cell can hold a byte as a character. Start Field mostly comes behind a run of characters, so it is tested first.
+/// Whether a cell can hold a byte as a character. A run mostly ends at Start Field, so that is tested first.
 #[inline(always)]
 fn is_character(byte: u8) -> bool
     ensures { result ≡ is_storable byte }
@@ -85,7 +86,7 @@ fn is_character(byte: u8) -> bool
     byte != START_FIELD && storable(byte)
 }
 
-/// Whether the first byte of a word is 40 or above, and the second is Start Field.
+/// Whether the first byte of a word is X'40' or above, and the second is Start Field.
 #[inline(always)]
 fn is_high_before_field(word: u64) -> bool
     ensures { IsTrue result → (0x40 ≤ word % 0x100) × (word % 0x1_0000 / 0x100 ≡ start_field) }
@@ -93,7 +94,7 @@ fn is_high_before_field(word: u64) -> bool
     word % 0x1_0000 / 0x100 == u64::from(START_FIELD) && word % 0x100 >= 0x40
 }
 
-/// Whether a text of eight bytes or more begins with one character, and Start Field next.
+/// Whether a text of eight bytes or more begins with exactly one character, followed by Start Field.
 #[inline(always)]
 fn has_one_character(text: &[u8]) -> bool
     ensures some { IsTrue result → 1 ≤ length text.now }
@@ -107,7 +108,7 @@ fn has_one_character(text: &[u8]) -> bool
     }
 }
 
-/// What is left of a text behind its first characters. Fields of one character are frequent where fields are many.
+/// The rest of a text after all its leading characters. A single character has a fast case: short fields are frequent.
 #[inline(always)]
 pub(crate) fn behind_characters(text: &[u8]) -> &[u8]
     ensures { result.now ≡ drop (prefix_len is_storable text.now) text.now }
@@ -119,7 +120,7 @@ pub(crate) fn behind_characters(text: &[u8]) -> &[u8]
     }
 }
 
-/// The same, at any number of characters.
+/// The rest of a text after all its leading characters, however many there are.
 #[inline(always)]
 fn behind_run(text: &[u8]) -> &[u8]
     ensures { result.now ≡ drop (prefix_len is_storable text.now) text.now }
@@ -134,13 +135,13 @@ fn behind_run(text: &[u8]) -> &[u8]
     rest
 }
 
-/// How many characters come before the first byte that is none.
+/// The number of leading bytes that are characters.
 #[inline(always)]
 pub(crate) fn count_characters(text: &[u8]) -> usize
     ensures value { result ≡ prefix_len is_storable text.now }
     ensures bound { result ≤ length text.now }
 {
-    // One character has its own case here, too, so that callers need not test for it again.
+    // The fast case for one character is here too, so that callers need not test for it.
     if has_one_character(text) {
         1
     } else {

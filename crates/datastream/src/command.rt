@@ -12,7 +12,7 @@ use crate::orders::{Orders, byte_of, order_of};
 use codes3270::{Size, Wcc};
 use std::marker::Model;
 
-/// A command (GA23-0059-07, "3270 Data Stream Commands"), lent from its bytes. Contracts see its code, the size that
+/// A command (GA23-0059-07, "3270 Data Stream Commands") that borrows its bytes. Contracts see its code, the size that
 /// the screen has after it, its write control character and its orders.
 #[derive(Drop)]
 pub struct Command<'a> {
@@ -29,22 +29,32 @@ impl<'a> Model for Command<'a> {
 
     ghost Value = { CommandParts };
 
-    ghost view = { λ command. record { code = command.code; size = command.size; wcc = command.wcc; orders = orders_in (cells_in command.size) command.text.now } };
+    ghost view = { λ command. record {
+      code = command.code;
+      size = command.size;
+      wcc = command.wcc;
+      orders = orders_in (cells_in command.size) command.text.now;
+    } };
 
-    ghost invariant = { λ command. IsSpelt (record { code = command.code; size = command.size; wcc = command.wcc; orders = orders_in (cells_in command.size) command.text.now }) };
+    ghost invariant = { λ command. IsSpelt (record {
+      code = command.code;
+      size = command.size;
+      wcc = command.wcc;
+      orders = orders_in (cells_in command.size) command.text.now;
+    }) };
 }
 
 impl<'a> Command<'a> {
-    /// What the command does.
+    /// Which command it is.
     pub fn code(&self) -> CommandCode
         ensures code { result ≡ self.now.code }
-        // Some bytes spell the command.
+        // There are bytes that encode the command.
         ensures spelt { IsSpelt self.now }
     {
         self.code
     }
 
-    /// The size that the screen has after the command. The addresses of its orders are below it.
+    /// The size that the screen has after the command. The addresses in its orders are below its number of cells.
     pub fn size(&self) -> Size
         ensures size { result ≡ self.now.size }
         ensures spelt { IsSpelt self.now }
@@ -52,7 +62,7 @@ impl<'a> Command<'a> {
         self.size
     }
 
-    /// The write control character, or `None` where the command is no write and so has none.
+    /// The write control character, or `None` if the command is no write.
     pub fn wcc(&self) -> Option<Wcc>
         ensures wcc { result ≡ self.now.wcc }
         ensures spelt { IsSpelt self.now }
@@ -60,7 +70,7 @@ impl<'a> Command<'a> {
         self.wcc
     }
 
-    /// The orders from the first one on, each data byte being one. A command that is no write has none.
+    /// An iterator over all orders. Each data byte is one order. A command that is no write has none.
     pub fn orders(&self) -> Orders<'a>
         ensures orders { result ≡ self.now.orders }
         ensures proper { All (IsProper (cells_in self.now.size)) result }
@@ -76,9 +86,10 @@ impl<'a> Command<'a> {
     }
 }
 
-/// Whether a text is orders to its end, for a screen of this size.
+/// Checks that a text consists of orders, for a screen of this size. Fails with the first fault.
 fn check_orders(text: &[u8], size: Size) -> Result<(), CommandFault>
-    ensures { MatchResult result (λ _. AreOrders (cells_in size) (orders_in (cells_in size) text.now) text.now) (λ fault. HasFault (cells_in size) fault text.now) }
+    ensures { MatchResult result (λ _. AreOrders (cells_in size) (orders_in (cells_in size) text.now) text.now)
+        (λ fault. HasFault (cells_in size) fault text.now) }
 {
     let mut rest = behind_characters(text);
     while !rest.is_empty() {
@@ -90,14 +101,15 @@ fn check_orders(text: &[u8], size: Size) -> Result<(), CommandFault>
     Ok(())
 }
 
-/// The size that the screen has after a write, if the text is orders to its end for a screen of that size.
+/// The size after a write. Fails with the first fault if the text doesn't consist of orders for that size.
 fn check_write(
     code: CommandCode,
     text: &[u8],
     now: Size,
     alternate: Size,
 ) -> Result<Size, CommandFault>
-    ensures orders { IfOk result (λ size. (size ≡ size_after code now alternate) × AreOrders (cells_in size) (orders_in (cells_in size) text.now) text.now) }
+    ensures orders { IfOk result (λ size. (size ≡ size_after code now alternate)
+        × AreOrders (cells_in size) (orders_in (cells_in size) text.now) text.now) }
     ensures fault { IfErr result (λ fault. HasFault (cells_in (size_after code now alternate)) fault text.now) }
 {
     let size = code.size_after(now, alternate);
@@ -108,7 +120,8 @@ fn check_write(
 }
 
 fn command_of(bytes: &[u8], now: Size, alternate: Size) -> Result<Command<'_>, CommandFault>
-    ensures { MatchResult result (λ command. IsCommand now alternate command bytes.now) (λ fault. IsNoCommand now alternate fault bytes.now) }
+    ensures { MatchResult result (λ command. IsCommand now alternate command bytes.now)
+        (λ fault. IsNoCommand now alternate fault bytes.now) }
 {
     let (byte, rest) = byte_of(bytes)?;
     let Some(code) = CommandCode::from_byte(byte) else {
@@ -132,16 +145,16 @@ fn command_of(bytes: &[u8], now: Size, alternate: Size) -> Result<Command<'_>, C
     })
 }
 
-/// The command that the bytes spell, or the first fault in them, in reading order, for a screen of this size now and with
-/// this alternate size.
+/// Reads a command, or returns the first fault. `now` and `alternate` are the screen's present and its alternate size.
 ///
-/// Addresses are judged by the size that holds after the erase (our profile): [`Size::base`] for Erase/Write, the alternate
-/// size for Erase/Write Alternate, and the size now for any other command.
+/// Addresses are checked against the size that holds after the erase (our profile): [`Size::base`] for Erase/Write, the
+/// alternate size for Erase/Write Alternate, and the present size for any other command.
 ///
-/// All orders are read, so that a command with a fault changes nothing. What follows a read command or Erase All
-/// Unprotected is ignored (our profile).
+/// All orders are checked before any is executed, so a command with a fault changes nothing. Bytes after the code of a
+/// read command or of Erase All Unprotected are ignored (our profile).
 pub fn read_command(bytes: &[u8], now: Size, alternate: Size) -> Result<Command<'_>, CommandFault>
-    ensures found { MatchResult result (λ command. IsCommand now alternate command bytes.now) (λ fault. IsNoCommand now alternate fault bytes.now) }
+    ensures found { MatchResult result (λ command. IsCommand now alternate command bytes.now)
+        (λ fault. IsNoCommand now alternate fault bytes.now) }
     ensures size { IfOk result (λ command. command.size ≡ size_after command.code now alternate) }
     // There is no other command, and no other fault.
     ensures only { (command : CommandParts) → IsCommand now alternate command bytes.now → result ≡ Ok command }

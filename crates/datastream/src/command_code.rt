@@ -5,27 +5,27 @@ ghost use Rattle.datastream.specs.Grammar.{IsCode, codes_of, is_write, size_afte
 
 use codes3270::Size;
 
-/// What a command does (GA23-0059-07, "3270 Data Stream Commands").
+/// Which command it is (GA23-0059-07, "3270 Data Stream Commands").
 #[derive(Clone, Copy, Debug, PartialEq, Eq, Hash)]
 pub enum CommandCode {
-    /// Write: stores from the cursor on.
+    /// Write: executes its orders from the cursor's address on.
     Write,
-    /// Erase/Write: as Write, on a screen that was cleared and has the size of a model 2.
+    /// Erase/Write: as Write, after it clears the screen and sets the size to 24 rows of 80 columns.
     EraseWrite,
-    /// Erase/Write Alternate: as Erase/Write, but the screen has its alternate size.
+    /// Erase/Write Alternate: as Erase/Write, but sets the screen to its alternate size.
     EraseWriteAlternate,
     /// Read Buffer: asks for all cells.
     ReadBuffer,
-    /// Read Modified: asks for the fields that were modified.
+    /// Read Modified: asks for the modified fields. A PA key or Clear returns its AID alone.
     ReadModified,
-    /// Read Modified All: asks for them whatever key was pressed.
+    /// Read Modified All: asks for the modified fields, whichever key was pressed.
     ReadModifiedAll,
-    /// Erase All Unprotected (EAU): clears the unprotected cells.
+    /// Erase All Unprotected (EAU): stores nulls in the unprotected cells.
     EraseAllUnprotected,
 }
 
 impl CommandCode {
-    /// The command with this code. Each has two.
+    /// The command with this code, or `None`. Each command has two codes.
     pub(crate) fn from_byte(byte: u8) -> Option<CommandCode>
         ensures { MatchOption result ((code : Code) → IsCode code byte → ⊥) (λ code. IsCode code byte) }
     {
@@ -41,7 +41,7 @@ impl CommandCode {
         }
     }
 
-    /// The code that is sent.
+    /// The code that a writer sends: the second of the two.
     pub(crate) fn byte(self) -> u8
         ensures { result ≡ (codes_of self).1 }
     {
@@ -56,7 +56,7 @@ impl CommandCode {
         }
     }
 
-    /// The size that a screen has after the command, by the size that it has now and its alternate size.
+    /// The size of a screen after the command, given its present size and its alternate size.
     pub(crate) fn size_after(self, now: Size, alternate: Size) -> Size
         ensures { result ≡ size_after self now alternate }
     {
@@ -71,7 +71,7 @@ impl CommandCode {
         }
     }
 
-    /// Whether it has a write control character and orders: whether it is a write.
+    /// Whether the command is a write, which has a write control character and orders.
     pub fn has_orders(self) -> bool
         ensures { result ≡ is_write self }
     {

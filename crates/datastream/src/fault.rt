@@ -1,4 +1,4 @@
-//! Why bytes are no command, and how a terminal answers them.
+//! Why bytes are no command, and the sense that a terminal returns for it.
 ghost use Rattle.std.specs.Prelude.{◌≡◌};
 ghost use Rattle.datastream.specs.Senses.{sense_of};
 
@@ -8,19 +8,18 @@ use std::fmt;
 /// Why bytes are no command: the first fault in reading order (our profile).
 #[derive(Clone, Copy, Debug, PartialEq, Eq, Hash)]
 pub enum CommandFault {
-    /// The first byte is no command's code. Write Structured Field is none of ours.
+    /// The first byte is no command's code. Write Structured Field is not supported.
     BadCommand,
-    /// A byte that is neither an order's code nor storable, or a Repeat to Address whose character isn't storable. The
-    /// latter is judged after its address.
+    /// A byte is neither an order's code nor storable, or the character of a Repeat to Address isn't storable. The
+    /// latter is checked after its address.
     BadOrder,
-    /// The screen has no cell with an address. It is judged when both its bytes are there, by the size that holds after the
-    /// erase.
+    /// An address is not on the screen. It is checked once both its bytes are there, against the size after the erase.
     BadAddress,
-    /// The bytes end inside an order, or before the write control character, or there are none.
+    /// There are no bytes, or they end before the write control character or inside an order.
     Truncated,
 }
 
-/// Why a terminal says that it carried no command out (RFC 1647, section 10.4).
+/// The sense of a negative response: why a terminal did not execute a command (RFC 1647, section 10.4).
 #[derive(Clone, Copy, Debug, PartialEq, Eq)]
 pub enum Sense {
     /// COMMAND-REJECT.
@@ -30,7 +29,7 @@ pub enum Sense {
 }
 
 impl CommandFault {
-    /// How a terminal answers a command with this fault (our profile).
+    /// The sense with which a terminal rejects a command that has this fault (our profile).
     pub fn sense(self) -> Sense
         ensures { result ≡ sense_of self }
     {

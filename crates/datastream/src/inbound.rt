@@ -1,5 +1,5 @@
 //! Inbound data.
-ghost use Rattle.std.specs.Prelude.{◌≡◌, [], ◌∷◌, Some, true, false, All as Each, MatchOption, MatchResult, IfSome, length, ◌<◌, ◌^◌};
+ghost use Rattle.std.specs.Prelude.{◌≡◌, [], ◌∷◌, Some, true, false, All as AllOf, MatchOption, MatchResult, IfSome, length, ◌<◌, ◌^◌};
 ghost use Rattle.std.specs.List.{prefix_len};
 ghost use Rattle.codes3270.specs.Aid.{aid_of};
 ghost use Rattle.codes3270.specs.Size.{cells_in};
@@ -17,8 +17,8 @@ use crate::inbound_reader::{Cells, Parts, check_parts};
 use codes3270::{Addr, Aid, Size, addr_from_bytes, aid_from_byte};
 use std::marker::Model;
 
-/// What a terminal sent, which borrows its bytes. Contracts see its form, the size of the screen that it is
-/// about, its AID, cursor address and parts.
+/// Inbound data that borrows its bytes. Contracts see its form, the size of the screen, its AID, cursor
+/// address and parts.
 #[derive(Drop)]
 pub struct Inbound<'a> {
     form: Form,
@@ -26,7 +26,7 @@ pub struct Inbound<'a> {
     aid: Aid,
     cursor: Option<Addr>,
     text: &'a [u8],
-    /// How many characters the text begins with, counted once.
+    /// The number of leading characters of the text, counted once.
     leading_text: usize,
 }
 
@@ -40,17 +40,30 @@ impl<'a> Model for Inbound<'a> {
 
     ghost Value = { InboundParts };
 
-    ghost view = { λ inbound. record { form = inbound.form; size = inbound.size; aid = inbound.aid; cursor = inbound.cursor; parts = parts_in (cells_in inbound.size) inbound.form inbound.text.now } };
+    ghost view = { λ inbound. record {
+      form = inbound.form;
+      size = inbound.size;
+      aid = inbound.aid;
+      cursor = inbound.cursor;
+      parts = parts_in (cells_in inbound.size) inbound.form inbound.text.now;
+    } };
 
     ghost invariant = { λ inbound.
-        IsSent (record { form = inbound.form; size = inbound.size; aid = inbound.aid; cursor = inbound.cursor; parts = parts_in (cells_in inbound.size) inbound.form inbound.text.now })
-        × AreParts (cells_in inbound.size) inbound.form (parts_in (cells_in inbound.size) inbound.form inbound.text.now) inbound.text.now
+        IsSent (record {
+          form = inbound.form;
+          size = inbound.size;
+          aid = inbound.aid;
+          cursor = inbound.cursor;
+          parts = parts_in (cells_in inbound.size) inbound.form inbound.text.now;
+        })
+        × AreParts (cells_in inbound.size) inbound.form
+        (parts_in (cells_in inbound.size) inbound.form inbound.text.now) inbound.text.now
         × (inbound.leading_text ≡ prefix_len is_storable inbound.text.now)
         × (inbound.leading_text ≤ length inbound.text.now) };
 }
 
 impl<'a> Inbound<'a> {
-    /// Which read it answers.
+    /// Which kind of read it answers.
     pub fn form(&self) -> Form
         ensures form { result ≡ self.now.form }
         // Some bytes are this inbound data.
@@ -59,7 +72,7 @@ impl<'a> Inbound<'a> {
         self.form
     }
 
-    /// The size of the screen by which it was read.
+    /// The size of the screen against which it was read.
     pub fn size(&self) -> Size
         ensures size { result ≡ self.now.size }
         ensures sent { IsSent self.now }
@@ -67,7 +80,7 @@ impl<'a> Inbound<'a> {
         self.size
     }
 
-    /// The key that sent it.
+    /// The AID: which key caused it.
     pub fn aid(&self) -> Aid
         ensures aid { result ≡ self.now.aid }
         ensures sent { IsSent self.now }
@@ -75,20 +88,21 @@ impl<'a> Inbound<'a> {
         self.aid
     }
 
-    /// The cursor's address. None where a PA key or Clear stands alone.
+    /// The cursor's address, or `None` if the data is the AID alone (a PA key or Clear in form Modified).
     pub fn cursor(&self) -> Option<Addr>
         ensures cursor { result ≡ self.now.cursor }
         ensures in_range { IfSome result (λ cursor. cursor < cells_in self.now.size) }
-        ensures alone { MatchOption result (stands_alone self.now.form self.now.aid ≡ true) (λ _. stands_alone self.now.form self.now.aid ≡ false) }
+        ensures alone { MatchOption result (stands_alone self.now.form self.now.aid ≡ true)
+            (λ _. stands_alone self.now.form self.now.aid ≡ false) }
         ensures sent { IsSent self.now }
     {
         self.cursor
     }
 
-    /// What follows the cursor's address. A buffer has a part for each cell.
+    /// The parts after the cursor's address. In form Buffer there is one part for each cell.
     pub fn parts(&self) -> Parts<'a>
         ensures parts { result ≡ self.now.parts }
-        ensures proper { Each (IsProperPart (cells_in self.now.size) self.now.form) result }
+        ensures proper { AllOf (IsProperPart (cells_in self.now.size) self.now.form) result }
         ensures whole { self.now.form ≡ Buffer → length result ≡ cells_in self.now.size }
         ensures alone { stands_alone self.now.form self.now.aid ≡ true → result ≡ [] }
         ensures few { length result < 2 ^ 64 }
@@ -104,19 +118,19 @@ impl<'a> Inbound<'a> {
         }
     }
 
-    /// The characters before any address. In a buffer, those before the first attribute.
+    /// The characters before the first address or, in form Buffer, before the first attribute.
     pub fn leading_text(&self) -> &'a [u8]
         ensures leading_text { result.now ≡ leading_text self.now.parts }
-        ensures proper { (self.now.form ≡ Buffer → ⊥) → Each (λ char. is_text_char char ≡ true) result.now }
+        ensures proper { (self.now.form ≡ Buffer → ⊥) → AllOf (λ char. is_text_char char ≡ true) result.now }
         ensures sent { IsSent self.now }
     {
         &self.text[..self.leading_text]
     }
 
-    /// The fields that came, each with the address of its first cell. A buffer has none: its cells are its parts.
+    /// The returned fields, each with the address of its first cell. Form Buffer has none: use [`Inbound::cells`].
     pub fn returned(&self) -> ReturnedFields<'a>
         ensures returned { result ≡ returned self.now.parts }
-        ensures proper { Each (IsProperReturned (cells_in self.now.size)) result }
+        ensures proper { AllOf (IsProperReturned (cells_in self.now.size)) result }
         ensures few { length result < 2 ^ 64 }
         ensures sent { IsSent self.now }
     {
@@ -128,12 +142,12 @@ impl<'a> Inbound<'a> {
         }
     }
 
-    /// The cells that came, by address: a buffer has one for each cell of the screen.
+    /// The cells of the screen, in the order of their addresses. The form must be Buffer.
     pub fn cells(&self) -> Cells<'a>
         requires { self.now.form ≡ Buffer }
         ensures cells { result ≡ cells_sent self.now.parts }
         ensures whole { length result ≡ cells_in self.now.size }
-        ensures proper { Each IsStorableCell result }
+        ensures proper { AllOf IsStorableCell result }
         ensures sent { IsSent self.now }
     {
         Cells {
@@ -142,9 +156,10 @@ impl<'a> Inbound<'a> {
         }
     }
 
-    /// The bytes that have the fields that came, from the first one's order on.
+    /// The bytes of the returned fields, from the first one's SBA on. It is empty in form Buffer.
     fn field_bytes(&self) -> &'a [u8]
-        ensures parts { AreParts (cells_in self.now.size) Modified (parts_in (cells_in self.now.size) Modified result.now) result.now }
+        ensures parts { AreParts (cells_in self.now.size) Modified
+            (parts_in (cells_in self.now.size) Modified result.now) result.now }
         ensures start { prefix_len is_storable result.now ≡ 0 }
         ensures fields { returned (parts_in (cells_in self.now.size) Modified result.now) ≡ returned self.now.parts }
     {
@@ -157,7 +172,7 @@ impl<'a> Inbound<'a> {
     }
 }
 
-/// Whether data of a form with this AID has it alone.
+/// Whether inbound data of this form with this AID consists of the AID alone.
 fn is_alone(form: Form, aid: &Aid) -> bool
     ensures { result ≡ stands_alone form aid.now }
 {
@@ -169,7 +184,8 @@ fn is_alone(form: Form, aid: &Aid) -> bool
 }
 
 fn inbound_of(bytes: &[u8], form: Form, size: Size) -> Result<Inbound<'_>, InboundFault>
-    ensures { MatchResult result (λ inbound. (inbound.form ≡ form) × (inbound.size ≡ size) × IsInbound inbound bytes.now) (λ fault. IsNoInbound size form fault bytes.now) }
+    ensures { MatchResult result (λ inbound. (inbound.form ≡ form) × (inbound.size ≡ size)
+        × IsInbound inbound bytes.now) (λ fault. IsNoInbound size form fault bytes.now) }
 {
     let [byte, rest @ ..] = bytes else {
         return Err(InboundFault::Short);
@@ -184,7 +200,7 @@ fn inbound_of(bytes: &[u8], form: Form, size: Size) -> Result<Inbound<'_>, Inbou
     }
 }
 
-/// The data that has its AID alone, of which `rest` is what follows the AID's byte.
+/// Reads data that consists of its AID alone. `rest` is what follows the AID.
 fn short_read(
     form: Form,
     aid: Aid,
@@ -194,7 +210,8 @@ fn short_read(
 ) -> Result<Inbound<'_>, InboundFault>
     requires known { aid_of byte ≡ Some aid }
     requires alone { stands_alone form aid ≡ true }
-    ensures { MatchResult result (λ inbound. (inbound.form ≡ form) × (inbound.size ≡ size) × IsInbound inbound (byte ∷ rest.now)) (λ fault. IsNoInbound size form fault (byte ∷ rest.now)) }
+    ensures { MatchResult result (λ inbound. (inbound.form ≡ form) × (inbound.size ≡ size)
+        × IsInbound inbound (byte ∷ rest.now)) (λ fault. IsNoInbound size form fault (byte ∷ rest.now)) }
 {
     if rest.is_empty() {
         Ok(Inbound {
@@ -210,7 +227,7 @@ fn short_read(
     }
 }
 
-/// The data that goes on behind its AID's byte with `rest`.
+/// Reads data that has a cursor address and parts. `rest` is what follows the AID.
 fn long_inbound(
     form: Form,
     aid: Aid,
@@ -220,7 +237,8 @@ fn long_inbound(
 ) -> Result<Inbound<'_>, InboundFault>
     requires known { aid_of byte ≡ Some aid }
     requires long { stands_alone form aid ≡ false }
-    ensures { MatchResult result (λ inbound. (inbound.form ≡ form) × (inbound.size ≡ size) × IsInbound inbound (byte ∷ rest.now)) (λ fault. IsNoInbound size form fault (byte ∷ rest.now)) }
+    ensures { MatchResult result (λ inbound. (inbound.form ≡ form) × (inbound.size ≡ size)
+        × IsInbound inbound (byte ∷ rest.now)) (λ fault. IsNoInbound size form fault (byte ∷ rest.now)) }
 {
     let [high, low, text @ ..] = rest else {
         return Err(InboundFault::Short);
@@ -239,16 +257,18 @@ fn long_inbound(
     })
 }
 
-/// The inbound data of a form that the bytes are, about a screen of this size, or the first fault in them.
+/// Reads inbound data of a form, for a screen of this size, or returns the first fault in it.
 ///
-/// Modified and All begin with the AID and the cursor's address; then come characters and, for each field, SBA with the
-/// address of its first cell and its characters. In form Modified a PA key or Clear stands alone. Buffer has a part for each
-/// cell of the screen behind AID and cursor (GA23-0059-07 on read commands). That a field's text has no null, and the order of
-/// the faults, are our profile.
+/// Forms Modified and All have the AID, the cursor's address, any characters, and for each field SBA, the address of
+/// its first cell and its characters. In form Modified a PA key or Clear has the AID alone. Form Buffer has the AID,
+/// the cursor's address and a part for each cell (GA23-0059-07 on read commands). Our profile excludes nulls in a
+/// field's text and defines the order in which faults are found.
 pub fn read_inbound(bytes: &[u8], form: Form, size: Size) -> Result<Inbound<'_>, InboundFault>
-    ensures found { MatchResult result (λ inbound. (inbound.form ≡ form) × (inbound.size ≡ size) × IsInbound inbound bytes.now) (λ fault. IsNoInbound size form fault bytes.now) }
+    ensures found { MatchResult result (λ inbound. (inbound.form ≡ form) × (inbound.size ≡ size)
+        × IsInbound inbound bytes.now) (λ fault. IsNoInbound size form fault bytes.now) }
     // There is no other inbound data of the form and the size, and no other fault.
-    ensures only { (inbound : InboundParts) → inbound.form ≡ form → inbound.size ≡ size → IsInbound inbound bytes.now → result ≡ Ok inbound }
+    ensures only { (inbound : InboundParts) → inbound.form ≡ form → inbound.size ≡ size → IsInbound inbound bytes.now
+        → result ≡ Ok inbound }
     ensures first { (fault : Fault) → IsNoInbound size form fault bytes.now → result ≡ Err fault }
 {
     inbound_of(bytes, form, size)

@@ -12,13 +12,13 @@ use std::marker::Model;
 /// A returned field (GA23-0059-07 on Read Modified).
 #[derive(Clone, Copy, Debug, PartialEq, Eq)]
 pub struct ReturnedField<'a> {
-    /// The address of its first cell: the one after its attribute, round the end.
+    /// The address of its first cell: the one after its attribute, wrapping round at the screen's end.
     pub first: Addr,
     /// Its characters, of which none is null.
     pub text: &'a [u8],
 }
 
-/// The fields that are left of those that came, in their order. Contracts see their list.
+/// An iterator over the remaining returned fields, in the order in which they were sent. Contracts see their list.
 #[derive(Drop)]
 pub struct ReturnedFields<'a> {
     pub(crate) size: Size,
@@ -40,7 +40,8 @@ impl<'a> Model for ReturnedFields<'a> {
     ghost view = { λ fields. returned (parts_in (cells_in fields.size) Modified fields.text.now) };
 
     // There is no character before the first address.
-    ghost invariant = { λ fields. AreParts (cells_in fields.size) Modified (parts_in (cells_in fields.size) Modified fields.text.now) fields.text.now × (prefix_len is_storable fields.text.now ≡ 0) };
+    ghost invariant = { λ fields. AreParts (cells_in fields.size) Modified (parts_in (cells_in fields.size) Modified
+        fields.text.now) fields.text.now × (prefix_len is_storable fields.text.now ≡ 0) };
 }
 
 impl<'a> Iterator for ReturnedFields<'a> {
@@ -64,7 +65,7 @@ impl<'a> Iterator for ReturnedFields<'a> {
     }
 }
 
-/// A field's characters, and the bytes from the next address on.
+/// A field's characters, and the bytes from the next field's SBA on.
 #[inline(always)]
 fn split_field(text: &[u8]) -> (&[u8], &[u8])
     ensures characters { result.0.now ≡ take (prefix_len is_storable text.now) text.now }

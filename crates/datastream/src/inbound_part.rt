@@ -1,4 +1,4 @@
-//! What inbound data is made of, and why bytes are none.
+//! The parts of inbound data, and why bytes are no inbound data.
 ghost use Rattle.std.specs.Prelude.{◌≡◌};
 ghost use Rattle.datastream.specs.InboundFields.{cell_of_part};
 
@@ -9,27 +9,27 @@ use std::fmt;
 /// Which read the data answers (GA23-0059-07 on read commands).
 #[derive(Clone, Copy, Debug, PartialEq, Eq)]
 pub enum Form {
-    /// Read Modified, or a key: the modified fields; a PA key or Clear stands alone.
+    /// Read Modified, or data that a key sends: the modified fields. A PA key or Clear sends its AID alone.
     Modified,
-    /// Read Modified All: the modified fields, whatever the key.
+    /// Read Modified All: the modified fields, whichever key was pressed.
     All,
     /// Read Buffer: every cell.
     Buffer,
 }
 
-/// One part of inbound data behind its AID and cursor.
+/// One part of inbound data after its AID and cursor address.
 #[derive(Clone, Copy, Debug, PartialEq, Eq)]
 pub enum Part {
     /// The address of a field's first cell; the field's characters follow.
     At(Addr),
-    /// A character of a field, or of a cell.
+    /// A character, of a field or of a cell.
     Char(u8),
     /// A cell that holds an attribute.
     Attr(Attr),
 }
 
 impl Part {
-    /// The cell that it is, or `None` for an address.
+    /// The cell that this part is, or `None` for an address.
     pub fn cell(self) -> Option<Cell>
         ensures { result ≡ cell_of_part self }
     {
@@ -44,14 +44,14 @@ impl Part {
 /// Why bytes are no inbound data of a form: the first fault in reading order (our profile).
 #[derive(Clone, Copy, Debug, PartialEq, Eq, Hash)]
 pub enum InboundFault {
-    /// There are no bytes, no whole cursor address where one belongs, or fewer cells than the screen has.
+    /// There are no bytes, the cursor's address is missing or cut, or form Buffer has fewer cells than the screen.
     Short,
     /// The first byte is no key's AID.
     BadAid,
-    /// The screen has no cell with the cursor's or a field's address. It is judged when both its bytes are there.
+    /// The cursor's address or a field's is not on the screen. It is checked once both its bytes are there.
     BadAddress,
-    /// A byte is out of place or can't be stored, a field's text has a null, an address is cut short, there are more cells
-    /// than the screen has, or something follows an AID that stands alone.
+    /// A byte is out of place or not storable, a field's text has a null, a field's address is cut short, there are
+    /// more cells than the screen has, or something follows an AID that must be alone.
     BadForm,
 }
 

@@ -13,7 +13,7 @@ use crate::order_codes::{SET_BUFFER_ADDRESS, START_FIELD};
 use codes3270::{Attr, Cell, Size, addr_from_bytes, storable};
 use std::marker::Model;
 
-/// The parts that are left of inbound data. Contracts see their list.
+/// An iterator over the remaining parts of inbound data. Contracts see their list.
 #[derive(Drop)]
 pub struct Parts<'a> {
     pub(crate) size: Size,
@@ -50,7 +50,7 @@ impl<'a> Iterator for Parts<'a> {
     }
 }
 
-/// The cells that are left of a buffer. Contracts see their list.
+/// An iterator over the remaining cells of a buffer. Contracts see their list.
 #[derive(Drop)]
 pub struct Cells<'a> {
     pub(crate) size: Size,
@@ -71,7 +71,7 @@ impl<'a> Model for Cells<'a> {
 }
 
 impl<'a> Cells<'a> {
-    /// The same cells, to be walked by themselves.
+    /// A second iterator over the remaining cells. Advancing one doesn't advance the other.
     pub fn copy(&self) -> Cells<'a>
         ensures { result ≡ self.now }
     {
@@ -81,7 +81,7 @@ impl<'a> Cells<'a> {
         }
     }
 
-    /// Takes the characters before the next attribute.
+    /// Removes the characters at the front, up to the next attribute, and returns them.
     #[inline(always)]
     pub fn characters(&mut self) -> &'a [u8]
         ensures characters { result.now ≡ text_before_attribute self.old }
@@ -111,9 +111,9 @@ impl<'a> Iterator for Cells<'a> {
     }
 }
 
-// Each of these reads what the first bytes spell, and also returns the bytes after that.
+// Each of these functions reads something from the front of the bytes and returns it with the bytes after it.
 
-/// An address, after its order's code.
+/// Reads an address, after the code of its order.
 fn address_part_of(bytes: &[u8], size: Size) -> Result<(Part, &[u8]), InboundFault>
     ensures { Gives (λ x. (x.0, x.1.now)) result (address_at (cells_in size) bytes.now) }
 {
@@ -126,7 +126,7 @@ fn address_part_of(bytes: &[u8], size: Size) -> Result<(Part, &[u8]), InboundFau
     }
 }
 
-/// An attribute, after its order's code.
+/// Reads an attribute, after the code of its order.
 fn attribute_part_of(bytes: &[u8]) -> Result<(Part, &[u8]), InboundFault>
     ensures { Gives (λ x. (x.0, x.1.now)) result (attribute_at bytes.now) }
 {
@@ -136,7 +136,7 @@ fn attribute_part_of(bytes: &[u8]) -> Result<(Part, &[u8]), InboundFault>
     }
 }
 
-/// An address or a character of the modified fields.
+/// Reads an SBA with its address, or a character, of the modified fields.
 #[tactic(auto, unfolding(crate::specs::InboundReading::text_part_at))]
 fn text_part_of(bytes: &[u8], size: Size) -> Result<(Part, &[u8]), InboundFault>
     ensures { Gives (λ x. (x.0, x.1.now)) result (text_part_at (cells_in size) bytes.now) }
@@ -154,7 +154,7 @@ fn text_part_of(bytes: &[u8], size: Size) -> Result<(Part, &[u8]), InboundFault>
     }
 }
 
-/// A cell of the buffer.
+/// Reads a cell of the buffer: a character, or SF with its attribute.
 #[tactic(auto, unfolding(crate::specs::InboundReading::cell_part_at))]
 fn cell_part_of(bytes: &[u8]) -> Result<(Part, &[u8]), InboundFault>
     ensures { Gives (λ x. (x.0, x.1.now)) result (cell_part_at bytes.now) }
@@ -182,10 +182,11 @@ fn part_of(form: Form, bytes: &[u8], size: Size) -> Result<(Part, &[u8]), Inboun
     }
 }
 
-/// Whether a text is parts of modified fields to its end.
+/// Checks that a text consists of parts of modified fields. Fails with the first fault.
 fn check_fields(form: Form, text: &[u8], size: Size) -> Result<(), InboundFault>
     requires { form ≡ Buffer → ⊥ }
-    ensures { MatchResult result (λ _. AreParts (cells_in size) form (parts_in (cells_in size) form text.now) text.now) (λ fault. HasPartFault (cells_in size) form fault text.now) }
+    ensures { MatchResult result (λ _. AreParts (cells_in size) form (parts_in (cells_in size) form text.now) text.now)
+        (λ fault. HasPartFault (cells_in size) form fault text.now) }
 {
     let mut rest = behind_words(text);
     while !rest.is_empty() {
@@ -197,11 +198,12 @@ fn check_fields(form: Form, text: &[u8], size: Size) -> Result<(), InboundFault>
     Ok(())
 }
 
-/// Passes over cells at the front of a text, at least one and at most `most`. Answers how many, and the bytes after them.
+/// Passes over cells at the front of a text, from one to `most`. Returns how many, and the bytes after them.
 #[inline(always)]
 fn pass_cells(text: &[u8], most: usize) -> Result<(usize, &[u8]), InboundFault>
     requires { 0 < most }
-    ensures { MatchResult result (λ passed. (0 < passed.0) × (passed.0 ≤ most) × ((size : ℕ) → IsReadTo size Buffer text.now passed.0 passed.1.now)) (λ fault. cell_part_at text.now ≡ Err fault) }
+    ensures { MatchResult result (λ passed. (0 < passed.0) × (passed.0 ≤ most) × ((size : ℕ)
+        → IsReadTo size Buffer text.now passed.0 passed.1.now)) (λ fault. cell_part_at text.now ≡ Err fault) }
 {
     let count = count_characters(text).min(most);
     if count > 0 {
@@ -214,9 +216,11 @@ fn pass_cells(text: &[u8], most: usize) -> Result<(usize, &[u8]), InboundFault>
     }
 }
 
-/// Whether a text is as many cells as the screen has.
+/// Checks that a text consists of exactly as many cells as the screen has. Fails with the first fault.
 fn check_cells(text: &[u8], size: Size) -> Result<(), InboundFault>
-    ensures { MatchResult result (λ _. AreParts (cells_in size) Buffer (parts_in (cells_in size) Buffer text.now) text.now × IsWhole (cells_in size) Buffer (parts_in (cells_in size) Buffer text.now)) (λ fault. HasPartFault (cells_in size) Buffer fault text.now) }
+    ensures { MatchResult result (λ _. AreParts (cells_in size) Buffer (parts_in (cells_in size) Buffer text.now)
+        text.now × IsWhole (cells_in size) Buffer (parts_in (cells_in size) Buffer text.now))
+        (λ fault. HasPartFault (cells_in size) Buffer fault text.now) }
 {
     let mut rest = text;
     let mut left = usize::from(size.cells());
@@ -236,9 +240,11 @@ fn check_cells(text: &[u8], size: Size) -> Result<(), InboundFault>
     }
 }
 
-/// Whether a text is all the parts that a form has behind AID and cursor.
+/// Checks that a text is what a form has after the AID and the cursor's address. Fails with the first fault.
 pub(crate) fn check_parts(form: Form, text: &[u8], size: Size) -> Result<(), InboundFault>
-    ensures { MatchResult result (λ _. AreParts (cells_in size) form (parts_in (cells_in size) form text.now) text.now × IsWhole (cells_in size) form (parts_in (cells_in size) form text.now)) (λ fault. HasPartFault (cells_in size) form fault text.now) }
+    ensures { MatchResult result (λ _. AreParts (cells_in size) form (parts_in (cells_in size) form text.now) text.now
+        × IsWhole (cells_in size) form (parts_in (cells_in size) form text.now))
+        (λ fault. HasPartFault (cells_in size) form fault text.now) }
 {
     match form {
         Form::Modified => check_fields(Form::Modified, text, size),

@@ -1,4 +1,4 @@
-//! Laws of commands, inbound data, fields and notes: each is the contract of a function that does nothing. Proofs of
+//! Laws of commands, inbound data, fields and notes. Each is the contract of a function that does nothing. Proofs of
 //! other crates use them; no program calls them, and the root doesn't export them.
 ghost use Rattle.datastream.specs.InboundFields.{PartsAreFields, SentIsRead};
 ghost use Rattle.datastream.specs.FieldLaws.{EachCellHasOneField, FieldsAreListed, FieldsAscend, FieldsTakeAll, Unformatted};
@@ -7,37 +7,35 @@ ghost use Rattle.datastream.specs.Laws.{OneCommand, OneInbound, OnlyByPlace, Tab
 ghost use Rattle.datastream.specs.NoteLaws.{HeldStaysProtected, NoteKeepsBounds, NoteKeepsForm, NoteKeepsHeld, NoteKeepsSendable, NoteLeavesUnprotected, NotesCompose, ProtectedAreCharacters};
 ghost use Rattle.datastream.specs.SpanLaws.{DistancesLead, SpansAreSteps};
 
-/// Law: what a [`CommandWriter`](crate::CommandWriter) wrote in any calls is the command of the
+/// Law: whatever a [`CommandWriter`](crate::CommandWriter) wrote reads back as the command with the
 /// orders that the calls name.
 pub fn written_is_read()
     ensures { WrittenIsRead }
 {}
 
-/// Law: bytes spell one command at most for a screen of given sizes, and are one inbound data at most
-/// of each form and size.
+/// Law: bytes are at most one command for given screen sizes, and at most one inbound data for a given form and size.
 pub fn one_reading()
     ensures command { OneCommand }
     ensures inbound { OneInbound }
 {}
 
-/// Law: a write's orders act one after another, and that a program tab nulls just behind data, and
-/// behind another one that nulled up to the last cell.
+/// Law: a write's orders take effect one after another, and a program tab stores nulls if data comes
+/// directly before it, or a program tab that stored nulls up to the last cell. No other does.
 pub fn tabs_by_place()
     ensures by_place { TabsByPlace }
     ensures only { OnlyByPlace }
 {}
 
-/// Law: the addresses which Repeat to Address and Erase Unprotected to Address act on are those
-/// that single steps lead to, from the current address up to the stop, round the end; all of them
-/// where the two are equal.
+/// Law: Repeat to Address and Erase Unprotected to Address act on the addresses that are reached by
+/// single steps from the current address up to the stop address, wrapping round at the end. If the
+/// two are equal, they act on all addresses.
 pub fn spans_are_steps()
     ensures steps { SpansAreSteps }
     ensures lead { DistancesLead }
 {}
 
-/// Law: the two views of fields agree (GA23-0059-07 on fields): the list of fields by the addresses
-/// of their attributes, and for each cell the attribute that stands nearest before it, round the
-/// end.
+/// Law: two views of fields agree (GA23-0059-07 on fields): the list of fields in the order of their attributes'
+/// addresses, and for each cell the nearest attribute before it, wrapping round at the start.
 pub fn fields_both_ways()
     ensures ascend { FieldsAscend }
     ensures listed { FieldsAreListed }
@@ -46,8 +44,8 @@ pub fn fields_both_ways()
     ensures all_cells { FieldsTakeAll }
 {}
 
-/// Law: what operator keys keep of the screen that the last write left, by place and by a walk, and
-/// that what keys keep one after another is kept since the write.
+/// Law: what operator keys keep of the screen after the last write. It has two equal definitions, by
+/// address and by a walk from address 0, and it composes: several keys keep what each of them keeps.
 pub fn kept_since_the_write()
     ensures round { HeldIsRound }
     ensures at_first { HeldAtFirst }
@@ -55,9 +53,9 @@ pub fn kept_since_the_write()
     ensures erase_input { EraseInputHolds }
 {}
 
-/// Law: what a note keeps, a Write of characters over characters: size, cursor and AID of the
-/// screen, its attributes and all other cells; and over characters of protected fields all
-/// unprotected ones, and what keys kept since the write before.
+/// Law: a note, which is a Write of characters over characters, keeps the screen's size, cursor and
+/// AID, its attributes and all other cells. If it is over characters of protected fields, it keeps
+/// all unprotected cells, and what keys kept since the write before.
 pub fn what_a_note_keeps()
     ensures bounds { NoteKeepsBounds }
     ensures form { NoteKeepsForm }
@@ -69,12 +67,12 @@ pub fn what_a_note_keeps()
     ensures composes { NotesCompose }
 {}
 
-/// Law: the parts of inbound data and its fields or cells are one and the same.
+/// Law: the parts of inbound data and its fields or cells determine each other.
 pub fn parts_are_fields()
     ensures { PartsAreFields }
 {}
 
-/// Law: what a screen's read writes is read as exactly that screen's data.
+/// Law: what a terminal sends in answer to a read is read back as exactly that screen's data.
 pub fn sent_is_read()
     ensures { SentIsRead }
 {}

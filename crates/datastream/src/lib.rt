@@ -1,9 +1,10 @@
-//! The commands of the 3270 data stream (GA23-0059-07), read and written, what they mean, and the inbound data that terminals
-//! send.
+//! The 3270 data stream (GA23-0059-07): reading and writing commands, what commands do to a screen, and reading the
+//! inbound data that terminals send. What a terminal stores and how it executes orders is the crate `presentation`'s.
 //!
-//! [`read_command`] reads a command whole before anything comes of it: it answers the command, which lends its orders one
-//! by one, or the first fault in reading order. It needs the two sizes of the screen, that now and the alternate one, since
-//! addresses are judged by the size that holds after the erase. A [`CommandWriter`] appends commands to a vector.
+//! [`read_command`] checks a whole command before it returns anything. It returns the command, whose orders an iterator
+//! yields, or the first fault in reading order. It takes two sizes, the screen's present one and its alternate one,
+//! since addresses are checked against the size that the screen has after the erase. A [`CommandWriter`] appends
+//! commands to a vector.
 //!
 //! ```text
 //! let bytes = [0xF5, 0xC3, 0x11, 0x40, 0x40, 0x1D, 0x60, 0xC8, 0xC9];
@@ -17,16 +18,16 @@
 //! }
 //! ```
 //!
-//! [`read_inbound`] reads what the terminal sends, in one of three [`Form`]s, and answers it or the first fault in it.
+//! [`read_inbound`] reads what a terminal sends, in one of three [`Form`]s, and returns it or the first fault in it.
 //!
-//! A screen of any size is kept in a [`PackedCell`] for each cell, or in [`PackedCells`] with [`CellBits`] beside them, here and in
-//! the crates above. A [`Ring`] walks over it, round the end.
+//! This crate and those above it store a screen of any size as one [`PackedCell`] per cell, or as [`PackedCells`] with
+//! [`CellBits`] beside them. A [`Ring`] iterates over its cells and wraps round at the end.
 //!
-//! `specs/` has the definitions: `Grammar` says which bytes are commands and where others go wrong, `Writing` what is
-//! written, `InboundText` which bytes are inbound data, `Screen`, `Fields` and `Span` what a screen is, `Meaning` what a
-//! command makes of it, `Inbound` what is sent of it, `Held` what keys keep of it, `Note` which writes put characters over
-//! characters alone, and `Laws` with its like what joins these. The functions [`laws::written_is_read`] and those beside it have
-//! the laws as their contracts.
+//! `specs/` has the definitions: `Grammar` says which bytes are commands and which fault others have, `Writing` which
+//! bytes are written, `InboundText` which bytes are inbound data, `Screen`, `Fields` and `Span` what a screen is,
+//! `Meaning` what a command does to it, `Inbound` what a terminal sends of it, `KeptByKeys` which changes operator keys
+//! can make, `Note` which writes replace characters only, and `Laws` and the other files named so how these relate. The
+//! functions in [`laws`] have these laws as their contracts.
 #![tactic(auto)]
 
 mod cell_store;

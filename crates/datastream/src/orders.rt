@@ -15,11 +15,10 @@ use crate::order_codes::{
 use codes3270::{Addr, Attr, Size, addr_from_bytes, storable};
 use std::marker::Model;
 
-/// The orders that are left of a command, lent from its bytes: an iterator, which answers `None` once they are at an end.
-/// Contracts see the list of these orders.
+/// An iterator over the remaining orders of a command, which borrows the command's bytes. Contracts see their list.
 #[derive(Drop)]
 pub struct Orders<'a> {
-    /// Of the screen that the orders act on.
+    /// The size of the screen that the orders act on.
     pub(crate) size: Size,
     pub(crate) text: &'a [u8],
 }
@@ -36,7 +35,7 @@ impl<'a> Model for Orders<'a> {
 }
 
 impl<'a> Orders<'a> {
-    /// Takes the characters before the first other order.
+    /// Removes the data characters at the front and returns them, up to the first order that is none.
     #[inline(always)]
     pub fn characters(&mut self) -> &'a [u8]
         ensures characters { result.now ≡ characters_ahead self.old }
@@ -67,7 +66,7 @@ impl<'a> Iterator for Orders<'a> {
     }
 }
 
-// Each of these reads what the first bytes spell, and also returns the bytes after that.
+// Each of these functions reads something from the front of the bytes and returns it with the bytes after it.
 
 pub(crate) fn byte_of(bytes: &[u8]) -> Result<(u8, &[u8]), CommandFault>
     ensures { Gives (λ x. (x.0, x.1.now)) result (byte_at bytes.now) }
@@ -101,7 +100,7 @@ fn character_of(bytes: &[u8]) -> Result<(u8, &[u8]), CommandFault>
     }
 }
 
-/// The order with this code, which these bytes follow; not Start Field.
+/// Reads the rest of an order after its code. The code must not be Start Field.
 #[inline(always)]
 #[tactic(auto, unfolding(crate::specs::Reading::order_after))]
 fn order_behind(code: u8, bytes: &[u8], size: Size) -> Result<(Order, &[u8]), CommandFault>
@@ -130,13 +129,13 @@ fn order_behind(code: u8, bytes: &[u8], size: Size) -> Result<(Order, &[u8]), Co
     }
 }
 
-/// The order at the front of the bytes.
+/// Reads the order at the front of the bytes.
 #[inline(always)]
 #[tactic(auto, unfolding(crate::specs::Reading::order_at, crate::specs::Reading::order_after))]
 pub(crate) fn order_of(bytes: &[u8], size: Size) -> Result<(Order, &[u8]), CommandFault>
     ensures { Gives (λ x. (x.0, x.1.now)) result (order_at (cells_in size) bytes.now) }
 {
-    // The most frequent order comes first.
+    // Start Field is the most frequent order, so it is tested first.
     if let [START_FIELD, code, rest @ ..] = bytes {
         return Ok((Order::Sf(Attr::from_code(*code)), rest));
     }

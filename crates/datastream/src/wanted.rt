@@ -1,4 +1,4 @@
-//! What a screen is wanted to be.
+//! A wanted screen: what a program wants a terminal's screen to show.
 ghost use Rattle.std.specs.Prelude.{◌≡◌, ◌<◌, ◌≤◌, ◌+◌, ◌*◌, ◌++◌, All, false, not, length, map, replicate, drop, slice_get, slice_set, slice_index_or, Some};
 ghost use Rattle.codes3270.specs.Size.{cells_in, most_cells};
 ghost use Rattle.datastream.specs.CellBits.{word_count, AreBits};
@@ -12,25 +12,25 @@ use crate::cell_store::{CellBits, HasCells, PackedCell, PackedCells, Ring};
 use codes3270::{Addr, Attr, Cell, Size};
 use std::marker::Model;
 
-/// What a cell is wanted to have (our profile).
+/// What a program wants in a cell (our profile).
 #[derive(Clone, Copy, Debug, PartialEq, Eq)]
 pub enum Want {
     /// This character.
     Char(u8),
     /// This attribute.
     Attr(Attr),
-    /// What it has.
+    /// Leave the cell as it is.
     Keep,
 }
 
-/// A wanted screen: its size, a [`Want`] for each cell, where the cursor shall be, and whether all
-/// fields are marked as unmodified first. Each wanted character is storable.
+/// A wanted screen: its size, a [`Want`] for each cell, the cursor's address, and whether MDT of all fields is
+/// reset first. Each wanted character must be storable.
 ///
-/// It is kept as a byte and two bits for each cell, with room for the largest screen; contracts see
-/// the size and the cells that a screen of this size has.
+/// It is stored as a byte and two bits per cell, with room for the largest screen. Contracts see the size and the cells
+/// that a screen of this size has.
 #[derive(Clone, Debug, Drop)]
 pub struct Wanted {
-    /// A null character where the cell is kept.
+    /// Holds a null character for each cell whose want is `Keep`.
     cells: PackedCells,
     characters: CellBits,
     cursor: Addr,
@@ -43,12 +43,22 @@ impl Model for Wanted {
 
     ghost Value = { WantedScreen };
 
-    ghost view = { λ wanted. record { size = wanted.cells.size; cells = kept (want_by wanted.cells.attributes wanted.characters) 0 wanted.cells.codes; cursor = wanted.cursor; reset = wanted.reset } };
+    ghost view = { λ wanted. record {
+      size = wanted.cells.size;
+      cells = kept (want_by wanted.cells.attributes wanted.characters) 0 wanted.cells.codes;
+      cursor = wanted.cursor;
+      reset = wanted.reset;
+    } };
 
-    ghost invariant = { λ wanted. IsScreen (record { size = wanted.cells.size; cells = kept (want_by wanted.cells.attributes wanted.characters) 0 wanted.cells.codes; cursor = wanted.cursor; reset = wanted.reset }) × AreKept wanted.cells.attributes wanted.characters wanted.cells.codes };
+    ghost invariant = { λ wanted. IsScreen (record {
+      size = wanted.cells.size;
+      cells = kept (want_by wanted.cells.attributes wanted.characters) 0 wanted.cells.codes;
+      cursor = wanted.cursor;
+      reset = wanted.reset;
+    }) × AreKept wanted.cells.attributes wanted.characters wanted.cells.codes };
 }
 
-/// What is kept of a cell, but for whether a character is wanted there.
+/// What is stored for a want, except for the bit that says whether a character is wanted.
 fn packed(want: Want) -> PackedCell
     ensures byte { code_in result ≡ byte_wanted want }
     ensures attribute { not (is_char result) ≡ is_attribute_wanted want }
@@ -72,7 +82,7 @@ fn is_character(want: Want) -> bool
 }
 
 impl Wanted {
-    /// The same of each cell of a screen of this size, and the cursor at the first.
+    /// A wanted screen with this want in each cell, the cursor at address 0, and no MDT reset.
     pub fn filled(want: Want, size: Size) -> Wanted
         requires { IsProper want }
         ensures { result ≡ record { size = size; cells = replicate (cells_in size) want; cursor = 0; reset = false } }
@@ -87,7 +97,7 @@ impl Wanted {
         }
     }
 
-    /// Wants this of the cell with an address.
+    /// Sets what is wanted in the cell at an address. A wanted character must be storable.
     pub fn put(&mut self, cell: usize, want: Want)
         requires in_range { cell < cells_in self.old.size }
         requires proper { IsProper want }
@@ -99,7 +109,7 @@ impl Wanted {
         self.characters.put(cell, is_character(want));
     }
 
-    /// Sets where the cursor is wanted, and whether MDT of all fields is reset first.
+    /// Sets the cursor's wanted address, and whether MDT of all fields is reset first.
     pub fn set_cursor_and_reset(&mut self, cursor: Addr, reset: bool)
         requires { cursor < cells_in self.old.size }
         ensures { self.new ≡ record self.old { cursor = cursor; reset = reset } }
@@ -128,7 +138,7 @@ impl Wanted {
         self.cells.len()
     }
 
-    /// What each cell is wanted to have, by address.
+    /// The wants of all cells, in the order of their addresses.
     pub fn cells(&self) -> Wants<'_>
         ensures cells { result ≡ self.now.cells }
         ensures size { length result ≡ cells_in self.now.size }
@@ -139,7 +149,7 @@ impl Wanted {
         Ring::all(self)
     }
 
-    /// What the cells behind an address are wanted to have, and then all cells.
+    /// The wants of the cells after an address up to the last cell, then those of all cells.
     pub fn ahead(&self, cell: usize) -> Wants<'_>
         requires { cell < cells_in self.now.size }
         ensures cells { result ≡ drop (cell + 1) self.now.cells ++ self.now.cells }
@@ -150,7 +160,7 @@ impl Wanted {
         Ring::ahead(self, cell)
     }
 
-    /// What a cell is wanted to have.
+    /// What is wanted in the cell at an address.
     pub fn want(&self, addr: Addr) -> Want
         requires { addr < cells_in self.now.size }
         ensures wanted { slice_get self.now.cells addr ≡ Some result }
@@ -159,7 +169,7 @@ impl Wanted {
         self.at(addr.get() as usize)
     }
 
-    /// What the cell at an index is wanted to have.
+    /// What is wanted in the cell at an index (0-based, as an address).
     pub fn at(&self, cell: usize) -> Want
         requires { cell < cells_in self.now.size }
         ensures wanted { result ≡ slice_index_or self.now.cells cell result }
@@ -178,7 +188,7 @@ impl Wanted {
         }
     }
 
-    /// The characters and the codes of attributes, and null where a cell is kept.
+    /// One byte per cell: the wanted character, the code of the wanted attribute, or null for `Keep`.
     pub fn bytes(&self) -> &[u8]
         ensures bytes { result.now ≡ map byte_wanted self.now.cells }
         ensures size { length self.now.cells ≡ cells_in self.now.size }
@@ -187,23 +197,25 @@ impl Wanted {
         self.cells.codes()
     }
 
-    /// A bit for each of 64 cells, set where an attribute is wanted.
+    /// The bits of the 64 cells from `64 * index` on, the lowest bit first, set if an attribute is wanted.
     pub fn attribute_word(&self, index: usize) -> u64
         requires { index < word_count }
-        ensures { AreBits (cells_in self.now.size) (λ cell. is_attribute_wanted (slice_index_or self.now.cells cell Keep)) index result }
+        ensures { AreBits (cells_in self.now.size)
+            (λ cell. is_attribute_wanted (slice_index_or self.now.cells cell Keep)) index result }
     {
         self.cells.attribute_word(index)
     }
 
-    /// A bit for each of 64 cells, set where a character is wanted.
+    /// The bits of the 64 cells from `64 * index` on, the lowest bit first, set if a character is wanted.
     pub fn character_word(&self, index: usize) -> u64
         requires { index < word_count }
-        ensures { AreBits (cells_in self.now.size) (λ cell. is_character_wanted (slice_index_or self.now.cells cell Keep)) index result }
+        ensures { AreBits (cells_in self.now.size)
+            (λ cell. is_character_wanted (slice_index_or self.now.cells cell Keep)) index result }
     {
         self.characters.word(index)
     }
 
-    /// Where the cursor shall be.
+    /// The cursor's wanted address.
     pub fn cursor(&self) -> Addr
         ensures cursor { result ≡ self.now.cursor }
         ensures in_range { result < cells_in self.now.size }
@@ -211,7 +223,7 @@ impl Wanted {
         self.cursor
     }
 
-    /// Whether all fields are marked as unmodified first.
+    /// Whether MDT of all fields is reset first.
     pub fn reset(&self) -> bool
         ensures { result ≡ self.now.reset }
     {
@@ -219,7 +231,7 @@ impl Wanted {
     }
 }
 
-/// The wants that are left of a walk, which may go on round the end. Contracts see their list.
+/// An iterator over wants, which may wrap round at the screen's end. Contracts see the list of those that remain.
 pub type Wants<'a> = Ring<'a, Wanted>;
 
 impl HasCells for Wanted {

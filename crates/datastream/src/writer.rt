@@ -9,23 +9,23 @@ use crate::order_codes::{INSERT_CURSOR, REPEAT_TO_ADDRESS, SET_BUFFER_ADDRESS, S
 use codes3270::{Addr, Attr, Wcc, addr_to_bytes, attr_code};
 use std::alloc::AllocError;
 
-/// Want of memory: a growth that the allocator refused. A call that answers it has changed nothing.
+/// The allocator failed to grow the vector. A call that fails with it has changed nothing.
 pub type Memory = AllocError;
 
-/// Appends a command to a vector: `begin`, and then a call for each order or for several characters.
+/// Appends a command to a vector: call `begin`, then one method for each order or run of characters.
 ///
-/// Every call leaves the vector as it was where it is refused memory, and succeeds where the vector has room. What the
-/// calls append is read again by [`read_command`](crate::read_command) as the orders that they name: see
+/// A call fails only if memory for the vector's growth is refused, and then leaves the vector unchanged. What the
+/// calls append is read back by [`read_command`](crate::read_command) as the orders that they name: see
 /// [`written_is_read`](crate::laws::written_is_read).
 #[derive(Drop)]
 pub struct CommandWriter<'a> {
-    /// The vector that the calls append to. What it already has stays. It is public so that a caller's proof can
-    /// say that it is still the caller's own, which a model of the writer wouldn't tell.
+    /// The vector that the calls append to. Its present content stays. The field is public so that a caller's proof can
+    /// say that it is still the caller's own vector, which a model of the writer wouldn't tell.
     pub out: &'a mut Vec<u8>,
 }
 
 impl<'a> CommandWriter<'a> {
-    /// A writer at the end of this vector. It writes nothing.
+    /// A writer that appends to this vector. It writes nothing yet.
     pub fn new(out: &'a mut Vec<u8>) -> CommandWriter<'a>
         ensures same_vector { result.out.ghost_name ≡ out.entry.ghost_name }
         ensures same { result.out.now ≡ out.old }
@@ -33,8 +33,8 @@ impl<'a> CommandWriter<'a> {
         CommandWriter { out }
     }
 
-    /// Begins a command: its code, and for a write its write control character (GA23-0059-07, "Write Control
-    /// Character (WCC)"). The other commands have none, and what follows them is ignored.
+    /// Appends the command's code, and for a write its write control character (GA23-0059-07, "Write Control
+    /// Character (WCC)"). Other commands have none, and a reader ignores what follows them.
     pub fn begin(&mut self, code: CommandCode, wcc: Wcc) -> Result<(), Memory>
         ensures { Writes self.old.out self.new.out result (command_start code wcc) }
     {
@@ -45,7 +45,7 @@ impl<'a> CommandWriter<'a> {
         }
     }
 
-    /// Sets the current address (GA23-0059-07 on Set Buffer Address (SBA)).
+    /// Appends an order that sets the current buffer address (GA23-0059-07 on Set Buffer Address (SBA)).
     pub fn sba(&mut self, addr: Addr) -> Result<(), Memory>
         ensures { Writes self.old.out self.new.out result (order_bytes (Sba addr)) }
     {
@@ -53,14 +53,14 @@ impl<'a> CommandWriter<'a> {
         self.out.extend_from_slice(&[SET_BUFFER_ADDRESS, high, low])
     }
 
-    /// Starts a field (GA23-0059-07 on Start Field (SF)).
+    /// Appends an order that starts a field with this attribute (GA23-0059-07 on Start Field (SF)).
     pub fn sf(&mut self, attr: Attr) -> Result<(), Memory>
         ensures { Writes self.old.out self.new.out result (order_bytes (Sf attr)) }
     {
         self.out.extend_from_slice(&[START_FIELD, attr_code(attr)])
     }
 
-    /// Stores characters, which have to be storable.
+    /// Appends characters, which must be storable.
     pub fn chars(&mut self, chars: &[u8]) -> Result<(), Memory>
         requires { All (λ char. is_storable char ≡ true) chars.now }
         ensures { Writes self.old.out self.new.out result (orders_bytes (map (λ char. Char char) chars.now)) }
@@ -68,7 +68,8 @@ impl<'a> CommandWriter<'a> {
         self.out.extend_from_slice(chars)
     }
 
-    /// Stores a character, which must be storable, up to an address (GA23-0059-07 on Repeat to Address (RA)).
+    /// Appends an order that stores a character, which must be storable, from the current address up to `stop`, which
+    /// is excluded (GA23-0059-07 on Repeat to Address (RA)).
     pub fn ra(&mut self, stop: Addr, char: u8) -> Result<(), Memory>
         requires { is_storable char ≡ true }
         ensures { Writes self.old.out self.new.out result (order_bytes (Ra stop char)) }
@@ -78,7 +79,7 @@ impl<'a> CommandWriter<'a> {
             .extend_from_slice(&[REPEAT_TO_ADDRESS, high, low, char])
     }
 
-    /// Puts the cursor at the current address (GA23-0059-07 on Insert Cursor (IC)).
+    /// Appends an order that puts the cursor at the current address (GA23-0059-07 on Insert Cursor (IC)).
     pub fn ic(&mut self) -> Result<(), Memory>
         ensures { Writes self.old.out self.new.out result (order_bytes Ic) }
     {

@@ -6,7 +6,7 @@ use Rattle.tn3270e_msg.specs.declared.cause.Cause.TheVariants.{BadResponse}
 use Rattle.host_core.specs.Acts.{Act}
 use Rattle.host_core.specs.Answering.{BelievesNoSooner, BelievesNotesNoSooner, CommandsAreNumbered, NotesAreNumbered, number_of, OnlyItsResponse}
 use Rattle.host_core.specs.Messages.{Verdict}
-use Rattle.host_core.specs.Session.{Conn, Pending}
+use Rattle.host_core.specs.Session.{Session, Pending}
 use Rattle.host_core.specs.Takes.{HostStep, closed_by, if_answers, once_agreed, quiet, refused, response_came, verdict_came}
 
 pub believes_no_sooner : BelievesNoSooner
@@ -30,14 +30,14 @@ differs number pending other = by_test (number == pending) refl
     by_test true e = absurd (other (ap Some (sym (eqb-true number pending e))))
     by_test false e = refl
 
-no_answer : (number pending : ℕ) (step : HostStep) (conn : Conn) → (Some pending ≡ Some number → ⊥) → if_answers (number == pending) step conn ≡ closed_by BadResponse conn
+no_answer : (number pending : ℕ) (step : HostStep) (conn : Session) → (Some pending ≡ Some number → ⊥) → if_answers (number == pending) step conn ≡ closed_by BadResponse conn
 no_answer number pending step conn other = ap (λ b. if_answers b step conn) (differs number pending other)
 
-answers : (number pending : ℕ) (command : CommandParts) (verdict : Verdict) (conn : Conn) → (Some pending ≡ Some number → ⊥)
+answers : (number pending : ℕ) (command : CommandParts) (verdict : Verdict) (conn : Session) → (Some pending ≡ Some number → ⊥)
     → if_answers (number == pending) (verdict_came command verdict conn) conn ≡ closed_by BadResponse conn
 answers number pending command verdict conn other = no_answer number pending (verdict_came command verdict conn) conn other
 
-closes : (conn : Conn) (number : ℕ) (verdict : Verdict) (pending : Pending) → (number_of pending ≡ Some number → ⊥) → response_came number verdict pending conn ≡ closed_by BadResponse conn
+closes : (conn : Session) (number : ℕ) (verdict : Verdict) (pending : Pending) → (number_of pending ≡ Some number → ⊥) → response_came number verdict pending conn ≡ closed_by BadResponse conn
 closes conn number verdict Pending.Nothing other = refl
 closes conn number verdict (Pending.Writing pending command) other = answers number pending command verdict conn other
 closes conn number verdict (Pending.Noting pending command) other = answers number pending command verdict conn other

@@ -8,7 +8,7 @@ use Rattle.lu_pool.specs.Holders.{granted_if, given_back}
 use Rattle.lu_pool.specs.Pool.{Holds}
 use Rattle.lu_pool.specs.declared.entry.Entry.{Entry}
 use Rattle.telnet_wire.proofs.Running.{goes_wrong, delivers_none, delivers_item, none_completed, still_running}
-use Rattle.telnet_wire.specs.Held.{Held, Takes, TakesAll, Refuses, step_of}
+use Rattle.telnet_wire.specs.DecoderValue.{DecoderValue, Takes, TakesAll, Refuses, step_of}
 use Rattle.telnet_wire.specs.Items.{WireItem, sent_bytes}
 use Rattle.telnet_wire.specs.declared.wire.Step.TheVariants.{More}
 use Rattle.telnet_wire.specs.declared.wire.WireFault.{WireFault}
@@ -16,11 +16,11 @@ use Rattle.tn3270e_msg.specs.Header.{record_limit}
 use Rattle.tn3270e_msg.specs.HostTable.{granted}
 use Rattle.tn3270e_msg.specs.declared.cause.Cause.{Cause}
 use Rattle.tn3270e_msg.specs.declared.cause.Cause.TheVariants.{Wire}
-use Rattle.host_core.specs.Bytes.{Counter, TakesByte, TakesBytes, service_after}
-use Rattle.host_core.specs.Keeps.{IsLeft, IsRunning, ItemTaken, OthersHold, claim, counter_of}
+use Rattle.host_core.specs.Bytes.{ConnectionAndPool, TakesByte, TakesBytes, service_after}
+use Rattle.host_core.specs.Representation.{IsLeft, IsRunning, ItemTaken, OthersHold, claim, connection_and_pool_of}
 use Rattle.host_core.specs.Says.{item_sent}
 use Rattle.host_core.specs.Sound.{HoldsJust}
-use Rattle.host_core.specs.Session.{Conn}
+use Rattle.host_core.specs.Session.{Session}
 use Rattle.host_core.specs.State.{Service}
 use Rattle.host_core.specs.Takes.{HostStep, freed_if}
 use Rattle.host_core.specs.Reports.{Reports}
@@ -41,87 +41,87 @@ others_compose number old mid new first second = λ other lu differs. (
 )
 
 -- once its LU is free, if it closed
-pub claimed : (number : ℕ) (closes : Option Cause) (pool left : List Entry) (conn : Conn) → left ≡ freed_if number closes pool → IfSome closes (λ cause. HoldsJust number left None)
+pub claimed : (number : ℕ) (closes : Option Cause) (pool left : List Entry) (conn : Session) → left ≡ freed_if number closes pool → IfSome closes (λ cause. HoldsJust number left None)
     → IfNone closes (HoldsJust number pool (granted conn.talk.state)) → HoldsJust number left (claim closes conn)
 claimed number None pool left conn is freed just = subst (λ (p : List Entry). HoldsJust number p (granted conn.talk.state)) (sym is) just
 claimed number (Some cause) pool left conn is freed just = freed
 
 -- ---- a byte
 
-pub left_running : (closes : Option Cause) (held after : Held) (byte : ℕ) → IsRunning held → Takes held byte after → IsLeft closes after
+pub left_running : (closes : Option Cause) (held after : DecoderValue) (byte : ℕ) → IsRunning held → Takes held byte after → IsLeft closes after
 left_running None held after byte running takes = still_running record_limit held after byte running takes
 left_running (Some cause) held after byte running takes = tt
 
-pub byte_breaks : (number : ℕ) (pool left : List Entry) (held after : Held) (conn : Conn) (out : Vec ℕ Global) (reports : Reports) (byte : ℕ) (fault : WireFault)
+pub byte_breaks : (number : ℕ) (pool left : List Entry) (held after : DecoderValue) (conn : Session) (out : Vec ℕ Global) (reports : Reports) (byte : ℕ) (fault : WireFault)
     → IsRunning held → Refuses held byte fault → left ≡ given_back number pool
-    → TakesByte number (counter_of pool held conn None out reports) byte (counter_of left after conn (Some Wire) out reports)
+    → TakesByte number (connection_and_pool_of pool held conn None out reports) byte (connection_and_pool_of left after conn (Some Wire) out reports)
 byte_breaks number pool left held after conn out reports byte fault running refused back =
     TakesByte.breaks held.rest conn fault refl (goes_wrong record_limit held byte fault running refused)
-    (ap (λ (p : List Entry). counter_of p after conn (Some Wire) out reports) back)
+    (ap (λ (p : List Entry). connection_and_pool_of p after conn (Some Wire) out reports) back)
 
-pub byte_goes_on : (number : ℕ) (pool : List Entry) (held after : Held) (conn : Conn) (out : Vec ℕ Global) (reports : Reports) (byte : ℕ)
+pub byte_goes_on : (number : ℕ) (pool : List Entry) (held after : DecoderValue) (conn : Session) (out : Vec ℕ Global) (reports : Reports) (byte : ℕ)
     → IsRunning held → Takes held byte after → More ≡ step_of after.ready
-    → TakesByte number (counter_of pool held conn None out reports) byte (counter_of pool after conn None out reports)
+    → TakesByte number (connection_and_pool_of pool held conn None out reports) byte (connection_and_pool_of pool after conn None out reports)
 byte_goes_on number pool held after conn out reports byte running takes more =
     TakesByte.goes_on held.rest after.rest conn refl (delivers_none record_limit held after byte running takes more) refl
 
-pub byte_completes : (number : ℕ) (pool mid left : List Entry) (held after : Held) (old new : Conn) (before out : Vec ℕ Global) (kept keeps : Reports) (byte : ℕ) (item : WireItem) (closes : Option Cause)
+pub byte_completes : (number : ℕ) (pool mid left : List Entry) (held after : DecoderValue) (old new : Session) (before out : Vec ℕ Global) (kept keeps : Reports) (byte : ℕ) (item : WireItem) (closes : Option Cause)
     → IsRunning held → Takes held byte after → after.ready ≡ Some item → ItemTaken number pool old item before out closes mid new kept keeps → left ≡ freed_if number closes mid
-    → TakesByte number (counter_of pool held old None before kept) byte (counter_of left after new closes out keeps)
+    → TakesByte number (connection_and_pool_of pool held old None before kept) byte (connection_and_pool_of left after new closes out keeps)
 byte_completes number pool mid left held after old new before out kept keeps byte item closes running takes ready taken freed =
     let step : HostStep = taken.step in
     TakesByte.completes held.rest after.rest old item step refl
     (delivers_item record_limit held after byte item running takes ready) taken.takes
-    (ap (λ (p : List Entry). counter_of p after new closes out keeps) (freed ∙ ap (freed_if number closes) taken.pool_is)
+    (ap (λ (p : List Entry). connection_and_pool_of p after new closes out keeps) (freed ∙ ap (freed_if number closes) taken.pool_is)
     ∙ ap (λ (c : Option Cause). record { pool = freed_if number c (granted_if number step.grants pool); connection = record { service = service_after after.rest new c; out = out.items; reports = keeps } }) taken.ends
-    ∙ ap (λ (conn : Conn). record { pool = freed_if number step.closes (granted_if number step.grants pool); connection = record { service = service_after after.rest conn step.closes; out = out.items; reports = keeps } }) taken.conn
+    ∙ ap (λ (conn : Session). record { pool = freed_if number step.closes (granted_if number step.grants pool); connection = record { service = service_after after.rest conn step.closes; out = out.items; reports = keeps } }) taken.conn
     ∙ ap (λ (bytes : List ℕ). record { pool = freed_if number step.closes (granted_if number step.grants pool); connection = record { service = service_after after.rest step.conn step.closes; out = bytes; reports = keeps } }) taken.sent
     ∙ ap (λ (reports : Reports). record { pool = freed_if number step.closes (granted_if number step.grants pool); connection = record { service = service_after after.rest step.conn step.closes; out = before.items ++ sent_bytes (map item_sent step.sends); reports = reports } }) taken.reports)
 
 -- ---- bytes
 
-one_more : (number : ℕ) (old : Counter) (bytes : List ℕ) (mid : Counter) (byte : ℕ) (new : Counter)
+one_more : (number : ℕ) (old : ConnectionAndPool) (bytes : List ℕ) (mid : ConnectionAndPool) (byte : ℕ) (new : ConnectionAndPool)
     → TakesBytes number old bytes mid → TakesByte number mid byte new → TakesBytes number old (bytes ++ byte ∷ []) new
-one_more number old [] mid byte new taken more = (new, subst (λ (from : Counter). TakesByte number from byte new) taken more, refl)
+one_more number old [] mid byte new taken more = (new, subst (λ (from : ConnectionAndPool). TakesByte number from byte new) taken more, refl)
 one_more number old (first ∷ bytes) mid byte new taken more = (taken.0, taken.1, one_more number taken.0 bytes mid byte new taken.2 more)
 
-up_to_one_more : (number : ℕ) (old : Counter) (bytes : List ℕ) (place : ℕ) (mid new : Counter) → place < length bytes
+up_to_one_more : (number : ℕ) (old : ConnectionAndPool) (bytes : List ℕ) (place : ℕ) (mid new : ConnectionAndPool) → place < length bytes
     → TakesBytes number old (take place bytes) mid → TakesByte number mid (get_or bytes place 0) new → TakesBytes number old (take (place + 1) bytes) new
 up_to_one_more number old bytes place mid new below taken more =
     subst (λ (some : List ℕ). TakesBytes number old some new) (sym (take_more bytes place 0 below)) (one_more number old (take place bytes) mid (get_or bytes place 0) new taken more)
 
 -- the byte behind some bytes
-pub byte_behind : (number : ℕ) (start mid new : Counter) (bytes : List ℕ) (place byte : ℕ) → place < length bytes → byte ≡ get_or bytes place 0
+pub byte_behind : (number : ℕ) (start mid new : ConnectionAndPool) (bytes : List ℕ) (place byte : ℕ) → place < length bytes → byte ≡ get_or bytes place 0
     → TakesBytes number start (take place bytes) mid → TakesByte number mid byte new → TakesBytes number start (take (place + 1) bytes) new
 byte_behind number start mid new bytes place byte below at taken more =
     up_to_one_more number start bytes place mid new below taken (subst (λ (b : ℕ). TakesByte number mid b new) at more)
 
-more_bytes : (number : ℕ) (old mid new : Counter) (bytes more : List ℕ) → TakesBytes number old bytes mid → TakesBytes number mid more new → TakesBytes number old (bytes ++ more) new
-more_bytes number old mid new [] more taken then_taken = subst (λ (from : Counter). TakesBytes number from more new) taken then_taken
+more_bytes : (number : ℕ) (old mid new : ConnectionAndPool) (bytes more : List ℕ) → TakesBytes number old bytes mid → TakesBytes number mid more new → TakesBytes number old (bytes ++ more) new
+more_bytes number old mid new [] more taken then_taken = subst (λ (from : ConnectionAndPool). TakesBytes number from more new) taken then_taken
 more_bytes number old mid new (byte ∷ bytes) more taken then_taken = (taken.0, taken.1, more_bytes number taken.0 mid new bytes more taken.2 then_taken)
 
 -- room was made, and some bytes were taken
-pub some_more : (number : ℕ) (start : Counter) (bytes : List ℕ) (place count : ℕ) (pool left : List Entry) (held after : Held) (conn new : Conn) (out roomy sent : Vec ℕ Global) (reports keeps : Reports) (closes is : Option Cause)
-    → closes ≡ is → roomy.items ≡ out.items → TakesBytes number start (take place bytes) (counter_of pool held conn None out reports)
-    → TakesBytes number (counter_of pool held conn None roomy reports) (take count (take (length bytes - place) (drop place bytes))) (counter_of left after new closes sent keeps)
-    → TakesBytes number start (take (place + count) bytes) (counter_of left after new is sent keeps)
+pub some_more : (number : ℕ) (start : ConnectionAndPool) (bytes : List ℕ) (place count : ℕ) (pool left : List Entry) (held after : DecoderValue) (conn new : Session) (out roomy sent : Vec ℕ Global) (reports keeps : Reports) (closes is : Option Cause)
+    → closes ≡ is → roomy.items ≡ out.items → TakesBytes number start (take place bytes) (connection_and_pool_of pool held conn None out reports)
+    → TakesBytes number (connection_and_pool_of pool held conn None roomy reports) (take count (take (length bytes - place) (drop place bytes))) (connection_and_pool_of left after new closes sent keeps)
+    → TakesBytes number start (take (place + count) bytes) (connection_and_pool_of left after new is sent keeps)
 some_more number start bytes place count pool left held after conn new out roomy sent reports keeps closes is ends same taken more =
-    let as_before : counter_of pool held conn None roomy reports ≡ counter_of pool held conn None out reports =
+    let as_before : connection_and_pool_of pool held conn None roomy reports ≡ connection_and_pool_of pool held conn None out reports =
     ap (λ (items : List ℕ). record { pool = pool; connection = record { service = Service.Open held.rest conn; out = items; reports = reports } }) same in
     let rest : take (length bytes - place) (drop place bytes) ≡ drop place bytes = take_all (length bytes - place) (drop place bytes) (omega (arith, length-drop place bytes)) in
-    subst (λ (some : List ℕ). TakesBytes number start some (counter_of left after new is sent keeps)) (sym (take-add place count bytes))
-    (more_bytes number start (counter_of pool held conn None out reports) (counter_of left after new is sent keeps) (take place bytes) (take count (drop place bytes)) taken
-    (subst (λ (from : Counter). TakesBytes number from (take count (drop place bytes)) (counter_of left after new is sent keeps)) as_before
-    (subst (λ (cause : Option Cause). TakesBytes number (counter_of pool held conn None roomy reports) (take count (drop place bytes)) (counter_of left after new cause sent keeps)) ends
-    (subst (λ (some : List ℕ). TakesBytes number (counter_of pool held conn None roomy reports) (take count some) (counter_of left after new closes sent keeps)) rest more))))
+    subst (λ (some : List ℕ). TakesBytes number start some (connection_and_pool_of left after new is sent keeps)) (sym (take-add place count bytes))
+    (more_bytes number start (connection_and_pool_of pool held conn None out reports) (connection_and_pool_of left after new is sent keeps) (take place bytes) (take count (drop place bytes)) taken
+    (subst (λ (from : ConnectionAndPool). TakesBytes number from (take count (drop place bytes)) (connection_and_pool_of left after new is sent keeps)) as_before
+    (subst (λ (cause : Option Cause). TakesBytes number (connection_and_pool_of pool held conn None roomy reports) (take count (drop place bytes)) (connection_and_pool_of left after new cause sent keeps)) ends
+    (subst (λ (some : List ℕ). TakesBytes number (connection_and_pool_of pool held conn None roomy reports) (take count some) (connection_and_pool_of left after new closes sent keeps)) rest more))))
 
 -- data up to the next IAC
-pub data_taken : (number : ℕ) (run : List ℕ) (pool : List Entry) (held after : Held) (conn : Conn) (out : Vec ℕ Global) (reports : Reports) → IsRunning held → TakesAll held run [] after
-    → TakesBytes number (counter_of pool held conn None out reports) run (counter_of pool after conn None out reports)
-data_taken number [] pool held after conn out reports running taken = ap (λ (h : Held). counter_of pool h conn None out reports) taken.1
+pub data_taken : (number : ℕ) (run : List ℕ) (pool : List Entry) (held after : DecoderValue) (conn : Session) (out : Vec ℕ Global) (reports : Reports) → IsRunning held → TakesAll held run [] after
+    → TakesBytes number (connection_and_pool_of pool held conn None out reports) run (connection_and_pool_of pool after conn None out reports)
+data_taken number [] pool held after conn out reports running taken = ap (λ (h : DecoderValue). connection_and_pool_of pool h conn None out reports) taken.1
 data_taken number (byte ∷ run) pool held after conn out reports running taken =
     let none = none_completed taken.0.ready taken.1 taken.3 in (
-      counter_of pool taken.0 conn None out reports,
+      connection_and_pool_of pool taken.0 conn None out reports,
       byte_goes_on number pool held taken.0 conn out reports byte running taken.2 none.0,
       data_taken number run pool taken.0 after conn out reports (still_running record_limit held taken.0 byte running taken.2)
           (subst (λ (items : List WireItem). TakesAll taken.0 run items after) none.1 taken.4),

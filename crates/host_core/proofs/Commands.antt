@@ -14,7 +14,7 @@ use Rattle.shadow.specs.Stores.{is_plain}
 use Rattle.tn3270e_msg.specs.Header.{spelling, always_response}
 use Rattle.tn3270e_msg.specs.declared.header.Header.{Header}
 use Rattle.host_core.specs.Says.{command_header}
-use Rattle.host_core.specs.Keeps.{code_in, command_in, IsPlainWrite}
+use Rattle.host_core.specs.Representation.{code_in, command_in, IsPlainWrite}
 
 -- a write, of any of the three kinds
 abbrev pub IsSentCode : CommandCode → Type 0

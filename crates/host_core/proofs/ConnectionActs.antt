@@ -9,12 +9,12 @@ use Rattle.tn3270e_msg.specs.HostTable.{granted}
 use Rattle.host_core.specs.Acts.{Act, Decision, Sent, acted, decided, decision_on, done, may_act}
 use Rattle.host_core.specs.Application.{Application}
 use Rattle.host_core.specs.Does.{AnswerMayWantMemory, Does, DoesAnswer, MayWantMemory, is_paint}
-use Rattle.host_core.specs.Keeps.{AnswerWantsMemory, AnswersOn, DoesOn, WantsMemory, shown_by}
+use Rattle.host_core.specs.Representation.{AnswerWantsMemory, AnswersOn, DoesOn, WantsMemory, shown_by}
 use Rattle.host_core.specs.Connections.{IsSoundConnection, service_of}
 use Rattle.host_core.specs.Notes.{noted, noted_as, may_note}
 use Rattle.host_core.specs.Questions.{act_by, answered_in, has_its_panel, is_asking, is_ticket, ticket_of}
 use Rattle.host_core.specs.Rooms.{out_room}
-use Rattle.host_core.specs.Session.{Conn, is_agreed}
+use Rattle.host_core.specs.Session.{Session, is_agreed}
 use Rattle.host_core.specs.State.{Service, Connection, lu_of}
 use Rattle.host_core.specs.declared.acted.Acted.{Acted}
 use Rattle.host_core.specs.declared.acted.Acted.TheVariants as answer
@@ -22,20 +22,20 @@ use Rattle.host_core.specs.declared.connection.HostEnd.{HostEnd}
 use Rattle.host_core.specs.declared.question.Answer.{Answer}
 use Rattle.host_core.specs.declared.question.Ticket.{Ticket}
 use Rattle.host_core.specs.Reports.{Reports, with_shown}
-use Rattle.host_core.specs.declared.connection.Service.{Service as Kept}
+use Rattle.host_core.specs.declared.connection.Service.{Service as ServiceValue}
 use Rattle.host_core.specs.declared.connection.Service.TheVariants as kept
 use Rattle.std.proofs.Common.{Box}
 
-abbrev open_connection : Rest → Conn → List ℕ → Reports → Connection
+abbrev open_connection : Rest → Session → List ℕ → Reports → Connection
 open_connection rest conn out reports = record { service = Service.Open rest conn; out = out; reports = reports }
 
-same_connection : (rest : Rest) (one other : Conn) (bytes others : List ℕ) (reports kept : Reports) → one ≡ other → bytes ≡ others → reports ≡ kept
+same_connection : (rest : Rest) (one other : Session) (bytes others : List ℕ) (reports kept : Reports) → one ≡ other → bytes ≡ others → reports ≡ kept
     → open_connection rest one bytes reports ≡ open_connection rest other others kept
 same_connection rest one other bytes others reports kept conns outs are =
     ap (λ c. open_connection rest c bytes reports) conns ∙ ap (λ b. open_connection rest other b reports) outs ∙ ap (open_connection rest other others) are
 
 -- more room does as well
-pub still_sound : (service : Kept) (before after : Vec ℕ Global) → vec_capacity before ≤ vec_capacity after → IsSoundConnection service before → IsSoundConnection service after
+pub still_sound : (service : ServiceValue) (before after : Vec ℕ Global) → vec_capacity before ≤ vec_capacity after → IsSoundConnection service before → IsSoundConnection service after
 still_sound kept.Free before after more sound = tt
 still_sound (kept.Open held) before after more sound =
     let roomy = sound.1 in
@@ -43,11 +43,11 @@ still_sound (kept.Open held) before after more sound =
 still_sound (kept.Closed cause) before after more sound = tt
 
 -- the room of a connection that is open
-pub room_of_open : (service : Kept) (box : Box HostEnd Global) (out : Vec ℕ Global) → service ≡ kept.Open box → IsSoundConnection service out → out_room ≤ vec_capacity out
-room_of_open service box out is sound = (subst (λ (s : Kept). IsSoundConnection s out) is sound).1
+pub room_of_open : (service : ServiceValue) (box : Box HostEnd Global) (out : Vec ℕ Global) → service ≡ kept.Open box → IsSoundConnection service out → out_room ≤ vec_capacity out
+room_of_open service box out is sound = (subst (λ (s : ServiceValue). IsSoundConnection s out) is sound).1
 
 -- a connection has kept its room, so that this didn't do either
-may_want : (sent : Sent) (rest : Rest) (old : Conn) (before : Vec ℕ Global) (reports : Reports) → out_room ≤ vec_capacity before → WantsMemory sent old before
+may_want : (sent : Sent) (rest : Rest) (old : Session) (before : Vec ℕ Global) (reports : Reports) → out_room ≤ vec_capacity before → WantsMemory sent old before
     → MayWantMemory sent (open_connection rest old before.items reports)
 may_want sent rest old before reports roomy (WantsMemory.room short) =
     let len = before.ok.0 in
@@ -55,14 +55,14 @@ may_want sent rest old before reports roomy (WantsMemory.room short) =
 may_want sent rest old before reports roomy (WantsMemory.values changes) = MayWantMemory.values changes
 
 -- where nothing was done nothing is to be reported
-none_shown : (answered : Acted) (new : Conn) (reports kept : Reports) → answered ≡ answer.Nothing → kept ≡ shown_by answered new reports → kept ≡ reports
+none_shown : (answered : Acted) (new : Session) (reports kept : Reports) → answered ≡ answer.Nothing → kept ≡ shown_by answered new reports → kept ≡ reports
 none_shown answered new reports kept nothing keeps = keeps ∙ ap (λ a. shown_by a new reports) nothing
 
-sent_shown : (sent : Sent) (new : Conn) (reports kept : Reports) → new ≡ sent.conn → kept ≡ shown_by answer.Sent new reports
+sent_shown : (sent : Sent) (new : Session) (reports kept : Reports) → new ≡ sent.conn → kept ≡ shown_by answer.Sent new reports
     → kept ≡ with_shown (is_paint sent.conn.pending) reports
-sent_shown sent new reports kept is keeps = keeps ∙ ap (λ (conn : Conn). with_shown (is_paint conn.pending) reports) is
+sent_shown sent new reports kept is keeps = keeps ∙ ap (λ (conn : Session). with_shown (is_paint conn.pending) reports) is
 
-on_connection : (what : Option Sent) (rest : Rest) (old new : Conn) (before after : Vec ℕ Global) (answered : Acted) (reports kept : Reports) → out_room ≤ vec_capacity before → DoesOn what old before answered new after
+on_connection : (what : Option Sent) (rest : Rest) (old new : Session) (before after : Vec ℕ Global) (answered : Acted) (reports kept : Reports) → out_room ≤ vec_capacity before → DoesOn what old before answered new after
     → kept ≡ shown_by answered new reports → Does what (open_connection rest old before.items reports) answered (open_connection rest new after.items kept)
 on_connection None rest old new before after answered reports kept roomy does keeps =
     (does.0, same_connection rest new old after.items before.items kept reports does.1 does.2 (none_shown answered new reports kept does.0 keeps))
@@ -73,30 +73,30 @@ on_connection (Some sent) rest old new before after answer.Memory reports kept r
 on_connection (Some sent) rest old new before after answer.Nothing reports kept roomy does keeps = absurd does
 
 -- the line of an open connection, from its parts
-connection_is : (now : Connection) (service : Kept) (box : Box HostEnd Global) (old : HostEnd) (before : Vec ℕ Global) (reports : Reports)
+connection_is : (now : Connection) (service : ServiceValue) (box : Box HostEnd Global) (old : HostEnd) (before : Vec ℕ Global) (reports : Reports)
     → now ≡ record { service = service_of service; out = before.items; reports = reports } → service ≡ kept.Open box → old ≡ box.value
     → now ≡ open_connection old.decoder.rest old.session before.items reports
 connection_is now service box old before reports view is value =
-    view ∙ ap (λ (s : Kept). record { service = service_of s; out = before.items; reports = reports }) is
+    view ∙ ap (λ (s : ServiceValue). record { service = service_of s; out = before.items; reports = reports }) is
     ∙ ap (λ (x : HostEnd). open_connection x.decoder.rest x.session before.items reports) (sym value)
 
-pub does_connection : (what : Service → Option Sent) (now : Connection) (service : Kept) (box : Box HostEnd Global) (old : HostEnd) (new : Conn) (before after : Vec ℕ Global) (answered : Acted) (reports left : Reports)
+pub does_connection : (what : Service → Option Sent) (now : Connection) (service : ServiceValue) (box : Box HostEnd Global) (old : HostEnd) (new : Session) (before after : Vec ℕ Global) (answered : Acted) (reports left : Reports)
     → now ≡ record { service = service_of service; out = before.items; reports = reports } → IsSoundConnection service before → service ≡ kept.Open box → old ≡ box.value
     → DoesOn (what (Service.Open old.decoder.rest old.session)) old.session before answered new after → left ≡ shown_by answered new reports
     → Does (what now.service) now answered (open_connection old.decoder.rest new after.items left)
 does_connection what now service box old new before after answered reports left view sound is value does keeps =
     subst (λ (l : Connection). Does (what l.service) l answered (open_connection old.decoder.rest new after.items left)) (sym (connection_is now service box old before reports view is value))
-    (on_connection (what (Service.Open old.decoder.rest old.session)) old.decoder.rest old.session new before after answered reports left (subst (λ (s : Kept). IsSoundConnection s before) is sound).1 does keeps)
+    (on_connection (what (Service.Open old.decoder.rest old.session)) old.decoder.rest old.session new before after answered reports left (subst (λ (s : ServiceValue). IsSoundConnection s before) is sound).1 does keeps)
 
 -- an answer, likewise
-answer_may_want : (app : Application) (said : Answer) (sent : Sent) (rest : Rest) (old : Conn) (before : Vec ℕ Global) (reports : Reports) → out_room ≤ vec_capacity before
+answer_may_want : (app : Application) (said : Answer) (sent : Sent) (rest : Rest) (old : Session) (before : Vec ℕ Global) (reports : Reports) → out_room ≤ vec_capacity before
     → AnswerWantsMemory app said sent old before → AnswerMayWantMemory app said sent (open_connection rest old before.items reports)
 answer_may_want app said sent rest old before reports roomy (AnswerWantsMemory.room short) =
     let len = before.ok.0 in
     AnswerMayWantMemory.room (omega (arith, roomy, short, len))
 answer_may_want app said sent rest old before reports roomy (AnswerWantsMemory.values want) = AnswerMayWantMemory.values want
 
-answer_on_connection : (app : Application) (said : Answer) (what : Option Sent) (rest : Rest) (old new : Conn) (before after : Vec ℕ Global) (did : Acted) (reports kept : Reports) → out_room ≤ vec_capacity before
+answer_on_connection : (app : Application) (said : Answer) (what : Option Sent) (rest : Rest) (old new : Session) (before after : Vec ℕ Global) (did : Acted) (reports kept : Reports) → out_room ≤ vec_capacity before
     → AnswersOn app said what old before did new after → kept ≡ shown_by did new reports
     → DoesAnswer app said what (open_connection rest old before.items reports) did (open_connection rest new after.items kept)
 answer_on_connection app said None rest old new before after did reports kept roomy does keeps =
@@ -107,51 +107,51 @@ answer_on_connection app said (Some sent) rest old new before after answer.Memor
     (same_connection rest new old after.items before.items kept reports does.0 does.1 keeps, answer_may_want app said sent rest old before reports roomy does.2)
 answer_on_connection app said (Some sent) rest old new before after answer.Nothing reports kept roomy does keeps = absurd does
 
-pub answers_connection : (app : Application) (said : Answer) (what : Service → Option Sent) (now : Connection) (service : Kept) (box : Box HostEnd Global) (old : HostEnd) (new : Conn) (before after : Vec ℕ Global) (did : Acted) (reports left : Reports)
+pub answers_connection : (app : Application) (said : Answer) (what : Service → Option Sent) (now : Connection) (service : ServiceValue) (box : Box HostEnd Global) (old : HostEnd) (new : Session) (before after : Vec ℕ Global) (did : Acted) (reports left : Reports)
     → now ≡ record { service = service_of service; out = before.items; reports = reports } → IsSoundConnection service before → service ≡ kept.Open box → old ≡ box.value
     → AnswersOn app said (what (Service.Open old.decoder.rest old.session)) old.session before did new after → left ≡ shown_by did new reports
     → DoesAnswer app said (what now.service) now did (open_connection old.decoder.rest new after.items left)
 answers_connection app said what now service box old new before after did reports left view sound is value does keeps =
     subst (λ (l : Connection). DoesAnswer app said (what l.service) l did (open_connection old.decoder.rest new after.items left)) (sym (connection_is now service box old before reports view is value))
-    (answer_on_connection app said (what (Service.Open old.decoder.rest old.session)) old.decoder.rest old.session new before after did reports left (subst (λ (s : Kept). IsSoundConnection s before) is sound).1 does keeps)
+    (answer_on_connection app said (what (Service.Open old.decoder.rest old.session)) old.decoder.rest old.session new before after did reports left (subst (λ (s : ServiceValue). IsSoundConnection s before) is sound).1 does keeps)
 
 -- ---- the talk stays
 
 -- what is sent leaves the talk as it was
-abbrev Talks : Conn → Option Sent → Type 0
+abbrev Talks : Session → Option Sent → Type 0
 Talks old what = IfSome what (λ (sent : Sent). sent.conn.talk ≡ old.talk)
 
-keeps : (what : Option Sent) (old new : Conn) (before after : Vec ℕ Global) (answered : Acted) → Talks old what → DoesOn what old before answered new after → new.talk ≡ old.talk
-keeps None old new before after answered same does = ap (λ (c : Conn). c.talk) does.1
-keeps (Some sent) old new before after answer.Sent same does = ap (λ (c : Conn). c.talk) does.conn ∙ same
-keeps (Some sent) old new before after answer.Memory same does = ap (λ (c : Conn). c.talk) does.0
+keeps : (what : Option Sent) (old new : Session) (before after : Vec ℕ Global) (answered : Acted) → Talks old what → DoesOn what old before answered new after → new.talk ≡ old.talk
+keeps None old new before after answered same does = ap (λ (c : Session). c.talk) does.1
+keeps (Some sent) old new before after answer.Sent same does = ap (λ (c : Session). c.talk) does.conn ∙ same
+keeps (Some sent) old new before after answer.Memory same does = ap (λ (c : Session). c.talk) does.0
 keeps (Some sent) old new before after answer.Nothing same does = absurd does
 
-answer_keeps : (app : Application) (said : Answer) (what : Option Sent) (old new : Conn) (before after : Vec ℕ Global) (did : Acted) → Talks old what → AnswersOn app said what old before did new after → new.talk ≡ old.talk
-answer_keeps app said None old new before after did same does = ap (λ (c : Conn). c.talk) does.1
-answer_keeps app said (Some sent) old new before after answer.Sent same does = ap (λ (c : Conn). c.talk) does.conn ∙ same
-answer_keeps app said (Some sent) old new before after answer.Memory same does = ap (λ (c : Conn). c.talk) does.0
+answer_keeps : (app : Application) (said : Answer) (what : Option Sent) (old new : Session) (before after : Vec ℕ Global) (did : Acted) → Talks old what → AnswersOn app said what old before did new after → new.talk ≡ old.talk
+answer_keeps app said None old new before after did same does = ap (λ (c : Session). c.talk) does.1
+answer_keeps app said (Some sent) old new before after answer.Sent same does = ap (λ (c : Session). c.talk) does.conn ∙ same
+answer_keeps app said (Some sent) old new before after answer.Memory same does = ap (λ (c : Session). c.talk) does.0
 answer_keeps app said (Some sent) old new before after answer.Nothing same does = absurd does
 
-done_keeps : (app : Application) (conn : Conn) (act : Act) → (done app conn act).conn.talk ≡ conn.talk
+done_keeps : (app : Application) (conn : Session) (act : Act) → (done app conn act).conn.talk ≡ conn.talk
 done_keeps app conn Act.Read = refl
 done_keeps app conn (Act.Show panel message keep values) = refl
 
-decided_talks : (app : Application) (conn : Conn) (may : Bool) (decision : Decision) → Talks conn (option_and_then (decided app conn) (if may then Some decision else None))
+decided_talks : (app : Application) (conn : Session) (may : Bool) (decision : Decision) → Talks conn (option_and_then (decided app conn) (if may then Some decision else None))
 decided_talks app conn false decision = tt
 decided_talks app conn true (Decision.Do act) = done_keeps app conn act
 decided_talks app conn true Decision.Asks = tt
 
-answered_talks : (app : Application) (conn : Conn) (act : Act) (ticket asking : Bool) → Talks conn (if ticket then (if asking then Some (done app conn act) else None) else None)
+answered_talks : (app : Application) (conn : Session) (act : Act) (ticket asking : Bool) → Talks conn (if ticket then (if asking then Some (done app conn act) else None) else None)
 answered_talks app conn act false asking = tt
 answered_talks app conn act true false = tt
 answered_talks app conn act true true = done_keeps app conn act
 
-note_talks : (text : List ℕ) (conn : Conn) (may : Bool) → Talks conn (if may then Some (noted_as text conn) else None)
+note_talks : (text : List ℕ) (conn : Session) (may : Bool) → Talks conn (if may then Some (noted_as text conn) else None)
 note_talks text conn false = tt
 note_talks text conn true = refl
 
-module _ (now : Connection) (service : Kept) (box : Box HostEnd Global) (old : HostEnd) (new : Conn) (before after : Vec ℕ Global) (answered : Acted) (reports : Reports)
+module _ (now : Connection) (service : ServiceValue) (box : Box HostEnd Global) (old : HostEnd) (new : Session) (before after : Vec ℕ Global) (answered : Acted) (reports : Reports)
     (view : now ≡ record { service = service_of service; out = before.items; reports = reports }) (is : service ≡ kept.Open box) (value : old ≡ box.value) where
   same_claim : new.talk ≡ old.session.talk → granted new.talk.state ≡ lu_of now.service
   same_claim same = ap (λ t. granted t.state) same ∙ sym (ap (λ (l : Connection). lu_of l.service) (connection_is now service box old before reports view is value))

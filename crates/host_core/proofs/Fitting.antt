@@ -13,7 +13,7 @@ use Rattle.shadow.specs.Fits.{is_keep, is_attribute, fields_fit, fits_from, fits
 use Rattle.panels.specs.declared.message.Message.{Message}
 use Rattle.panels.specs.Screen.{Values}
 use Rattle.host_core.specs.Application.{Application, IsApplication, IsSizeOf, KeepsNothing}
-use Rattle.host_core.specs.Session.{Conn, model_in}
+use Rattle.host_core.specs.Session.{Session, model_in}
 use Rattle.host_core.specs.Acts.{known_despite, Act, wanted_by, when_shown}
 use Rattle.host_core.specs.Laws.{IsPaintable, ActsFit, SizesAreTheModels, MayBeNow, UnheardIsAllowed}
 use Rattle.host_core.specs.declared.unheard.Unheard.{Unheard}
@@ -71,7 +71,7 @@ whole_paints app shadow panel values message is = record {
   showable = is.showable panel values message false;
 }
 
-pub paints : (app : Application) (conn : Conn) (panel : ℕ) (message : Message) (keep : Bool) (values : Values) → IsApplication app
+pub paints : (app : Application) (conn : Session) (panel : ℕ) (message : Message) (keep : Bool) (values : Values) → IsApplication app
     → let wanted = wanted_by app conn panel message keep values in IsPaintable wanted.size conn.shadow wanted
 paints app conn panel message false values is = whole_paints app conn.shadow panel values message is
 paints app conn panel message true values is = by_fit (fits conn.shadow kept) refl
@@ -88,7 +88,7 @@ acts_fit app conn Act.Read is = tt
 acts_fit app conn (Act.Show panel message keep values) is = (paints app (when_shown conn) (app.shown (model_in conn) panel) message keep values is, refl)
 
 -- what is wanted has one of the sizes of the session's model
-wanted_size : (app : Application) (conn : Conn) (model : Model) (panel : ℕ) (message : Message) (keep : Bool) (values : Values) → IsApplication app
+wanted_size : (app : Application) (conn : Session) (model : Model) (panel : ℕ) (message : Message) (keep : Bool) (values : Values) → IsApplication app
     → IsSizeOf app model (wanted_by app conn (app.shown model panel) message keep values).size
 wanted_size app conn model panel message false values is = is.sizes model panel values message false
 wanted_size app conn model panel message true values is = by_fit (fits conn.shadow kept)

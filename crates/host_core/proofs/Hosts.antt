@@ -5,9 +5,9 @@ use Rattle.std.proofs.lemmas.List.{get_or-set_same, get_or-set_other, length-set
 use Rattle.lu_pool.specs.Pool.{Holds, HoldsNone, OneHolder}
 use Rattle.lu_pool.specs.declared.entry.Entry.{Entry}
 use Rattle.panels.specs.Panel.{Panels}
-use Rattle.host_core.specs.Keeps.{OthersHold}
+use Rattle.host_core.specs.Representation.{OthersHold}
 use Rattle.host_core.specs.Connections.{service_of}
-use Rattle.host_core.specs.declared.connection.Service.{Service as Kept}
+use Rattle.host_core.specs.declared.connection.Service.{Service as ServiceValue}
 use Rattle.host_core.specs.Session.{agreed_lu}
 use Rattle.host_core.specs.Sound.{HoldsJust, IsShown, IsSound, NobodyShares}
 use Rattle.host_core.specs.declared.terminals.Terminals.{Terminals}
@@ -165,7 +165,7 @@ unused_sound panels pool connections sessions terminals are counted nobody =
 -- ---- a line
 
 -- what is held of a line is held of its parts
-pub held_of_parts : (number : ℕ) (pool : List Entry) (now : Connection) (service : Kept) (out : List ℕ) (reports : Reports) (held : Option (List ℕ))
+pub held_of_parts : (number : ℕ) (pool : List Entry) (now : Connection) (service : ServiceValue) (out : List ℕ) (reports : Reports) (held : Option (List ℕ))
     → now ≡ record { service = service_of service; out = out; reports = reports } → lu_of (service_of service) ≡ held
     → HoldsJust number pool (lu_of now.service) → HoldsJust number pool held
 held_of_parts number pool now service out reports held is same h = subst (HoldsJust number pool) (ap (λ (l : Connection). lu_of l.service) is ∙ same) h

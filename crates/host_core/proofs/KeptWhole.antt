@@ -6,7 +6,7 @@ use Rattle.std.proofs.lemmas.List.{append-nil}
 use Rattle.codes3270.specs.declared.attribute.Attr.{Attr as Attribute}
 use Rattle.datastream.specs.declared.wanted.Want.{Want}
 use Rattle.datastream.specs.declared.wanted.Want.TheVariants.{Char, Attr, Keep}
-use Rattle.shadow.specs.Openness.{keeps_alone, keeps_whole}
+use Rattle.shadow.specs.TextUnknown.{keeps_alone, keeps_whole}
 use Rattle.shadow.specs.Painted.{keeps_ahead}
 
 -- a cell lies between an attribute and the next, and all that does is kept

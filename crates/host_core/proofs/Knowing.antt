@@ -7,7 +7,7 @@ use Rattle.std.proofs.lemmas.List.Elements.{All-head, All-tail}
 use Rattle.datastream.specs.Inbound.{without_nulls}
 use Rattle.codes3270.specs.Storable.{is_storable}
 use Rattle.panels.specs.Characters.{AreCharacters}
-use Rattle.shadow.specs.Asked.{value_of, field_at, text_at}
+use Rattle.shadow.specs.Queries.{value_of, field_at, text_at}
 use Rattle.shadow.specs.Belief.{Fact, Belief, Shadow}
 use Rattle.shadow.specs.Meets.{told}
 use Rattle.shadow.specs.Storable.{IsTextChar, CanBeStored, ToldCanBeStored}

@@ -7,7 +7,7 @@ use Rattle.std.proofs.lemmas.List.{length-replicate}
 use Rattle.codes3270.specs.declared.attribute.Attr.{Attr as Attribute}
 use Rattle.codes3270.specs.declared.attribute.Cell.{Cell}
 use Rattle.codes3270.specs.declared.attribute.Cell.TheVariants.{Char, Attr}
-use Rattle.datastream.specs.Held.{Hold, hold_of, hold_under}
+use Rattle.datastream.specs.KeptByKeys.{Hold, hold_of, hold_under}
 use Rattle.datastream.specs.HeldLaws.{HeldIsRound}
 use Rattle.datastream.specs.HeldRound.{HeldFrom}
 use Rattle.datastream.specs.Screen.{attribute_in, is_char, last_attribute}

@@ -12,18 +12,18 @@ use Rattle.datastream.specs.Grammar.{CommandParts, IsCommand, write}
 use Rattle.datastream.specs.Note.{quiet}
 use Rattle.datastream.specs.Writing.{order_bytes, orders_bytes, command_start, write_bytes}
 use Rattle.datastream.specs.declared.command_code.CommandCode.TheVariants.{Write}
-use Rattle.datastream.specs.declared.order.Order.TheVariants.{Sba, Char as Data}
+use Rattle.datastream.specs.declared.order.Order.TheVariants.{Sba, Char as CharData}
 use Rattle.shadow.specs.Stores.{is_plain, is_plain_order}
 use Rattle.telnet_wire.specs.Items.{Record, sent_bytes}
 use Rattle.tn3270e_msg.specs.Header.{next_number}
 use Rattle.host_core.proofs.Commands.{write_record, read_behind, plain_behind}
 use Rattle.host_core.proofs.Notes.{IsStored, few_taken, graphic_stored, orders_proper}
 use Rattle.host_core.specs.Application.{IsShape, message_place}
-use Rattle.host_core.specs.Keeps.{command_in, pending_in, IsPlainWrite, IsSentOn}
+use Rattle.host_core.specs.Representation.{command_in, pending_in, IsPlainWrite, IsSentOn}
 use Rattle.host_core.specs.Notes.{IsNoteText, in_cells, note_orders, note_command, noted_as}
 use Rattle.host_core.specs.Rooms.{note_room}
 use Rattle.host_core.specs.Says.{written}
-use Rattle.host_core.specs.Session.{Conn, Pending}
+use Rattle.host_core.specs.Session.{Session, Pending}
 use Rattle.host_core.specs.declared.pending.Pending.TheVariants as unanswered
 
 -- ---- the text, cut to its cells
@@ -72,7 +72,7 @@ note_written shape text front nulls old begun placed put new is behind started a
 
 -- ---- its command
 
-each_plain : (text : List ℕ) → list_all is_plain_order (map Data text) ≡ true
+each_plain : (text : List ℕ) → list_all is_plain_order (map CharData text) ≡ true
 each_plain [] = refl
 each_plain (byte ∷ text) = each_plain text
 
@@ -92,14 +92,14 @@ pub note_is_kept : (shape : Shape) (number : ℕ) (text sent : List ℕ) → IsS
 note_is_kept shape number text sent shaped is begun =
     plain_behind shape number Write quiet (note_orders shape text) sent refl (note_spelt shape text shaped is) (note_plain shape text) refl begun
 
-pub note_sent : (conn new : Conn) (text sent : List ℕ) (before after : Vec ℕ Global) → IsShape conn.shape → IsNoteText text
-    → sent ≡ write_record conn.next_seq Write quiet (note_orders conn.shape text)
-    → new ≡ record conn { pending = pending_in conn.shape (unanswered.Noting conn.next_seq) sent; next_seq = next_number conn.next_seq }
+pub note_sent : (conn new : Session) (text sent : List ℕ) (before after : Vec ℕ Global) → IsShape conn.size → IsNoteText text
+    → sent ≡ write_record conn.next_seq Write quiet (note_orders conn.size text)
+    → new ≡ record conn { pending = pending_in conn.size (unanswered.Noting conn.next_seq) sent; next_seq = next_number conn.next_seq }
     → after.items ≡ before.items ++ sent_bytes (Record sent ∷ [])
     → IsSentOn (noted_as text conn) before after new
 note_sent conn new text sent before after shaped is begun changed put = record {
   conn = changed ∙ ap (λ (command : CommandParts). record conn { pending = Pending.Noting conn.next_seq command; next_seq = next_number conn.next_seq })
-      (note_again conn.shape conn.next_seq text sent shaped is begun);
+      (note_again conn.size conn.next_seq text sent shaped is begun);
   bytes = put ∙ ap (λ (bytes : List ℕ). before.items ++ sent_bytes (Record bytes ∷ [])) begun;
 }
 
@@ -108,7 +108,7 @@ note_sent conn new text sent before after shaped is begun changed put = record {
 note_length : (shape : Shape) (text : List ℕ) → length (written (note_command shape text)) ≤ 5 + (shape.columns - 1)
 note_length shape text =
     let cells = few_taken (shape.columns - 1) (text ++ replicate (shape.columns - 1) 0) in
-    let bytes : length (orders_bytes (map Data (in_cells (shape.columns - 1) text))) ≡ length (in_cells (shape.columns - 1) text) =
+    let bytes : length (orders_bytes (map CharData (in_cells (shape.columns - 1) text))) ≡ length (in_cells (shape.columns - 1) text) =
     ap (λ (some : List ℕ). length some) (orders_bytes-chars (in_cells (shape.columns - 1) text)) in
     omega arith
 

@@ -21,7 +21,7 @@ use Rattle.datastream.specs.Screen.{attribute_in, is_char, last_attribute, attri
 use Rattle.datastream.specs.Writing.{Call, sba, chars, IsAllowed, command_bytes}
 use Rattle.datastream.specs.declared.command_code.CommandCode.TheVariants.{Write}
 use Rattle.datastream.specs.declared.order.Order.{Order}
-use Rattle.datastream.specs.declared.order.Order.TheVariants.{Sba, Char as Data}
+use Rattle.datastream.specs.declared.order.Order.TheVariants.{Sba, Char as CharData}
 use Rattle.shadow.specs.Notes.{NoteOverwritesProtected, NoteOverwritesBare}
 use Rattle.host_core.specs.Application.{IsShape, message_place}
 use Rattle.host_core.specs.NoteLaws.{IsProtectedRow, HasMessageRow, formatted, unformatted, IsNoteOf, IsProperNote, NotesAreNotes, NotesOverwrite, NotesAreOverCharacters, NotesWriteProtected}
@@ -58,18 +58,18 @@ address_on cells columns room row = omega arith
 
 pub orders_proper : (shape : Shape) (text : List ℕ) → IsShape shape → IsNoteText text → All (IsProper (cells_in shape)) (note_orders shape text)
 orders_proper shape text shaped is =
-    All-cons (IsProper (cells_in shape)) (Sba (message_place shape + 1)) (map Data (in_cells (shape.columns - 1) text))
+    All-cons (IsProper (cells_in shape)) (Sba (message_place shape + 1)) (map CharData (in_cells (shape.columns - 1) text))
     (address_on (cells_in shape) shape.columns shaped.columns shaped.row)
-    (All-map (IsProper (cells_in shape)) Data (in_cells (shape.columns - 1) text) (text_stored (shape.columns - 1) text is))
+    (All-map (IsProper (cells_in shape)) CharData (in_cells (shape.columns - 1) text) (text_stored (shape.columns - 1) text is))
 
 is_note : (shape : Shape) (text : List ℕ) → IsNote (note_command shape text)
 is_note shape text = record {
   first = message_place shape + 1;
-  others = map Data (in_cells (shape.columns - 1) text);
+  others = map CharData (in_cells (shape.columns - 1) text);
   code = refl;
   wcc = refl;
   orders = refl;
-  each = All-map IsNoteOrder Data (in_cells (shape.columns - 1) text) (λ k d below. tt);
+  each = All-map IsNoteOrder CharData (in_cells (shape.columns - 1) text) (λ k d below. tt);
 }
 
 note_of : (shape : Shape) (command : CommandParts) → IsNoteOf shape command → IsNote command
@@ -82,13 +82,13 @@ notes_are_notes shape command shaped note = subst IsProperNote (sym note.is) (re
 })
 
 text_allowed : (size : ℕ) (text : List ℕ) → All IsStored text → IsAllowed size (chars text)
-text_allowed size text each = All-map (IsProper size) Data text each
+text_allowed size text each = All-map (IsProper size) CharData text each
 
 -- a note that begins at an address, for a screen of this shape
 note_at : Shape → ℕ → List Order → CommandParts
 note_at shape address more = record { code = Write; size = shape; wcc = Some quiet; orders = Sba address ∷ more }
 
-spelt_call : WrittenIsRead → (shape : Shape) (address : ℕ) (text : List ℕ) → cells_in shape ≤ most_cells → address < cells_in shape → All IsStored text → IsSpelt (note_at shape address (map Data text))
+spelt_call : WrittenIsRead → (shape : Shape) (address : ℕ) (text : List ℕ) → cells_in shape ≤ most_cells → address < cells_in shape → All IsStored text → IsSpelt (note_at shape address (map CharData text))
 unfolding note_at
 spelt_call law shape address text few on each =
     let calls : List Call = sba address ∷ chars text ∷ [] in
@@ -98,7 +98,7 @@ spelt_call law shape address text few on each =
       shape,
       shape,
       command_bytes Write quiet calls,
-      subst (λ (more : List Order). IsCommand shape shape (note_at shape address more) (command_bytes Write quiet calls)) (append-nil (map Data text))
+      subst (λ (more : List Order). IsCommand shape shape (note_at shape address more) (command_bytes Write quiet calls)) (append-nil (map CharData text))
           (law shape shape Write quiet calls few allowed),
     )
 
@@ -111,14 +111,14 @@ note_spelt law shape command shaped note =
 
 -- ---- its places: from behind the row's attribute to the screen's end
 
-each_place : (P : ℕ → Type 0) (size at : ℕ) (text : List ℕ) → at + length text ≤ size → ((place : ℕ) → at ≤ place → place < size → P place) → All P (places_from_on size at (map Data text))
+each_place : (P : ℕ → Type 0) (size at : ℕ) (text : List ℕ) → at + length text ≤ size → ((place : ℕ) → at ≤ place → place < size → P place) → All P (places_from_on size at (map CharData text))
 each_place P size at [] few each = All-nil P
 each_place P size at (byte ∷ []) few each = All-cons P at [] (each at (omega arith) (omega arith)) (All-nil P)
 each_place P size at (byte ∷ other ∷ text) few each =
     let next : (at + 1) % size ≡ at + 1 = mod-eq_of_lt (omega arith) in
-    let more : All P (places_from_on size (at + 1) (map Data (other ∷ text))) = each_place P size (at + 1) (other ∷ text) (omega arith) (λ place after within. each place (omega (arith, after)) within) in
-    All-cons P at (places_from_on size ((at + 1) % size) (map Data (other ∷ text))) (each at (omega arith) (omega arith))
-    (subst (λ (from : ℕ). All P (places_from_on size from (map Data (other ∷ text)))) (sym next) more)
+    let more : All P (places_from_on size (at + 1) (map CharData (other ∷ text))) = each_place P size (at + 1) (other ∷ text) (omega arith) (λ place after within. each place (omega (arith, after)) within) in
+    All-cons P at (places_from_on size ((at + 1) % size) (map CharData (other ∷ text))) (each at (omega arith) (omega arith))
+    (subst (λ (from : ℕ). All P (places_from_on size from (map CharData (other ∷ text)))) (sym next) more)
 
 in_row : (cells columns count : ℕ) → 1 < columns → columns ≤ cells → count ≤ columns - 1 → cells - columns + 1 + count ≤ cells
 in_row cells columns count room row few = omega arith

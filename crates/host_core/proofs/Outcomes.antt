@@ -18,10 +18,10 @@ use Rattle.tn3270e_msg.specs.Talk.{Comes}
 use Rattle.tn3270e_msg.specs.declared.header.DataType.{DataType}
 use Rattle.tn3270e_msg.specs.declared.header.DataType.TheVariants.{Data3270, Response}
 use Rattle.tn3270e_msg.specs.declared.header.Header.{Header}
-use Rattle.host_core.specs.Bytes.{Counter, TakesByte, TakesBytes, stepped}
+use Rattle.host_core.specs.Bytes.{ConnectionAndPool, TakesByte, TakesBytes, stepped}
 use Rattle.host_core.specs.Items.{IsNoSecondKey, IsOther, TakesData, TakesItem, TakesRecord, TakesRecordIf, Talks, may_be_second_key, second_key_size, verdict_of}
 use Rattle.host_core.specs.Machine.{OneOutcome, PiecesCompose, PiecesPart}
-use Rattle.host_core.specs.Session.{Conn, is_agreed}
+use Rattle.host_core.specs.Session.{Session, is_agreed}
 use Rattle.host_core.specs.State.{Service}
 use Rattle.host_core.specs.Takes.{Answers, HostStep, data_came, form_awaited, response_came, second_key, talked}
 
@@ -50,27 +50,27 @@ module _ (one_header : OneHeader) (fault_or_header : FaultIsNoHeader) (one_heari
   same_body : (bytes : List ℕ) (header other : Header) (body rest : List ℕ) → Begins bytes header body → Begins bytes other rest → body ≡ rest
   same_body bytes header other body rest first second = (one_header bytes header other body rest first second).1
 
-  one_data : (conn : Conn) (body : List ℕ) (step other : HostStep) → TakesData conn body step → TakesData conn body other → step ≡ other
+  one_data : (conn : Session) (body : List ℕ) (step other : HostStep) → TakesData conn body step → TakesData conn body other → step ≡ other
   one_data conn body step other (TakesData.hears parts1 form1 size1 is1 e1) (TakesData.hears parts2 form2 size2 is2 e2) =
       e1 ∙ ap (λ (parts : InboundParts). data_came parts conn.turn conn.pending conn) (one_inbound body parts1 parts2 (form1 ∙ sym form2) (size1 ∙ sym size2) is1 is2) ∙ sym e2
   one_data conn body step other (TakesData.hears parts1 form1 size1 is1 e1) (TakesData.is_second_key fault2 parts2 wrong2 may2 form2 size2 is2 e2) =
-      absurd (inbound_or_fault conn.shape (form_awaited conn.pending) parts1 fault2 body form1 size1 is1 wrong2)
+      absurd (inbound_or_fault conn.size (form_awaited conn.pending) parts1 fault2 body form1 size1 is1 wrong2)
   one_data conn body step other (TakesData.hears parts1 form1 size1 is1 e1) (TakesData.no_data fault2 wrong2 no_key2 e2) =
-      absurd (inbound_or_fault conn.shape (form_awaited conn.pending) parts1 fault2 body form1 size1 is1 wrong2)
+      absurd (inbound_or_fault conn.size (form_awaited conn.pending) parts1 fault2 body form1 size1 is1 wrong2)
   one_data conn body step other (TakesData.is_second_key fault1 parts1 wrong1 may1 form1 size1 is1 e1) (TakesData.hears parts2 form2 size2 is2 e2) =
-      absurd (inbound_or_fault conn.shape (form_awaited conn.pending) parts2 fault1 body form2 size2 is2 wrong1)
+      absurd (inbound_or_fault conn.size (form_awaited conn.pending) parts2 fault1 body form2 size2 is2 wrong1)
   one_data conn body step other (TakesData.is_second_key fault1 parts1 wrong1 may1 form1 size1 is1 e1) (TakesData.is_second_key fault2 parts2 wrong2 may2 form2 size2 is2 e2) =
       e1 ∙ ap (λ (parts : InboundParts). second_key parts.aid conn.pending conn) (one_inbound body parts1 parts2 (form1 ∙ sym form2) (size1 ∙ sym size2) is1 is2) ∙ sym e2
   one_data conn body step other (TakesData.is_second_key fault1 parts1 wrong1 may1 form1 size1 is1 e1) (TakesData.no_data fault2 wrong2 no_key2 e2) =
       absurd (key_or_none (second_key_size conn conn.pending) (may_be_second_key conn) parts1 body may1 form1 size1 is1 no_key2)
   one_data conn body step other (TakesData.no_data fault1 wrong1 no_key1 e1) (TakesData.hears parts2 form2 size2 is2 e2) =
-      absurd (inbound_or_fault conn.shape (form_awaited conn.pending) parts2 fault1 body form2 size2 is2 wrong1)
+      absurd (inbound_or_fault conn.size (form_awaited conn.pending) parts2 fault1 body form2 size2 is2 wrong1)
   one_data conn body step other (TakesData.no_data fault1 wrong1 no_key1 e1) (TakesData.is_second_key fault2 parts2 wrong2 may2 form2 size2 is2 e2) =
       absurd (key_or_none (second_key_size conn conn.pending) (may_be_second_key conn) parts2 body may2 form2 size2 is2 no_key1)
   one_data conn body step other (TakesData.no_data fault1 wrong1 no_key1 e1) (TakesData.no_data fault2 wrong2 no_key2 e2) =
       e1 ∙ sym e2
 
-  one_record : (conn : Conn) (bytes : List ℕ) (step other : HostStep) → TakesRecord conn bytes step → TakesRecord conn bytes other → step ≡ other
+  one_record : (conn : Session) (bytes : List ℕ) (step other : HostStep) → TakesRecord conn bytes step → TakesRecord conn bytes other → step ≡ other
   one_record conn bytes step other (TakesRecord.no_header fault1 has1 e1) (TakesRecord.no_header fault2 has2 e2) =
       e1 ∙ sym e2
   one_record conn bytes step other (TakesRecord.no_header fault1 has1 e1) (TakesRecord.dropped header2 body2 begins2 kind2 e2) =
@@ -106,15 +106,15 @@ module _ (one_header : OneHeader) (fault_or_header : FaultIsNoHeader) (one_heari
 
   -- ---- an item
 
-  one_record_if : (agreed : Bool) (conn : Conn) (bytes : List ℕ) (step other : HostStep) → TakesRecordIf agreed conn bytes step → TakesRecordIf agreed conn bytes other → step ≡ other
+  one_record_if : (agreed : Bool) (conn : Session) (bytes : List ℕ) (step other : HostStep) → TakesRecordIf agreed conn bytes step → TakesRecordIf agreed conn bytes other → step ≡ other
   one_record_if true conn bytes step other first second = one_record conn bytes step other first second
   one_record_if false conn bytes step other first second = first ∙ sym second
 
-  one_talk : (pool : Answers) (conn : Conn) (item : WireItem) (step other : HostStep) → Talks pool conn item step → Talks pool conn item other → step ≡ other
+  one_talk : (pool : Answers) (conn : Session) (item : WireItem) (step other : HostStep) → Talks pool conn item step → Talks pool conn item other → step ≡ other
   one_talk pool conn item step other first second =
       first.2 ∙ ap (λ (comes : Comes). talked pool conn conn.talk comes) (one_hearing item first.0 second.0 first.1 second.1) ∙ sym second.2
 
-  one_item : (pool : Answers) (conn : Conn) (item : WireItem) (step other : HostStep) → TakesItem pool conn item step → TakesItem pool conn item other → step ≡ other
+  one_item : (pool : Answers) (conn : Session) (item : WireItem) (step other : HostStep) → TakesItem pool conn item step → TakesItem pool conn item other → step ≡ other
   one_item pool conn (Record bytes) step other first second = one_record_if (is_agreed conn.talk.state) conn bytes step other first second
   one_item pool conn (Opt verb code) step other first second = one_talk pool conn (Opt verb code) step other first second
   one_item pool conn (Sub bytes) step other first second = one_talk pool conn (Sub bytes) step other first second
@@ -122,7 +122,7 @@ module _ (one_header : OneHeader) (fault_or_header : FaultIsNoHeader) (one_heari
 
   -- ---- a byte
 
-  same_open : (service : Service) (rest rest' : Rest) (conn conn' : Conn) → service ≡ Service.Open rest conn → service ≡ Service.Open rest' conn' → (rest ≡ rest') × (conn ≡ conn')
+  same_open : (service : Service) (rest rest' : Rest) (conn conn' : Session) → service ≡ Service.Open rest conn → service ≡ Service.Open rest' conn' → (rest ≡ rest') × (conn ≡ conn')
   same_open service rest rest' conn conn' first second = (cc, cc)
 
   nothing_or_item : (item : WireItem) → [] ≡ item ∷ [] → ⊥
@@ -138,12 +138,12 @@ module _ (one_header : OneHeader) (fault_or_header : FaultIsNoHeader) (one_heari
   from_same : (rest rest' to : Rest) (byte : ℕ) (items : List WireItem) → rest ≡ rest' → Delivers record_limit rest' (byte ∷ []) items to → Delivers record_limit rest (byte ∷ []) items to
   from_same rest rest' to byte items same delivers = subst (λ (r : Rest). Delivers record_limit r (byte ∷ []) items to) (sym same) delivers
 
-  one_byte : (number : ℕ) (old new other : Counter) (byte : ℕ) → TakesByte number old byte new → TakesByte number old byte other → new ≡ other
+  one_byte : (number : ℕ) (old new other : ConnectionAndPool) (byte : ℕ) → TakesByte number old byte new → TakesByte number old byte other → new ≡ other
   one_byte number old new other byte (TakesByte.goes_on rest to conn e d n) (TakesByte.goes_on rest' to' conn' e' d' n') =
       let parts = same_open old.connection.service rest rest' conn conn' e e' in
       let same = one_delivery record_limit rest (byte ∷ []) [] [] to to' d (from_same rest rest' to' byte [] parts.0 d') in
       n ∙ ap (λ (r : Rest). record { pool = old.pool; connection = record old.connection { service = Service.Open r conn } }) same.1
-      ∙ ap (λ (c : Conn). record { pool = old.pool; connection = record old.connection { service = Service.Open to' c } }) parts.1 ∙ sym n'
+      ∙ ap (λ (c : Session). record { pool = old.pool; connection = record old.connection { service = Service.Open to' c } }) parts.1 ∙ sym n'
   one_byte number old new other byte (TakesByte.goes_on rest to conn e d n) (TakesByte.completes rest' to' conn' item' step' e' d' i' n') =
       let parts = same_open old.connection.service rest rest' conn conn' e e' in
       absurd (nothing_or_item item' (one_delivery record_limit rest (byte ∷ []) [] (item' ∷ []) to to' d (from_same rest rest' to' byte (item' ∷ []) parts.0 d')).0)
@@ -158,7 +158,7 @@ module _ (one_header : OneHeader) (fault_or_header : FaultIsNoHeader) (one_heari
       let same = one_delivery record_limit rest (byte ∷ []) (item ∷ []) (item' ∷ []) to to' d (from_same rest rest' to' byte (item' ∷ []) parts.0 d') in
       let taken : TakesItem (answer_to old.pool) conn item step' =
       subst (λ (x : WireItem). TakesItem (answer_to old.pool) conn x step') (sym (same_head item item' same.0))
-      (subst (λ (c : Conn). TakesItem (answer_to old.pool) c item' step') (sym parts.1) i') in
+      (subst (λ (c : Session). TakesItem (answer_to old.pool) c item' step') (sym parts.1) i') in
       n ∙ ap (λ (r : Rest). stepped number r step old) same.1 ∙ ap (λ (s : HostStep). stepped number to' s old) (one_item (answer_to old.pool) conn item step step' i taken) ∙ sym n'
   one_byte number old new other byte (TakesByte.completes rest to conn item step e d i n) (TakesByte.breaks rest' conn' fault' e' w' n') =
       let parts = same_open old.connection.service rest rest' conn conn' e e' in
@@ -175,12 +175,12 @@ module _ (one_header : OneHeader) (fault_or_header : FaultIsNoHeader) (one_heari
   one_outcome number old new other [] first second = first ∙ sym second
   one_outcome number old new other (byte ∷ bytes) first second =
       let same = one_byte number old first.0 second.0 byte first.1 second.1 in
-      one_outcome number first.0 new other bytes first.2 (subst (λ (mid : Counter). TakesBytes number mid bytes other) (sym same) second.2)
+      one_outcome number first.0 new other bytes first.2 (subst (λ (mid : ConnectionAndPool). TakesBytes number mid bytes other) (sym same) second.2)
 
 -- ---- bytes
 
 pub pieces_compose : PiecesCompose
-pieces_compose number old mid new [] second begun more = subst (λ (from : Counter). TakesBytes number from second new) begun more
+pieces_compose number old mid new [] second begun more = subst (λ (from : ConnectionAndPool). TakesBytes number from second new) begun more
 pieces_compose number old mid new (byte ∷ first) second begun more = (begun.0, begun.1, pieces_compose number begun.0 mid new first second begun.2 more)
 
 pub pieces_part : PiecesPart

@@ -17,10 +17,10 @@ use Rattle.tn3270e_msg.specs.Header.{spelling, always_response, next_number}
 use Rattle.host_core.proofs.Commands.{IsSentCode, sent_command, read_behind, plain_behind}
 use Rattle.host_core.specs.Acts.{painted, wanted_by}
 use Rattle.host_core.specs.Application.{Application}
-use Rattle.host_core.specs.Keeps.{BelievesTheSize, command_in, pending_in, IsPlainWrite, IsSentOn}
+use Rattle.host_core.specs.Representation.{BelievesTheSize, command_in, pending_in, IsPlainWrite, IsSentOn}
 use Rattle.host_core.specs.Messages.{ToTerminal}
 use Rattle.host_core.specs.Says.{command_header, item_sent}
-use Rattle.host_core.specs.Session.{Conn, Pending, model_in}
+use Rattle.host_core.specs.Session.{Session, Pending, model_in}
 use Rattle.host_core.specs.declared.pending.Pending.TheVariants as unanswered
 use Rattle.host_core.specs.declared.turn.Turn.TheVariants as whose
 
@@ -115,15 +115,15 @@ paint_believes number shadow wanted sent spelt begun writes =
     (sym (ap (λ (command : CommandParts). command.code) (paint_again (cells_in wanted.size) number shadow wanted sent spelt begun)) ∙ writes)
 
 -- the connection once a panel is shown
-shown_conn : Conn → Shape → ℕ → Message → Values → Pending → Conn
+shown_conn : Session → Shape → ℕ → Message → Values → Pending → Session
 shown_conn conn size panel message values pending =
-    record conn { shape = size; turn = whose.Terminal; pending = pending; next_seq = next_number conn.next_seq; panel = panel; message = message; values = values }
+    record conn { size = size; turn = whose.Terminal; pending = pending; next_seq = next_number conn.next_seq; panel = panel; message = message; values = values }
 
-pub shows : (app : Application) (conn new : Conn) (asked : ℕ) (message : Message) (keep : Bool) (values : Values) (wanted : WantedScreen) (sent : List ℕ) (before after : Vec ℕ Global)
+pub shows : (app : Application) (conn new : Session) (asked : ℕ) (message : Message) (keep : Bool) (values : Values) (wanted : WantedScreen) (sent : List ℕ) (before after : Vec ℕ Global)
     → wanted ≡ wanted_by app conn (app.shown (model_in conn) asked) message keep values
     → IsPaintSpelt (cells_in wanted.size) conn.shadow wanted → sent ≡ paint_record (cells_in wanted.size) conn.next_seq conn.shadow wanted
     → new ≡ record conn {
-      shape = wanted.size;
+      size = wanted.size;
       turn = whose.Terminal;
       pending = pending_in wanted.size (unanswered.Writing conn.next_seq) sent;
       next_seq = next_number conn.next_seq;

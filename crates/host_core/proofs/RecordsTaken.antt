@@ -16,18 +16,18 @@ use Rattle.tn3270e_msg.specs.declared.header.DataType.TheVariants.{Data3270, Scs
 use Rattle.host_core.specs.declared.after_record.AfterRecord.{AfterRecord}
 use Rattle.host_core.specs.declared.after_record.AfterRecord.TheVariants.{Closes}
 use Rattle.host_core.specs.Items.{IsNoSecondKey, IsOther, TakesData, may_be_second_key, second_key_size}
-use Rattle.host_core.specs.Keeps.{IsKept, IsPlainWrite, pending_in, silent, step_of}
+use Rattle.host_core.specs.Representation.{IsKept, IsPlainWrite, pending_in, silent, step_of}
 use Rattle.host_core.specs.Parts.{IsWrite}
-use Rattle.host_core.specs.Session.{Conn, Pending}
+use Rattle.host_core.specs.Session.{Session, Pending}
 use Rattle.host_core.specs.Takes.{HostStep, believed, buffer_heard, data_came, form_awaited, hears, once_read, second_key}
 use Rattle.host_core.specs.declared.turn_reason.TurnReason.{TurnReason}
-use Rattle.host_core.specs.declared.pending.Pending.{Pending as Unanswered}
+use Rattle.host_core.specs.declared.pending.Pending.{Pending as PendingKind}
 use Rattle.host_core.specs.declared.pending.Pending.TheVariants as unanswered
 
 -- ---- the whole screen
 
 -- where what came was believed, nothing waits for an answer then
-ends : (heard : Result Shadow HeardFault) (turn_reason : TurnReason) (cursor : Option ℕ) (old mid : Conn) (cause : Option Cause) → silent mid cause ≡ believed turn_reason old.pending cursor old heard
+ends : (heard : Result Shadow HeardFault) (turn_reason : TurnReason) (cursor : Option ℕ) (old mid : Session) (cause : Option Cause) → silent mid cause ≡ believed turn_reason old.pending cursor old heard
     → is_some cause ≡ false → silent (record mid { pending = Pending.Nothing }) cause ≡ believed turn_reason Pending.Nothing cursor old heard
 ends (Ok shadow) turn_reason cursor old mid cause came none = ap (λ (step : HostStep). record step { conn = record step.conn { pending = Pending.Nothing } }) came
 ends (Err fault) turn_reason cursor old mid cause came none =
@@ -35,20 +35,20 @@ ends (Err fault) turn_reason cursor old mid cause came none =
     absurd (let opens : is_some cause ≡ true = ap (λ (c : Option Cause). is_some c) closes in cc)
 
 -- where it wasn't, all is as it was
-refuses : (heard : Result Shadow HeardFault) (turn_reason : TurnReason) (cursor : Option ℕ) (old mid : Conn) (cause : Option Cause) → silent mid cause ≡ believed turn_reason old.pending cursor old heard
+refuses : (heard : Result Shadow HeardFault) (turn_reason : TurnReason) (cursor : Option ℕ) (old mid : Session) (cause : Option Cause) → silent mid cause ≡ believed turn_reason old.pending cursor old heard
     → is_some cause ≡ true → silent mid cause ≡ believed turn_reason Pending.Nothing cursor old heard
 refuses (Ok shadow) turn_reason cursor old mid cause came some =
     let goes : cause ≡ None = ap (λ (step : HostStep). step.closes) came in
     absurd (let closes : is_some cause ≡ false = ap (λ (c : Option Cause). is_some c) goes in cc)
 refuses (Err fault) turn_reason cursor old mid cause came some = came
 
-pub buffer_believed : (parts : InboundParts) (turn_reason : TurnReason) (old mid : Conn) (cause : Option Cause) → turn_reason ≡ once_read old.turn_reason
+pub buffer_believed : (parts : InboundParts) (turn_reason : TurnReason) (old mid : Session) (cause : Option Cause) → turn_reason ≡ once_read old.turn_reason
     → silent mid cause ≡ believed turn_reason old.pending parts.cursor old (hears parts old) → is_some cause ≡ false
     → silent (record mid { pending = Pending.Nothing }) cause ≡ buffer_heard parts old
 buffer_believed parts turn_reason old mid cause read came none =
     ends (hears parts old) turn_reason parts.cursor old mid cause came none ∙ ap (λ (o : TurnReason). believed o Pending.Nothing parts.cursor old (hears parts old)) read
 
-pub buffer_refused : (parts : InboundParts) (turn_reason : TurnReason) (old mid : Conn) (cause : Option Cause) → turn_reason ≡ once_read old.turn_reason
+pub buffer_refused : (parts : InboundParts) (turn_reason : TurnReason) (old mid : Session) (cause : Option Cause) → turn_reason ≡ once_read old.turn_reason
     → silent mid cause ≡ believed turn_reason old.pending parts.cursor old (hears parts old) → is_some cause ≡ true
     → silent mid cause ≡ buffer_heard parts old
 buffer_refused parts turn_reason old mid cause read came some =
@@ -60,7 +60,7 @@ pub behind : (bytes : List ℕ) → take (length bytes - 5) (drop 5 bytes) ≡ d
 behind bytes = take_all (length bytes - 5) (drop 5 bytes) (omega (arith, length-drop 5 bytes))
 
 -- its bytes are there
-pub write_kept : (shape : Shape) (pending : Unanswered) (sent : List ℕ) → IsKept shape pending sent → IsWrite (pending_in shape pending sent) → IsPlainWrite shape (drop 5 sent)
+pub write_kept : (shape : Shape) (pending : PendingKind) (sent : List ℕ) → IsKept shape pending sent → IsWrite (pending_in shape pending sent) → IsPlainWrite shape (drop 5 sent)
 write_kept shape unanswered.Nothing sent kept is = absurd is
 write_kept shape (unanswered.Writing number) sent kept is = kept
 write_kept shape (unanswered.Reading number) sent kept is = absurd is
@@ -79,13 +79,13 @@ other_type Request no_data no_response = tt
 other_type SscpLuData no_data no_response = tt
 other_type (Unnamed code) no_data no_response = tt
 
-pub of_data : (old new : Conn) (after : AfterRecord) (body : List ℕ) (form : Form) (parts : InboundParts)
-    → form ≡ form_awaited old.pending → parts.form ≡ form → parts.size ≡ old.shape → IsInbound parts body
+pub of_data : (old new : Session) (after : AfterRecord) (body : List ℕ) (form : Form) (parts : InboundParts)
+    → form ≡ form_awaited old.pending → parts.form ≡ form → parts.size ≡ old.size → IsInbound parts body
     → step_of new after ≡ data_came parts old.turn old.pending old → TakesData old body (step_of new after)
 of_data old new after body form parts awaited read sized is came = TakesData.hears parts (read ∙ awaited) sized is came
 
-pub of_second_key : (old new : Conn) (after : AfterRecord) (body : List ℕ) (fault : InboundFault) (parts : InboundParts)
-    → IsNoInbound old.shape (form_awaited old.pending) fault body → may_be_second_key old ≡ true
+pub of_second_key : (old new : Session) (after : AfterRecord) (body : List ℕ) (fault : InboundFault) (parts : InboundParts)
+    → IsNoInbound old.size (form_awaited old.pending) fault body → may_be_second_key old ≡ true
     → parts.form ≡ Modified → parts.size ≡ second_key_size old old.pending → IsInbound parts body
     → step_of new after ≡ second_key parts.aid old.pending old → TakesData old body (step_of new after)
 of_second_key old new after body fault parts wrong may form sized is came = TakesData.is_second_key fault parts wrong may form sized is came
@@ -98,11 +98,11 @@ still_no_key : (may : Bool) (shape : Shape) (body : List ℕ) (fault : InboundFa
 still_no_key true shape body fault wrong = (fault, wrong)
 still_no_key false shape body fault wrong = tt
 
-pub of_no_key : (old : Conn) (body : List ℕ) (fault : InboundFault) → IsNoInbound old.shape (form_awaited old.pending) fault body → may_be_second_key old ≡ false
+pub of_no_key : (old : Session) (body : List ℕ) (fault : InboundFault) → IsNoInbound old.size (form_awaited old.pending) fault body → may_be_second_key old ≡ false
     → TakesData old body (step_of old (Closes BadInbound))
 of_no_key old body fault wrong may = TakesData.no_data fault wrong (no_second_key (may_be_second_key old) (second_key_size old old.pending) body may) refl
 
-pub of_no_data : (old : Conn) (body : List ℕ) (fault other : InboundFault) → IsNoInbound old.shape (form_awaited old.pending) fault body
+pub of_no_data : (old : Session) (body : List ℕ) (fault other : InboundFault) → IsNoInbound old.size (form_awaited old.pending) fault body
     → IsNoInbound (second_key_size old old.pending) Modified other body → TakesData old body (step_of old (Closes BadInbound))
 of_no_data old body fault other wrong no_key =
     TakesData.no_data fault wrong (still_no_key (may_be_second_key old) (second_key_size old old.pending) body other no_key) refl

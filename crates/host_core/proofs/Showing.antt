@@ -13,7 +13,7 @@ use Rattle.codes3270.specs.declared.attribute.Attr.{Attr}
 use Rattle.datastream.specs.declared.wanted.Want.{Want}
 use Rattle.datastream.specs.declared.wanted.Want.TheVariants as want
 use Rattle.shadow.specs.Fits.{is_keep}
-use Rattle.shadow.specs.Openness.{keeps_whole_fields}
+use Rattle.shadow.specs.TextUnknown.{keeps_whole_fields}
 use Rattle.panels.specs.declared.message.Message.{Message}
 use Rattle.panels.specs.declared.panel.Field.{Field}
 use Rattle.panels.specs.MessageRow.{PanelsLeaveTheRow}

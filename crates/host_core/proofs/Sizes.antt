@@ -8,11 +8,11 @@ use Rattle.panels.specs.declared.panel.Field.{Field}
 use Rattle.shadow.specs.Belief.{IsOfSize, Shadow, cells_believed}
 use Rattle.host_core.proofs.Showing.{laid_out_at}
 use Rattle.host_core.specs.Application.{IsShape, panel_at}
-use Rattle.host_core.specs.Keeps.{BelievesTheSize}
+use Rattle.host_core.specs.Representation.{BelievesTheSize}
 use Rattle.host_core.specs.Learning.{HaveFields}
-use Rattle.host_core.specs.Session.{Conn}
+use Rattle.host_core.specs.Session.{Session}
 use Rattle.host_core.specs.Sound.{IsShownOn}
-use Rattle.host_core.specs.declared.pending.Pending.{Pending as Unanswered}
+use Rattle.host_core.specs.declared.pending.Pending.{Pending as PendingKind}
 use Rattle.host_core.specs.declared.pending.Pending.TheVariants as unanswered
 
 -- ---- a size
@@ -27,7 +27,7 @@ is_shape size few some several = record { columns = several; row = by_rows size.
 
 -- ---- what is believed
 
-pub believes_any : (shape : Shape) (pending : Unanswered) (sent : List ℕ) (shadow : Shadow) → IsOfSize (cells_in shape) shadow → BelievesTheSize shape pending sent shadow
+pub believes_any : (shape : Shape) (pending : PendingKind) (sent : List ℕ) (shadow : Shadow) → IsOfSize (cells_in shape) shadow → BelievesTheSize shape pending sent shadow
 believes_any shape unanswered.Nothing sent shadow is = is
 believes_any shape (unanswered.Writing number) sent shadow is = λ writes. is
 believes_any shape (unanswered.Reading number) sent shadow is = is
@@ -47,7 +47,7 @@ rows_within (suc rows) columns = subst (λ (n : ℕ). n * columns ≤ suc rows *
     less_one : (n : ℕ) → suc n - 1 ≡ n
     less_one n = omega arith
 
-pub fields_believed : (panels : Panels) (conn : Conn) → AreLaidOut panels → IsShownOn panels conn → IsOfSize (cells_in conn.shape) conn.shadow
+pub fields_believed : (panels : Panels) (conn : Session) → AreLaidOut panels → IsShownOn panels conn → IsOfSize (cells_in conn.size) conn.shadow
     → HaveFields conn.shadow (panel_at panels conn.panel).fields
 fields_believed panels conn laid on known =
     let panel : PanelParts = panel_at panels conn.panel in

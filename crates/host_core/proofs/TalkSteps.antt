@@ -30,7 +30,7 @@ use Rattle.tn3270e_msg.specs.declared.reply.Reply.{Reply}
 use Rattle.tn3270e_msg.specs.declared.reply.Reply.TheVariants as reply
 use Rattle.tn3270e_msg.specs.declared.reply.OwnedMessage.TheVariants as sent
 use Rattle.host_core.specs.Items.{TakesItem, TakesRecord, TakesRecordIf, Talks}
-use Rattle.host_core.specs.Keeps.{ItemTaken, OthersHold, step_of}
+use Rattle.host_core.specs.Representation.{ItemTaken, OthersHold, step_of}
 use Rattle.host_core.specs.declared.after_record.AfterRecord.{AfterRecord}
 use Rattle.host_core.specs.declared.after_record.AfterRecord.TheVariants.{GoesOn, Closes, Drops, Breaks}
 use Rattle.host_core.specs.Sound.{HoldsJust}
@@ -38,7 +38,7 @@ use Rattle.host_core.specs.Parts.{TalkTaken}
 use Rattle.host_core.specs.Messages.{ToTerminal}
 use Rattle.host_core.specs.Rejections.{lu_asked, rejection_by}
 use Rattle.host_core.specs.Says.{item_sent}
-use Rattle.host_core.specs.Session.{Conn, agreed_lu, is_agreed}
+use Rattle.host_core.specs.Session.{Session, agreed_lu, is_agreed}
 use Rattle.host_core.specs.Reports.{Reports, newly_bound, reported, with_bound}
 use Rattle.host_core.specs.Takes.{Answers, HostStep, asked, granted_by, quiet, replied, talked, talked_on, with_talk}
 
@@ -270,7 +270,7 @@ abbrev pub KeepsRejection : WireItem → Reply → Reports → Reports → Type 
 KeepsRejection item answer kept keeps = (comes : Comes) → Hears item comes → keeps ≡ reported (rejection_by (lu_asked comes) answer) None None kept
 
 -- the talk replied by itself
-talked_by : (pool : Answers) (conn : Conn) (lu : Option (List ℕ)) (new : Talk HostState) (answer : Reply) → ((name : Option (List ℕ)) → answer ≡ reply.AskPool name → ⊥)
+talked_by : (pool : Answers) (conn : Session) (lu : Option (List ℕ)) (new : Talk HostState) (answer : Reply) → ((name : Option (List ℕ)) → answer ≡ reply.AskPool name → ⊥)
     → talked_on pool conn lu new answer ≡ replied conn lu None (new, answer)
 talked_by pool conn lu new reply.Nothing other = refl
 talked_by pool conn lu new (reply.Opt verb code) other = refl
@@ -281,7 +281,7 @@ talked_by pool conn lu new (reply.Refused reason) other = refl
 talked_by pool conn lu new (reply.Close cause) other = refl
 
 -- what it made of what came
-comes_to : (pool : Answers) (conn : Conn) (old new : Talk HostState) (item : WireItem) (answer : Reply) (takes : HostTakes old item answer new) → conn.talk ≡ old
+comes_to : (pool : Answers) (conn : Session) (old new : Talk HostState) (item : WireItem) (answer : Reply) (takes : HostTakes old item answer new) → conn.talk ≡ old
     → talked_on pool conn (lu_asked takes.comes) new answer ≡ talked pool conn conn.talk takes.comes
 comes_to pool conn old new item answer takes is =
     ap (λ (next : Talk HostState × Reply). talked_on pool conn (lu_asked takes.comes) next.0 next.1) takes.gives ∙ ap (λ (talk : Talk HostState). talked pool conn talk takes.comes) (sym is)
@@ -308,7 +308,7 @@ replies number pool old new item answer before after closes other takes ends sen
 }
 
 -- the pool was asked, and the talk replied by its answer
-answered_by : (pool : Answers) (conn : Conn) (lu : Option (List ℕ)) (mid new : Talk HostState) (name : Option (List ℕ)) (answer : Result (List ℕ) Reason) (said : Reply) → HostAnswered mid answer said new → answer ≡ pool name
+answered_by : (pool : Answers) (conn : Session) (lu : Option (List ℕ)) (mid new : Talk HostState) (name : Option (List ℕ)) (answer : Result (List ℕ) Reason) (said : Reply) → HostAnswered mid answer said new → answer ≡ pool name
     → replied conn lu (granted_by answer) (new, said) ≡ talked_on pool conn lu mid (reply.AskPool name)
 answered_by pool conn lu mid new name answer said answered is =
     ap (λ (next : Talk HostState × Reply). replied conn lu (granted_by answer) next) answered.gives
@@ -379,7 +379,7 @@ not_record (lent.Opt verb code) other bytes e = cc
 not_record (lent.Sub lain) other bytes e = cc
 not_record (lent.Other code) other bytes e = cc
 
-for_talk : (pool : Answers) (conn : Conn) (item : WireItem) (step : HostStep) → ((bytes : List ℕ) → item ≡ Record bytes → ⊥) → Talks pool conn item step → TakesItem pool conn item step
+for_talk : (pool : Answers) (conn : Session) (item : WireItem) (step : HostStep) → ((bytes : List ℕ) → item ≡ Record bytes → ⊥) → Talks pool conn item step → TakesItem pool conn item step
 for_talk pool conn (Record bytes) step other talks = absurd (other bytes refl)
 for_talk pool conn (Opt verb code) step other talks = talks
 for_talk pool conn (Sub bytes) step other talks = talks
@@ -400,12 +400,12 @@ not_by_nothing None = refl
 not_by_nothing (Some lu) = refl
 
 -- all but a record is for the talk
-pub talk_taken : (number : ℕ) (pool left : List Entry) (before old new : Conn) (talk : Talk HostState) (item : WireItem) (said out : Vec ℕ Global) (closes : Option Cause)
+pub talk_taken : (number : ℕ) (pool left : List Entry) (before old new : Session) (talk : Talk HostState) (item : WireItem) (said out : Vec ℕ Global) (closes : Option Cause)
     → ((bytes : List ℕ) → item ≡ Record bytes → ⊥) → before ≡ old → (kept mid keeps : Reports) → TalkTaken number pool before.talk item said out closes left talk kept mid → new ≡ with_talk before talk
     → (was now : Option (List ℕ)) → was ≡ agreed_lu old.talk.state → now ≡ agreed_lu new.talk.state → keeps ≡ with_bound (newly_bound was now) mid
     → ItemTaken number pool old item said out closes left new kept keeps
 talk_taken number pool left before old new talk item said out closes other same kept mid keeps taken is was now was_is now_is bound =
-    subst (λ (from : Conn). ItemTaken number pool from item said out closes left new kept keeps) same
+    subst (λ (from : Session). ItemTaken number pool from item said out closes left new kept keeps) same
     (record {
       step = record { conn = with_talk before talk; sends = taken.sends; grants = taken.grants; rejects = taken.rejects; drops = None; breaks = None; closes = closes };
       takes = for_talk (answer_to pool) before item _ other (taken.talks before refl);
@@ -413,25 +413,25 @@ talk_taken number pool left before old new talk item said out closes other same 
       ends = refl;
       pool_is = taken.pool_is;
       sent = taken.sent;
-      reports = bound ∙ ap (λ lu. with_bound (newly_bound lu now) mid) (was_is ∙ ap (λ (conn : Conn). agreed_lu conn.talk.state) (sym same))
-          ∙ ap (λ lu. with_bound (newly_bound (agreed_lu before.talk.state) lu) mid) (now_is ∙ ap (λ (conn : Conn). agreed_lu conn.talk.state) is)
+      reports = bound ∙ ap (λ lu. with_bound (newly_bound lu now) mid) (was_is ∙ ap (λ (conn : Session). agreed_lu conn.talk.state) (sym same))
+          ∙ ap (λ lu. with_bound (newly_bound (agreed_lu before.talk.state) lu) mid) (now_is ∙ ap (λ (conn : Session). agreed_lu conn.talk.state) is)
           ∙ ap (with_bound (newly_bound (agreed_lu before.talk.state) (agreed_lu talk.state))) taken.reports;
     })
 
-if_agreed : (state : HostState) (bytes : List ℕ) (old : Conn) (step : HostStep) → is_agreed state ≡ true → TakesRecord old bytes step → TakesRecordIf (is_agreed state) old bytes step
+if_agreed : (state : HostState) (bytes : List ℕ) (old : Session) (step : HostStep) → is_agreed state ≡ true → TakesRecord old bytes step → TakesRecordIf (is_agreed state) old bytes step
 if_agreed state bytes old step agreed takes = rw agreed takes
 
-before_agreement : (state : HostState) (bytes : List ℕ) (old : Conn) → is_agreed state ≡ false → TakesRecordIf (is_agreed state) old bytes (quiet old)
+before_agreement : (state : HostState) (bytes : List ℕ) (old : Session) → is_agreed state ≡ false → TakesRecordIf (is_agreed state) old bytes (quiet old)
 before_agreement state bytes old other = rw other refl
 
-of_record : (pool : Answers) (conn : Conn) (item : WireItem) (bytes : List ℕ) (step : HostStep) → item ≡ Record bytes → TakesRecordIf (is_agreed conn.talk.state) conn bytes step → TakesItem pool conn item step
+of_record : (pool : Answers) (conn : Session) (item : WireItem) (bytes : List ℕ) (step : HostStep) → item ≡ Record bytes → TakesRecordIf (is_agreed conn.talk.state) conn bytes step → TakesItem pool conn item step
 of_record pool conn item bytes step is takes = rw is takes
 
 none_sent : (bytes : List ℕ) → bytes ≡ bytes ++ sent_bytes []
 none_sent bytes = sym (append-nil bytes)
 
 -- a record that is taken
-pub record_taken : (number : ℕ) (pool : List Entry) (old new : Conn) (item : WireItem) (bytes : List ℕ) (out : Vec ℕ Global) (after : AfterRecord) (closes : Option Cause) (kept keeps : Reports)
+pub record_taken : (number : ℕ) (pool : List Entry) (old new : Session) (item : WireItem) (bytes : List ℕ) (out : Vec ℕ Global) (after : AfterRecord) (closes : Option Cause) (kept keeps : Reports)
     → item ≡ Record bytes → is_agreed old.talk.state ≡ true → TakesRecord old bytes (step_of new after) → closes ≡ (step_of new after).closes → keeps ≡ reported None (step_of new after).drops (step_of new after).breaks kept
     → ItemTaken number pool old item out out closes pool new kept keeps
 record_taken number pool old new item bytes out GoesOn closes kept keeps is agreed takes ends reports = record {
@@ -472,7 +472,7 @@ record_taken number pool old new item bytes out (Breaks broken) closes kept keep
 }
 
 -- one that is dropped
-pub record_dropped : (number : ℕ) (pool : List Entry) (old : Conn) (item : WireItem) (bytes : List ℕ) (out : Vec ℕ Global) (kept : Reports)
+pub record_dropped : (number : ℕ) (pool : List Entry) (old : Session) (item : WireItem) (bytes : List ℕ) (out : Vec ℕ Global) (kept : Reports)
     → item ≡ Record bytes → is_agreed old.talk.state ≡ false → ItemTaken number pool old item out out None pool old kept kept
 record_dropped number pool old item bytes out kept is other = record {
   step = quiet old;
@@ -484,5 +484,5 @@ record_dropped number pool old item bytes out kept is other = record {
   reports = ap (λ lu. with_bound lu kept) (sym (not_by_nothing (agreed_lu old.talk.state)));
 }
 
-pub same_talk : (number : ℕ) (pool : List Entry) (old new : Conn) → new.talk ≡ old.talk → HoldsJust number pool (granted old.talk.state) → HoldsJust number pool (granted new.talk.state)
+pub same_talk : (number : ℕ) (pool : List Entry) (old new : Session) → new.talk ≡ old.talk → HoldsJust number pool (granted old.talk.state) → HoldsJust number pool (granted new.talk.state)
 same_talk number pool old new same just = subst (λ (talk : Talk HostState). HoldsJust number pool (granted talk.state)) (sym same) just

@@ -1,5 +1,5 @@
--- What a host believes of a command, by which numbers commands go, and which response answers one (RFC 1647, section 8.1:
--- SEQ-NUMBER; the rest is our profile).
+-- When a host believes what a command wrote, which sequence number a command has, and which response answers it (RFC
+-- 1647, section 8.1: SEQ-NUMBER; the rest is our profile).
 use Rattle.std.specs.Prelude.{◌≡◌, ◌≢◌, true, ℕ, List, Option, None, Some}
 use Rattle.tn3270e_msg.specs.declared.cause.Cause.TheVariants.{BadResponse}
 use Rattle.tn3270e_msg.specs.Header.{next_number}
@@ -8,48 +8,53 @@ use Rattle.host_core.specs.Acts.{Act, Sent, done, known_despite}
 use Rattle.host_core.specs.Notes.{noted_as}
 use Rattle.host_core.specs.Application.{Application}
 use Rattle.host_core.specs.Messages.{ToTerminal, ToHost, Verdict}
-use Rattle.host_core.specs.Session.{Conn, Pending, is_agreed}
+use Rattle.host_core.specs.Session.{Session, Pending, is_agreed}
 use Rattle.host_core.specs.Takes.{Answers, closed_by, took}
 
--- What is shown isn't believed before it is answered: until then what was believed still is, but for what may have happened unheard.
-abbrev pub believed_meanwhile : Conn → Act → Shadow
+-- The belief between an act and its answer: as before, except for what may have changed unheard if a panel is shown.
+abbrev pub believed_meanwhile : Session → Act → Shadow
 believed_meanwhile conn Act.Read = conn.shadow
 believed_meanwhile conn (Act.Show panel message keep values) = known_despite conn.unheard conn.shadow
 
+-- holds if what an act shows isn't believed before it is answered
 abbrev pub BelievesNoSooner : Type 0
-BelievesNoSooner = (app : Application) (conn : Conn) (act : Act) → (done app conn act).conn.shadow ≡ believed_meanwhile conn act
+BelievesNoSooner = (app : Application) (conn : Session) (act : Act)
+    → (done app conn act).conn.shadow ≡ believed_meanwhile conn act
 
--- Nor is a note.
+-- holds if a note isn't believed before it is answered
 abbrev pub BelievesNotesNoSooner : Type 0
-BelievesNotesNoSooner = (text : List ℕ) (conn : Conn) → (noted_as text conn).conn.shadow ≡ conn.shadow
+BelievesNotesNoSooner = (text : List ℕ) (conn : Session) → (noted_as text conn).conn.shadow ≡ conn.shadow
 
--- the number of the command that isn't answered yet
+-- the sequence number of the command that waits for its answer
 abbrev pub number_of : Pending → Option ℕ
 number_of Pending.Nothing = None
 number_of (Pending.Writing number command) = Some number
 number_of (Pending.Reading number) = Some number
 number_of (Pending.Noting number command) = Some number
 
--- the number that a command carries
+-- the sequence number that a command carries
 abbrev pub number_in : ToTerminal → Option ℕ
 number_in (ToTerminal.TalksDown saying) = None
 number_in (ToTerminal.Paint number wanted over) = Some number
 number_in (ToTerminal.ReadBuffer number) = Some number
 number_in (ToTerminal.Note number command) = Some number
 
--- A command carries its connection's number, by which its response is awaited; the next command has the next number.
-pub record IsNumbered (old : Conn) (sent : Sent) : Type 0 where
+-- Holds if a command carries the connection's next number, its response is awaited by it, and the number then advances.
+pub record IsNumbered (old : Session) (sent : Sent) : Type 0 where
   pub carried : number_in sent.message ≡ Some old.next_seq
   pub awaited : number_of sent.conn.pending ≡ Some old.next_seq
   pub next : sent.conn.next_seq ≡ next_number old.next_seq
 
+-- holds if acts' commands are numbered so
 abbrev pub CommandsAreNumbered : Type 0
-CommandsAreNumbered = (app : Application) (conn : Conn) (act : Act) → IsNumbered conn (done app conn act)
+CommandsAreNumbered = (app : Application) (conn : Session) (act : Act) → IsNumbered conn (done app conn act)
 
+-- holds if notes are numbered so
 abbrev pub NotesAreNumbered : Type 0
-NotesAreNumbered = (text : List ℕ) (conn : Conn) → IsNumbered conn (noted_as text conn)
+NotesAreNumbered = (text : List ℕ) (conn : Session) → IsNumbered conn (noted_as text conn)
 
--- In a session a response with another number than the pending command's closes the connection.
+-- Holds if after agreement a response with another number than the pending command's closes the connection.
 abbrev pub OnlyItsResponse : Type 0
-OnlyItsResponse = (pool : Answers) (conn : Conn) (number : ℕ) (verdict : Verdict)
-    → is_agreed conn.talk.state ≡ true → number_of conn.pending ≢ Some number → took pool conn (ToHost.Response number verdict) ≡ closed_by BadResponse conn
+OnlyItsResponse = (pool : Answers) (conn : Session) (number : ℕ) (verdict : Verdict)
+    → is_agreed conn.talk.state ≡ true → number_of conn.pending ≢ Some number
+    → took pool conn (ToHost.Response number verdict) ≡ closed_by BadResponse conn

@@ -10,7 +10,7 @@ use Rattle.datastream.specs.Wanted.{WantedScreen, IsScreen}
 use Rattle.datastream.specs.declared.wanted.Want.{Want}
 use Rattle.datastream.specs.declared.wanted.Want.TheVariants.{Char, Attr, Keep}
 use Rattle.shadow.specs.Fits.{is_keep}
-use Rattle.shadow.specs.Openness.{keeps_whole_fields}
+use Rattle.shadow.specs.TextUnknown.{keeps_whole_fields}
 use Rattle.panels.specs.declared.panel.Field.{Field}
 use Rattle.panels.specs.declared.message.Message.{Message}
 use Rattle.panels.specs.declared.next.Next.{Next}
@@ -19,11 +19,12 @@ use Rattle.panels.specs.Panel.{PanelParts, Panels, shown_in}
 use Rattle.panels.specs.Next.{next_of}
 use Rattle.panels.specs.Screen.{Values, screen_of}
 
--- The sizes that screens may have: `begins` at the begin of each connection and after Erase/Write, and the alternate size of a model
--- after Erase/Write Alternate.
+-- The sizes that screens may have: `begins` at the beginning of each connection and after Erase/Write, and the
+-- alternate size of a model after Erase/Write Alternate.
 --
--- Panels by their numbers: the first one; which numbers are a panel's; the one that is shown to a terminal of a model where one is asked for; the fields of each,
--- where a key leads from it, and the screen that it asks for; with `keep`, fields keep what the operator left in them.
+-- Panels are named by 0-based numbers: `start` is the first one; `has_panel` says which exist; `shown` is the one that
+-- a terminal of a model is shown if a panel is asked for; `fields` are a panel's; `next` is where a key leads from it,
+-- and `screen` is the screen that it asks for; with `keep`, fields keep what the operator left there.
 pub record Application : Type 0 where
   pub begins : Shape
   pub alternate : Model → Shape
@@ -36,16 +37,17 @@ pub record Application : Type 0 where
 
 -- ---- the last row is for messages
 
--- where it starts
+-- where the last row starts
 abbrev pub message_place : Shape → ℕ
-message_place shape = cells_in shape - shape.columns
+message_place size = cells_in size - size.columns
 
+-- a character is wanted in this cell
 abbrev pub is_wanted_char : Want → Bool
 is_wanted_char (Char byte) = true
 is_wanted_char (Attr attribute) = false
 is_wanted_char Keep = false
 
--- a protected field to the end: its attribute, then characters alone
+-- holds for a protected field to the end: its attribute, then characters only
 abbrev pub IsMessageRow : List Want → Type 0
 IsMessageRow [] = ⊥
 IsMessageRow (Char byte ∷ wants) = ⊥
@@ -54,56 +56,61 @@ IsMessageRow (Attr attribute ∷ wants) = (attribute.protected ≡ true) × (lis
 
 -- ---- applications
 
--- a screen that has a whole row at least, with room behind an attribute, and an address for each of its cells
-pub record IsShape (shape : Shape) : Type 0 where
-  pub columns : 1 < shape.columns
-  pub row : shape.columns ≤ cells_in shape
-  pub addresses : cells_in shape ≤ most_cells
+-- a size with at least one whole row, with room after an attribute in a row, and with an address for each cell
+pub record IsShape (size : Shape) : Type 0 where
+  pub columns : 1 < size.columns
+  pub row : size.columns ≤ cells_in size
+  pub addresses : cells_in size ≤ most_cells
 
--- a screen of that shape, with its cursor on it, and its last row for messages; a field is kept whole, or not at all
-pub record IsShowable (shape : Shape) (wanted : WantedScreen) : Type 0 where
-  pub size : wanted.size ≡ shape
-  pub cells : length wanted.cells ≡ cells_in shape
-  pub cursor : wanted.cursor < cells_in shape
-  pub messages : IsMessageRow (drop (message_place shape) wanted.cells)
+-- a screen of that size: the cursor is on it, the last row is for messages, and fields are kept whole or not at all
+pub record IsShowable (now : Shape) (wanted : WantedScreen) : Type 0 where
+  pub size : wanted.size ≡ now
+  pub cells : length wanted.cells ≡ cells_in now
+  pub cursor : wanted.cursor < cells_in now
+  pub messages : IsMessageRow (drop (message_place now) wanted.cells)
   pub kept : keeps_whole_fields wanted ≡ true
 
--- no cell of it is kept
+-- holds if no cell of the wanted screen is kept
 abbrev pub KeepsNothing : WantedScreen → Type 0
 KeepsNothing wanted = list_any is_keep wanted.cells ≡ false
 
--- the size is one of the two that a terminal of this model may have
+-- holds if the size is one of the two that a terminal of this model may have
 abbrev pub IsSizeOf : Application → Model → Shape → Type 0
 IsSizeOf app model size = (size ≡ app.begins) ⊎ (size ≡ app.alternate model)
 
--- What is shown to a terminal has a size that the terminal may have.
+-- An application: what is shown to a terminal has a size that it may have, and without `keep` keeps nothing.
 pub record IsApplication (app : Application) : Type 0 where
   pub begins : IsShape app.begins
   pub alternates : (model : Model) → IsShape (app.alternate model)
-  pub sizes : (model : Model) (panel : ℕ) (values : Values) (message : Message) (keep : Bool) → IsSizeOf app model (app.screen (app.shown model panel) values message keep).size
-  pub showable : (panel : ℕ) (values : Values) (message : Message) (keep : Bool) → let screen = app.screen panel values message keep in IsShowable screen.size screen
+  pub sizes : (model : Model) (panel : ℕ) (values : Values) (message : Message) (keep : Bool)
+      → IsSizeOf app model (app.screen (app.shown model panel) values message keep).size
+  pub showable : (panel : ℕ) (values : Values) (message : Message) (keep : Bool)
+      → let screen = app.screen panel values message keep in IsShowable screen.size screen
   pub whole : (panel : ℕ) (values : Values) (message : Message) → KeepsNothing (app.screen panel values message false)
 
--- values of characters that a cell can hold
+-- holds if the values have only characters that a cell can hold
 abbrev pub AreTexts : Values → Type 0
 AreTexts values = All AreCharacters (values_of values)
 
--- Where the values are such, each screen that is asked for is one of the profile's: it has its size, with the cursor on it, and
--- each of its cells can hold what is wanted of it.
-abbrev pub AsksForScreens : Application → Type 0
-AsksForScreens app =
-    (panel : ℕ) (values : Values) (message : Message) (keep : Bool) → AreTexts values → IsScreen (app.screen panel values message keep)
+-- Holds if each screen that is asked for, with such values, is one of our profile: it has its size, the cursor is on
+-- it, and each cell can hold what is wanted of it.
+abbrev pub WantsProperScreens : Application → Type 0
+WantsProperScreens app =
+    (panel : ℕ) (values : Values) (message : Message) (keep : Bool) → AreTexts values
+    → IsScreen (app.screen panel values message keep)
 
 -- ---- the application that panels are
 
--- one without texts and fields, for a number that no panel has
+-- a panel without texts and fields, for a number that no panel has
 abbrev pub no_panel : PanelParts
-no_panel = record { name = []; model = M2; otherwise = None; texts = []; fields = []; cursor = 0; targets = []; asked = [] }
+no_panel =
+    record { name = []; model = M2; otherwise = None; texts = []; fields = []; cursor = 0; targets = []; asked = [] }
 
 -- the panel with a number
 abbrev pub panel_at : Panels → ℕ → PanelParts
 panel_at set number = unwrap_or (slice_get set.panels number) no_panel
 
+-- what these panels ask for, as an application
 abbrev pub application_of : Panels → Application
 application_of set = record {
   begins = model_2;

@@ -1,4 +1,4 @@
--- What acts and notes make of a connection number (our profile).
+-- What acts, answers and notes do to a connection number (our profile).
 use Rattle.std.specs.Prelude.{◌≡◌, ◌≢◌, ◌<◌, ◌+◌, ℕ, Bool, true, false, List, [], ◌∷◌, ◌++◌, length, Option, Some, None}
 use Rattle.panels.specs.Screen.{Values}
 use Rattle.panels.specs.Values.{HasToGrow, value_of}
@@ -9,13 +9,13 @@ use Rattle.host_core.specs.Notes.{noted}
 use Rattle.host_core.specs.Rooms.{out_room, room_for}
 use Rattle.host_core.specs.Says.{item_sent}
 use Rattle.host_core.specs.Reports.{with_shown}
-use Rattle.host_core.specs.Session.{Conn, Pending}
+use Rattle.host_core.specs.Session.{Session, Pending}
 use Rattle.host_core.specs.State.{Service, Connection}
 use Rattle.host_core.specs.declared.question.Answer.{Answer}
 use Rattle.host_core.specs.declared.acted.Acted.{Acted}
 use Rattle.host_core.specs.declared.acted.Acted.TheVariants.{Sent as IsSent, Nothing, Memory}
 
--- what is done in the host's turn, if something is
+-- what is sent in the host's turn, if something is
 abbrev pub acted_by : Application → Service → Option Sent
 acted_by app Service.Free = None
 acted_by app (Service.Open rest conn) = acted app conn
@@ -27,19 +27,20 @@ noted_by text Service.Free = None
 noted_by text (Service.Open rest conn) = noted text conn
 noted_by text (Service.Closed cause) = None
 
-abbrev pub with_conn : Conn → Service → Service
+-- an open number with another session; any other state stays
+abbrev pub with_conn : Session → Service → Service
 with_conn conn Service.Free = Service.Free
 with_conn conn (Service.Open rest old) = Service.Open rest conn
 with_conn conn (Service.Closed cause) = Service.Closed cause
 
--- a screen was sent
+-- the pending command is a paint
 abbrev pub is_paint : Pending → Bool
 is_paint Pending.Nothing = false
 is_paint (Pending.Writing number command) = true
 is_paint (Pending.Reading number) = false
 is_paint (Pending.Noting number command) = false
 
--- what is sent is appended to what is still to be sent; that a screen is shown is to be reported
+-- the state after something is sent: its bytes are appended to the output, and a screen that is shown is an event
 abbrev pub sent_on : Sent → Connection → Connection
 sent_on sent connection = record {
   service = with_conn sent.conn connection.service;
@@ -47,45 +48,47 @@ sent_on sent connection = record {
   reports = with_shown (is_paint sent.conn.pending) connection.reports;
 }
 
+-- the values of fields on a connection number
 abbrev pub values_of : Service → Values
 values_of Service.Free = []
 values_of (Service.Open rest conn) = conn.values
 values_of (Service.Closed cause) = []
 
--- some field's value needs more memory than before: the field had no value, or a shorter one
+-- holds if some field's value needs more memory than before: the field had no value, or a shorter one
 abbrev pub Grow : Values → Values → Type 0
 Grow old new = (field : ℕ) × (text : List ℕ) × (value_of new field ≡ Some text) × HasToGrow (value_of old field) text
 
--- Memory can be wanted for two reasons alone: the bytes that wait leave less of the room that a connection keeps than the command
--- may take, or the value of some field has to grow.
+-- The only reasons to need memory: unsent output leaves less room than the command may take, or a value has to grow.
 pub data MayWantMemory (sent : Sent) (old : Connection) : Type 0 where
   room : out_room < length old.out + room_for sent.message → MayWantMemory sent old
   values : Grow (values_of old.service) sent.conn.values → MayWantMemory sent old
 
--- If there is something to do it is done, or memory is refused and nothing has changed.
+-- Holds if what there is to do is done, or memory is refused and nothing has changed.
 abbrev pub Does : Option Sent → Connection → Acted → Connection → Type 0
 Does None old answer new = (answer ≡ Nothing) × (new ≡ old)
 Does (Some sent) old IsSent new = new ≡ sent_on sent old
 Does (Some sent) old Memory new = (new ≡ old) × MayWantMemory sent old
 Does (Some sent) old Nothing new = ⊥
 
--- The values that an answer leads to can want memory for two reasons alone: the text that is known of some field is longer than the
--- value that the host has of it, or the answer has values, which are set in a copy of all.
-pub data ValuesMayWantMemory (app : Application) (answer : Answer) (conn : Conn) : Type 0 where
-  known : Grow conn.values (learned conn.shadow (app.fields conn.panel) conn.values) → ValuesMayWantMemory app answer conn
+-- The only reasons to need memory for the values of an answer: some known text is longer than the field's value, or
+-- the answer has values, which are set in a copy of all.
+pub data ValuesMayWantMemory (app : Application) (answer : Answer) (conn : Session) : Type 0 where
+  known : Grow conn.values (learned conn.shadow (app.fields conn.panel) conn.values)
+      → ValuesMayWantMemory app answer conn
   copied : answer.values ≢ [] → ValuesMayWantMemory app answer conn
 
+-- holds if the number is open and an answer may need memory for values there
 abbrev pub MayWantValues : Application → Answer → Service → Type 0
 MayWantValues app answer Service.Free = ⊥
 MayWantValues app answer (Service.Open rest conn) = ValuesMayWantMemory app answer conn
 MayWantValues app answer (Service.Closed cause) = ⊥
 
--- An answer can want memory for the room, as above, or for these values.
+-- The only reasons to need memory for an answer: the room for output, as above, or these values.
 pub data AnswerMayWantMemory (app : Application) (answer : Answer) (sent : Sent) (old : Connection) : Type 0 where
   room : out_room < length old.out + room_for sent.message → AnswerMayWantMemory app answer sent old
   values : MayWantValues app answer old.service → AnswerMayWantMemory app answer sent old
 
--- If an answer is taken what it says is shown, or memory is refused and nothing has changed.
+-- Holds if what an answer says is shown, or it isn't taken, or memory is refused; in the last two nothing has changed.
 abbrev pub DoesAnswer : Application → Answer → Option Sent → Connection → Acted → Connection → Type 0
 DoesAnswer app answer None old did new = (did ≡ Nothing) × (new ≡ old)
 DoesAnswer app answer (Some sent) old IsSent new = new ≡ sent_on sent old

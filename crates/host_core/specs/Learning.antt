@@ -7,26 +7,27 @@ use Rattle.panels.specs.Values.{value_of}
 use Rattle.panels.specs.declared.panel.Field.{Field}
 use Rattle.host_core.specs.Acts.{is_blank, text_known}
 
--- the screen of which something is known has the cell of a field's attribute
+-- holds if the believed screen has the cell of this field's attribute
 abbrev pub HasField : Shadow → Field → Type 0
 HasField shadow field = HasCell (field.extent.first - 1) shadow
 
 abbrev pub HaveFields : Shadow → List Field → Type 0
 HaveFields shadow fields = All (HasField shadow) fields
 
--- whether a text needs more memory than a value has
+-- the text is longer than the value, or there is no value
 abbrev pub is_longer : Option (List ℕ) → List ℕ → Bool
 is_longer None text = true
 is_longer (Some value) text = nat_lt (length value) (length text)
 
--- whether the text of a field is known and needs more memory than the field's value has
+-- the text of the field is known and longer than the field's value
 abbrev pub needs_room : Shadow → Values → Field → Bool
-needs_room shadow values field = option_map_or (is_longer (value_of values field.number)) (text_known shadow field) false
+needs_room shadow values field = option_map_or (is_longer (value_of values field.number))
+    (text_known shadow field) false
 
--- the value of a field once its text is set, if the host knows it
+-- the field's known text, or else its value
 abbrev pub value_now : Shadow → Values → Field → Option (List ℕ)
 value_now shadow values field = option_or (text_known shadow field) (value_of values field.number)
 
--- a required field isn't filled in, once the known texts are set
+-- the field is required and isn't filled in, by its known text, or else by its value
 abbrev pub is_missing_now : Shadow → Values → Field → Bool
 is_missing_now shadow values field = field.required && is_blank (unwrap_or (value_now shadow values field) [])

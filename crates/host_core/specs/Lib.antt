@@ -21,7 +21,7 @@ pub mod Serves
 pub mod NoteLaws
 pub mod Laws
 pub mod Rooms
-pub mod Keeps
+pub mod Representation
 pub mod Parts
 pub mod Connections
 pub mod Choices

@@ -1,18 +1,20 @@
--- A host is one machine: what a connection's bytes make of it and what it sends is a function of what it was and of the bytes,
--- however they are cut into pieces (our profile: RFC 854 knows no pieces).
+-- A host's state and output depend only on what they were and on the connection's bytes, however these are cut into
+-- pieces (our profile: RFC 854 knows no pieces).
 use Rattle.std.specs.Prelude.{◌≡◌, ℕ, List, ◌++◌}
-use Rattle.host_core.specs.Bytes.{Counter, TakesBytes}
+use Rattle.host_core.specs.Bytes.{ConnectionAndPool, TakesBytes}
 
--- bytes make one of each
+-- holds if the same bytes always lead to the same state
 abbrev pub OneOutcome : Type 0
-OneOutcome = (number : ℕ) (old new other : Counter) (bytes : List ℕ) → TakesBytes number old bytes new → TakesBytes number old bytes other → new ≡ other
+OneOutcome = (number : ℕ) (old new other : ConnectionAndPool) (bytes : List ℕ) → TakesBytes number old bytes new
+    → TakesBytes number old bytes other → new ≡ other
 
--- two pieces, one after the other, are taken as both in one
+-- holds if two pieces, one after the other, are taken as both in one
 abbrev pub PiecesCompose : Type 0
-PiecesCompose = (number : ℕ) (old mid new : Counter) (first second : List ℕ)
+PiecesCompose = (number : ℕ) (old mid new : ConnectionAndPool) (first second : List ℕ)
     → TakesBytes number old first mid → TakesBytes number mid second new → TakesBytes number old (first ++ second) new
 
--- what is taken in one is taken in any two pieces
+-- holds if bytes that are taken in one piece are taken in any two pieces
 abbrev pub PiecesPart : Type 0
-PiecesPart = (number : ℕ) (old new : Counter) (first second : List ℕ)
-    → TakesBytes number old (first ++ second) new → (mid : Counter) × TakesBytes number old first mid × TakesBytes number mid second new
+PiecesPart = (number : ℕ) (old new : ConnectionAndPool) (first second : List ℕ)
+    → TakesBytes number old (first ++ second) new → (mid : ConnectionAndPool) × TakesBytes number old first mid
+    × TakesBytes number mid second new

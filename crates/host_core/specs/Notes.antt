@@ -5,23 +5,24 @@ use Rattle.datastream.specs.Grammar.{CommandParts}
 use Rattle.datastream.specs.Note.{quiet}
 use Rattle.datastream.specs.declared.command_code.CommandCode.TheVariants.{Write}
 use Rattle.datastream.specs.declared.order.Order.{Order}
-use Rattle.datastream.specs.declared.order.Order.TheVariants.{Sba, Char as Data}
+use Rattle.datastream.specs.declared.order.Order.TheVariants.{Sba, Char as CharData}
 use Rattle.tn3270e_msg.specs.Header.{next_number}
 use Rattle.host_core.specs.Acts.{Sent}
 use Rattle.host_core.specs.Application.{message_place}
 use Rattle.host_core.specs.Messages.{ToTerminal}
 use Rattle.host_core.specs.declared.turn.Turn.{Turn}
 use Rattle.host_core.specs.declared.turn.Turn.TheVariants as whose
-use Rattle.host_core.specs.Session.{Conn, Pending, is_agreed}
+use Rattle.host_core.specs.Session.{Session, Pending, is_agreed}
 
 -- a character of code page 037
 abbrev pub is_graphic : ℕ → Bool
 is_graphic byte = not (nat_lt byte 0x40) && nat_lt byte 0xFF
 
--- the room of the longest last row that a 3278 has, that of 132 columns, behind its attribute
+-- the characters of the longest last row of a 3278, that of 132 columns, after its attribute
 abbrev pub longest_note : ℕ
 longest_note = 131
 
+-- holds for the text of a note: at most 131 characters of code page 037
 pub record IsNoteText (text : List ℕ) : Type 0 where
   pub short : length text ≤ longest_note
   pub graphic : All (λ byte. IsTrue (is_graphic byte)) text
@@ -30,15 +31,15 @@ pub record IsNoteText (text : List ℕ) : Type 0 where
 abbrev pub in_cells : ℕ → List ℕ → List ℕ
 in_cells room text = take room (text ++ replicate room 0)
 
--- the row behind its attribute, written over
+-- the orders that write a text over the last row after its attribute
 abbrev pub note_orders : Shape → List ℕ → List Order
-note_orders shape text = Sba (message_place shape + 1) ∷ map Data (in_cells (shape.columns - 1) text)
+note_orders size text = Sba (message_place size + 1) ∷ map CharData (in_cells (size.columns - 1) text)
 
--- A Write that restores nothing, resets nothing and moves no cursor.
+-- A note's command: a Write that restores no keyboard, resets no MDT and moves no cursor.
 abbrev pub note_command : Shape → List ℕ → CommandParts
-note_command shape text = record { code = Write; size = shape; wcc = Some quiet; orders = note_orders shape text }
+note_command size text = record { code = Write; size = size; wcc = Some quiet; orders = note_orders size text }
 
--- in the operator's turn, where nothing waits for an answer
+-- a note may be sent: it is the operator's turn, and no command waits for its answer
 abbrev pub may_note : Turn → Pending → Bool → Bool
 may_note whose.Terminal Pending.Nothing agreed = agreed
 may_note whose.Terminal (Pending.Writing number command) agreed = false
@@ -46,14 +47,16 @@ may_note whose.Terminal (Pending.Reading number) agreed = false
 may_note whose.Terminal (Pending.Noting number command) agreed = false
 may_note whose.Host pending agreed = false
 
--- the turn stays, and what is believed, until the note is answered
-abbrev pub noted_as : List ℕ → Conn → Sent
+-- what is sent for a note, and the connection after it: turn and belief stay until the note is answered
+abbrev pub noted_as : List ℕ → Session → Sent
 noted_as text conn =
-    let command = note_command conn.shape text in
+    let command = note_command conn.size text in
     record {
       conn = record conn { pending = Pending.Noting conn.next_seq command; next_seq = next_number conn.next_seq };
       message = ToTerminal.Note conn.next_seq command;
     }
 
-abbrev pub noted : List ℕ → Conn → Option Sent
-noted text conn = if may_note conn.turn conn.pending (is_agreed conn.talk.state) then Some (noted_as text conn) else None
+-- what is sent for a note, if one may be sent
+abbrev pub noted : List ℕ → Session → Option Sent
+noted text conn = if may_note conn.turn conn.pending (is_agreed conn.talk.state) then Some (noted_as text conn)
+    else None

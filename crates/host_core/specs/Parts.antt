@@ -12,17 +12,17 @@ use Rattle.tn3270e_msg.specs.Talk.{Talk}
 use Rattle.tn3270e_msg.specs.declared.cause.Cause.{Cause}
 use Rattle.tn3270e_msg.specs.declared.host_talk.HostState.{HostState}
 use Rattle.host_core.specs.Items.{Talks}
-use Rattle.host_core.specs.Keeps.{command_in}
+use Rattle.host_core.specs.Representation.{command_in}
 use Rattle.host_core.specs.Messages.{ToTerminal}
 use Rattle.host_core.specs.Reports.{Reports, reported}
 use Rattle.host_core.specs.Says.{item_sent}
-use Rattle.host_core.specs.Session.{Conn, Pending}
+use Rattle.host_core.specs.Session.{Session, Pending}
 use Rattle.host_core.specs.Takes.{HostStep, key_data_came, out_of_turn, with_talk}
 use Rattle.host_core.specs.declared.turn.Turn.{Turn}
 use Rattle.host_core.specs.declared.turn.Turn.TheVariants as whose
 use Rattle.host_core.specs.declared.rejection.Rejection.{Rejection}
 
--- where none waits
+-- the write if none waits
 abbrev pub no_write : CommandParts
 no_write = command_in model_2 []
 
@@ -33,24 +33,34 @@ write_of (Pending.Writing number command) = command
 write_of (Pending.Reading number) = no_write
 write_of (Pending.Noting number command) = command
 
--- a write does
+-- holds if a write waits for its answer
 abbrev pub IsWrite : Pending → Type 0
 IsWrite Pending.Nothing = ⊥
 IsWrite (Pending.Writing number command) = ⊤
 IsWrite (Pending.Reading number) = ⊥
 IsWrite (Pending.Noting number command) = ⊤
 
--- The talk goes on by an item: what it says is put behind what is there. Where it closes its LU is still held.
-pub record TalkTaken (number : ℕ) (pool : List Entry) (old : Talk HostState) (item : WireItem) (before after : Vec ℕ Global) (closes : Option Cause) (left : List Entry) (new : Talk HostState) (kept keeps : Reports) : Type 0 where
+-- An item of the negotiation is taken: the reply is appended to the output. If it closes, the LU is still held.
+pub record TalkTaken (number : ℕ) (pool : List Entry) (old : Talk HostState) (item : WireItem)
+    (before after : Vec ℕ Global) (closes : Option Cause) (left : List Entry) (new : Talk HostState)
+    (kept keeps : Reports) : Type 0 where
   pub sends : List ToTerminal
   pub grants : Option (List ℕ)
   pub rejects : Option Rejection
-  pub talks : (conn : Conn) → conn.talk ≡ old → Talks (answer_to pool) conn item (record { conn = with_talk conn new; sends = sends; grants = grants; rejects = rejects; drops = None; breaks = None; closes = closes })
+  pub talks : (conn : Session) → conn.talk ≡ old → Talks (answer_to pool) conn item (record {
+    conn = with_talk conn new;
+    sends = sends;
+    grants = grants;
+    rejects = rejects;
+    drops = None;
+    breaks = None;
+    closes = closes;
+  })
   pub pool_is : left ≡ granted_if number grants pool
   pub sent : after.items ≡ before.items ++ sent_bytes (map item_sent sends)
   pub reports : keeps ≡ reported rejects None None kept
 
--- data that comes while nothing waits for an answer, or a note does
-abbrev pub key_data_in_turn : InboundParts → Turn → Conn → HostStep
+-- data that is received while no paint or read waits for its answer
+abbrev pub key_data_in_turn : InboundParts → Turn → Session → HostStep
 key_data_in_turn parts whose.Host conn = out_of_turn parts conn
 key_data_in_turn parts whose.Terminal conn = key_data_came parts parts.form conn

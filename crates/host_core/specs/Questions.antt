@@ -1,4 +1,4 @@
--- Questions and answers (our profile): an application decides on keys that a panel asks it about, and it learns what the operator sees.
+-- Questions and answers (our profile): the application decides on the keys that a panel asks about.
 use Rattle.std.specs.Prelude.{◌≢◌, ◌==◌, ◌&&◌, not, ℕ, Bool, true, false, List, [], Option, Some, None, is_some, option_map, if◌then◌else◌}
 use Rattle.std.specs.List.{list_any}
 use Rattle.std.specs.Option.{option_map_or}
@@ -11,7 +11,7 @@ use Rattle.panels.specs.Values.{value_of, with_values, without_fields}
 use Rattle.host_core.specs.Acts.{Act, Decision, Sent, decision_in, done, learned}
 use Rattle.host_core.specs.Application.{Application}
 use Rattle.host_core.specs.State.{Service}
-use Rattle.host_core.specs.Session.{Conn, agreed_lu, model_in}
+use Rattle.host_core.specs.Session.{Session, agreed_lu, model_in}
 use Rattle.host_core.specs.declared.question.Answer.{Answer}
 use Rattle.host_core.specs.declared.question.Question.{Question}
 use Rattle.host_core.specs.declared.question.Ticket.{Ticket}
@@ -20,27 +20,27 @@ use Rattle.host_core.specs.declared.turn_reason.TurnReason.TheVariants as turn_r
 
 -- ---- questions
 
+-- the decision is to ask the application
 abbrev pub is_ask : Decision → Bool
 is_ask (Decision.Do act) = false
 is_ask Decision.Asks = true
 
 -- a question is open: it is the host's turn, and the application decides
-abbrev pub is_asking : Application → Conn → Bool
+abbrev pub is_asking : Application → Session → Bool
 is_asking app conn = option_map_or is_ask (decision_in app conn) false
 
--- the key that gave the host the turn
+-- the key that gave the host the turn; NoAid if none did
 abbrev pub key_of : TurnReason → Aid
 key_of turn_reasons.Agreement = NoAid
 key_of (turn_reasons.Key aid buffered) = aid
 key_of turn_reasons.Refusal = NoAid
 
--- Which question an answer is to: the session, and the number of the record that will answer the operator.
-abbrev pub ticket_of : ℕ → Conn → Ticket
+-- the ticket of a question: the session, and the sequence number of the record that will answer the operator
+abbrev pub ticket_of : ℕ → Session → Ticket
 ticket_of session conn = record { session = session; turn = conn.next_seq }
 
--- what the application learns: on which LU, on which panel and by which key; where the cursor is; and the text of each of the panel's
--- fields, without nulls, as far as it is known now
-abbrev pub question_on : Application → ℕ → Conn → List ℕ → Question
+-- the question: the LU, panel, key and cursor, and the known texts of the panel's fields, without nulls
+abbrev pub question_on : Application → ℕ → Session → List ℕ → Question
 question_on app session conn lu = record {
   ticket = ticket_of session conn;
   lu = lu;
@@ -50,56 +50,67 @@ question_on app session conn lu = record {
   values = learned conn.shadow (app.fields conn.panel) [];
 }
 
-abbrev pub question_in : Application → ℕ → Conn → Option Question
-question_in app session conn = if is_asking app conn then option_map (question_on app session conn) (agreed_lu conn.talk.state) else None
+-- the question that is open on a connection, if one is
+abbrev pub question_in : Application → ℕ → Session → Option Question
+question_in app session conn = if is_asking app conn
+    then option_map (question_on app session conn) (agreed_lu conn.talk.state) else None
 
+-- the question that is open on a connection number, if one is
 abbrev pub question_of : Application → ℕ → Service → Option Question
 question_of app session Service.Free = None
 question_of app session (Service.Open rest conn) = question_in app session conn
 question_of app session (Service.Closed cause) = None
 
--- a question is open, and some field of its panel has a text: memory is wanted only then
+-- holds if a question is open and some field of its panel has a text: only then is memory needed
 abbrev pub HasTexts : Option Question → Type 0
 HasTexts None = ⊥
 HasTexts (Some question) = question.values ≢ []
 
 -- ---- answers
 
--- some field of these has a value
+-- some of these fields has a value
 abbrev pub has_value_of : List Field → Values → Bool
 has_value_of fields values = list_any (λ field. is_some (value_of values field.number)) fields
 
--- the fields of the panel that is shown, if an answer names one
-abbrev pub named_fields : Application → Conn → Option ℕ → List Field
+-- the fields of the panel that an answer leads to, if it names one
+abbrev pub named_fields : Application → Session → Option ℕ → List Field
 named_fields app conn None = []
 named_fields app conn (Some panel) = app.fields (app.shown (model_in conn) panel)
 
--- what is known of the fields is kept for other panels; the fields of the panel that is named have the answer's values alone
-abbrev pub values_for : Application → Conn → Answer → Option ℕ → Values
+-- the values after an answer: known texts are kept; the fields of the panel that the answer names have only its values
+abbrev pub values_for : Application → Session → Answer → Option ℕ → Values
 values_for app conn answer panel =
-    with_values (without_fields (named_fields app conn panel) (learned conn.shadow (app.fields conn.panel) conn.values)) answer.values
+    with_values (without_fields (named_fields app conn panel) (learned conn.shadow (app.fields conn.panel) conn.values))
+    answer.values
 
--- The same panel keeps what the operator left in its fields, unless the answer has a value of one: then it is shown whole.
-abbrev pub act_by : Application → Conn → Answer → Option ℕ → Act
+-- The act for an answer: a panel that it names is shown whole. If it names none, the panel that is shown keeps what
+-- the operator left in its fields, unless the answer has a value of one.
+abbrev pub act_by : Application → Session → Answer → Option ℕ → Act
 act_by app conn answer None =
-    Act.Show conn.panel (Told answer.message answer.cursor) (not (has_value_of (app.fields conn.panel) answer.values)) (values_for app conn answer None)
-act_by app conn answer (Some panel) = Act.Show panel (Told answer.message answer.cursor) false (values_for app conn answer (Some panel))
+    Act.Show conn.panel (Told answer.message answer.cursor) (not (has_value_of (app.fields conn.panel) answer.values))
+    (values_for app conn answer None)
+act_by app conn answer (Some panel) = Act.Show panel (Told answer.message answer.cursor) false
+    (values_for app conn answer (Some panel))
 
--- the panel that an answer names is there
+-- the panel that an answer names exists, if it names one
 abbrev pub has_its_panel : Application → Answer → Bool
 has_its_panel app answer = option_map_or app.has_panel answer.panel true
 
--- an answer is taken while a question is open, if there is the panel that it names
-abbrev pub answered_on : Application → Conn → Answer → Option Sent
-answered_on app conn answer = if is_asking app conn && has_its_panel app answer then Some (done app conn (act_by app conn answer answer.panel)) else None
+-- what an answer sends: it is taken while a question is open, if its panel exists
+abbrev pub answered_on : Application → Session → Answer → Option Sent
+answered_on app conn answer = if is_asking app conn && has_its_panel app answer
+    then Some (done app conn (act_by app conn answer answer.panel)) else None
 
+-- the tickets are equal
 abbrev pub is_ticket : Ticket → Ticket → Bool
 is_ticket one other = (one.session == other.session) && (one.turn == other.turn)
 
--- and if it is to that question
-abbrev pub answered_in : Application → ℕ → Ticket → Answer → Conn → Option Sent
-answered_in app session ticket answer conn = if is_ticket ticket (ticket_of session conn) then answered_on app conn answer else None
+-- what an answer with this ticket sends: it is taken only if the ticket is the open question's
+abbrev pub answered_in : Application → ℕ → Ticket → Answer → Session → Option Sent
+answered_in app session ticket answer conn = if is_ticket ticket (ticket_of session conn)
+    then answered_on app conn answer else None
 
+-- what an answer sends on a connection number, if it is taken
 abbrev pub answered_by : Application → ℕ → Ticket → Answer → Service → Option Sent
 answered_by app session ticket answer Service.Free = None
 answered_by app session ticket answer (Service.Open rest conn) = answered_in app session ticket answer conn

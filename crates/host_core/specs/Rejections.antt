@@ -10,7 +10,7 @@ use Rattle.tn3270e_msg.specs.declared.reply.Reply.{Reply}
 use Rattle.tn3270e_msg.specs.declared.reply.Reply.TheVariants.{Sub}
 use Rattle.host_core.specs.declared.rejection.Rejection.{Rejection}
 
--- the LU of this name: none if no name is given, or if it isn't the name of an LU
+-- the LU that CONNECT names; none if no name is given, or if it isn't the name of an LU
 abbrev pub lu_named : Option Name → Option (List ℕ)
 lu_named (Some (Connect name)) = lu_of name
 lu_named _ = None
@@ -25,6 +25,7 @@ abbrev pub reason_of : OwnedMessage → Option Reason
 reason_of (TypeReject reason) = Some reason
 reason_of _ = None
 
+-- why a reply rejects a request, if it does
 abbrev pub reason_in : Reply → Option Reason
 reason_in (Sub message after) = reason_of message
 reason_in _ = None
@@ -33,6 +34,6 @@ abbrev pub rejected_for : Option (List ℕ) → Option Reason → Option Rejecti
 rejected_for lu None = None
 rejected_for lu (Some reason) = Some (record { lu = lu; reason = reason })
 
--- the rejection of a request for this LU, if the reply to it is one
+-- the rejection of a request for this LU, if the reply rejects it
 abbrev pub rejection_by : Option (List ℕ) → Reply → Option Rejection
 rejection_by lu reply = rejected_for lu (reason_in reply)

@@ -1,5 +1,4 @@
--- What a connection keeps until it is reported (our profile): the requests for an LU that the host rejected, the LU that the terminal
--- was bound to, the keys that the host dropped, the rule that the terminal broke, and whether a screen was shown.
+-- The events that a connection keeps until they are reported (our profile).
 use Rattle.std.specs.Prelude.{ℕ, Bool, true, false, ◌||◌, List, [], ◌∷◌, ◌++◌, map, Option, Some, None, length, ltb, if◌then◌else◌}
 use Rattle.std.specs.Option.{option_or}
 use Rattle.shadow.specs.declared.rule_break.RuleBreak.{RuleBreak}
@@ -8,7 +7,7 @@ use Rattle.host_core.specs.declared.event.HostEvent.{HostEvent}
 use Rattle.host_core.specs.declared.event.HostEvent.TheVariants as event
 use Rattle.host_core.specs.declared.rejection.Rejection.{Rejection}
 
--- the oldest first
+-- the unreported events; of each kind the oldest first
 pub record Reports : Type 0 where
   pub rejections : List Rejection
   pub bound : Option (List ℕ)
@@ -16,20 +15,22 @@ pub record Reports : Type 0 where
   pub rule_break : Option RuleBreak
   pub shown : Bool
 
+-- no unreported event
 abbrev pub no_reports : Reports
 no_reports = record { rejections = []; bound = None; dropped_keys = []; rule_break = None; shown = false }
 
 -- ---- what is kept
 
--- the most rejections, and the most keys: a talk sends no more rejections
+-- the most rejections, and the most dropped keys, that are kept; a negotiation sends no more rejections
 abbrev pub most_reports : ℕ
 most_reports = 8
 
--- one more, if there is one, is kept behind the others
+-- one more, if there is one, is added at the end, unless there are `most_reports`
 abbrev pub kept_with : {A : Type 0} → Option A → List A → List A
 kept_with None kept = kept
 kept_with (Some one) kept = if ltb (length kept) most_reports then kept ++ one ∷ [] else kept
 
+-- the events after a rejection, a dropped key and a broken rule, each if there is one
 abbrev pub reported : Option Rejection → Option DroppedKey → Option RuleBreak → Reports → Reports
 reported rejection dropped broken reports = record reports {
   rejections = kept_with rejection reports.rejections;
@@ -42,15 +43,17 @@ abbrev pub newly_bound : (before after : Option (List ℕ)) → Option (List ℕ
 newly_bound None after = after
 newly_bound (Some lu) after = None
 
+-- the events after the terminal is bound to this LU, if it is
 abbrev pub with_bound : Option (List ℕ) → Reports → Reports
 with_bound lu reports = record reports { bound = option_or lu reports.bound }
 
+-- the events after a screen is shown, if one is
 abbrev pub with_shown : Bool → Reports → Reports
 with_shown shown reports = record reports { shown = shown || reports.shown }
 
 -- ---- what is handed out
 
--- of what there may be
+-- the event of this, if there is one
 abbrev pub event_if : {A : Type 0} → (A → HostEvent) → Option A → List HostEvent
 event_if event None = []
 event_if event (Some one) = event one ∷ []
@@ -58,7 +61,7 @@ event_if event (Some one) = event one ∷ []
 abbrev pub shown_if : Bool → List HostEvent
 shown_if shown = if shown then event.Shown ∷ [] else []
 
--- all that wasn't reported yet, in the order in which it is handed out
+-- all unreported events, in the order in which they are handed out
 abbrev pub events_of : Reports → List HostEvent
 events_of reports =
     map event.Rejected reports.rejections
@@ -67,12 +70,12 @@ events_of reports =
     ++ (event_if event.RuleBroken reports.rule_break
     ++ shown_if reports.shown)))
 
--- the one that is handed out next
+-- the first of a list: the event that is handed out next
 abbrev pub oldest : {A : Type 0} → List A → Option A
 oldest [] = None
 oldest (one ∷ others) = Some one
 
--- the others, which stay
+-- a list without its first
 abbrev pub without_oldest : {A : Type 0} → List A → List A
 without_oldest [] = []
 without_oldest (one ∷ others) = others

@@ -1,4 +1,4 @@
--- One connection as the host has it (our profile).
+-- An open connection as the host has it, apart from its stream (our profile).
 use Rattle.std.specs.Prelude.{ℕ, Bool, true, false, [], unwrap_or}
 use Rattle.codes3270.specs.Size.{Shape}
 use Rattle.codes3270.specs.declared.size.Model.{Model}
@@ -22,46 +22,46 @@ use Rattle.tn3270e_msg.specs.HostTable.{host_start, model_asked}
 pub use Rattle.tn3270e_msg.specs.HostTable.{agreed_lu, is_agreed}
 use Rattle.tn3270e_msg.specs.declared.host_talk.HostState.{HostState}
 
--- the command that isn't answered yet, with its number: a paint, a Read Buffer, or a note
+-- the command that waits for its answer, with its sequence number: a paint, a Read Buffer, or a note
 pub data Pending : Type 0 where
   Nothing : Pending
   Writing : ℕ → CommandParts → Pending
   Reading : ℕ → Pending
   Noting : ℕ → CommandParts → Pending
 
-pub record Conn : Type 0 where
+-- the session of an open connection: the negotiation, the screen and its belief, the turn, and what is shown
+pub record Session : Type 0 where
   pub talk : Talk HostState
-  pub shape : Shape  -- of the terminal's screen, as the host's last erase set it
+  pub size : Shape  -- of the terminal's screen, as the host's last erase set it
   pub turn : Turn
   pub pending : Pending
   pub next_seq : ℕ  -- of the next command
   pub shadow : Shadow
   pub panel : ℕ  -- the one that is shown
-  pub message : Message  -- and with what message
+  pub message : Message  -- its message
   pub values : Values  -- of the fields
   pub turn_reason : TurnReason
   pub cursor : ℕ  -- where the terminal's cursor was when its last data was sent; 0 before
   pub unheard : Unheard  -- what may have happened to the screen since the host heard of it
   pub verifies : Bool  -- the host reads the screen before it answers a key, to see that the terminal keeps the rules
 
--- what may happen to the screens of such terminals unheard
+-- what may happen to the screens of such terminals, unknown to the host
 abbrev pub unheard_of : Terminals → Unheard
 unheard_of Waiting = unheards.Nothing
 unheard_of Any = unheards.Input
 unheard_of Verified = unheards.Input
 
--- the host verifies that they keep the rules
+-- the host verifies that such terminals keep the rules
 abbrev pub are_verified : Terminals → Bool
 are_verified Waiting = false
 are_verified Any = false
 are_verified Verified = true
 
--- at the begin of a connection, when the host has offered TN3270E; nothing is shown yet, and the first panel is to be, in the form in
--- which a model 2 is shown it
-abbrev pub new_conn : Terminals → Application → Conn
+-- A connection at its beginning: TN3270E is offered, and the first panel will be shown, in the form for a model 2.
+abbrev pub new_conn : Terminals → Application → Session
 new_conn terminals app = record {
   talk = host_start;
-  shape = app.begins;
+  size = app.begins;
   turn = Host;
   pending = Pending.Nothing;
   next_seq = 0;
@@ -75,6 +75,6 @@ new_conn terminals app = record {
   verifies = are_verified terminals;
 }
 
--- the model of the terminal, once it has asked for its type; all are like a model 2 before
-abbrev pub model_in : Conn → Model
+-- the terminal's model; model 2 before it has asked for a device type
+abbrev pub model_in : Session → Model
 model_in conn = unwrap_or (model_asked conn.talk.state) M2

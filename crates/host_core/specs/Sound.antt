@@ -4,37 +4,40 @@ use Rattle.lu_pool.specs.Pool.{Holds}
 use Rattle.lu_pool.specs.declared.entry.Entry.{Entry}
 use Rattle.panels.specs.Panel.{Panels, shape_of}
 use Rattle.host_core.specs.Application.{panel_at}
-use Rattle.host_core.specs.Session.{Conn}
+use Rattle.host_core.specs.Session.{Session}
 use Rattle.host_core.specs.State.{Service, Host, most_connections, service_at, lu_of}
 
--- The pool holds this LU for the connection with this number, and no other; or none at all.
+-- Holds if the pool holds exactly this LU for the connection with this number; or none.
 abbrev pub HoldsJust : ℕ → List Entry → Option (List ℕ) → Type 0
 HoldsJust number pool held = (lu : List ℕ) → Holds pool number lu ↔ (held ≡ Some lu)
 
--- An LU is held for a connection exactly while it is granted there: that of a connection that closed is free.
+-- Holds if each connection holds exactly the LU that is granted there; so the LU of a closed connection is free.
 abbrev pub LusAreHeld : Host → Type 0
 LusAreHeld host = (number : ℕ) → HoldsJust number host.pool (lu_of (service_at number host))
 
--- the connection's panel is there, and is one for a screen of the connection's size
-pub record IsShownOn (panels : Panels) (conn : Conn) : Type 0 where
+-- holds if the connection's panel exists, and has the size of the connection's screen
+pub record IsShownOn (panels : Panels) (conn : Session) : Type 0 where
   pub there : conn.panel < length panels.panels
-  pub size : shape_of (panel_at panels conn.panel) ≡ conn.shape
+  pub size : shape_of (panel_at panels conn.panel) ≡ conn.size
 
+-- holds if the number isn't open, or its connection is shown such a panel
 abbrev pub IsShown : Panels → Service → Type 0
 IsShown panels Service.Free = ⊤
 IsShown panels (Service.Open rest conn) = IsShownOn panels conn
 IsShown panels (Service.Closed cause) = ⊤
 
--- Each connection that is open is shown such a panel.
+-- Holds if each open connection is shown such a panel.
 abbrev pub PanelsAreShown : Host → Type 0
 PanelsAreShown host = (number : ℕ) → IsShown host.panels (service_at number host)
 
+-- what holds of each host
 pub record IsSound (host : Host) : Type 0 where
   pub connections : length host.connections ≡ most_connections
   pub sessions : length host.sessions.latest ≡ most_connections
   pub held : LusAreHeld host
   pub shown : PanelsAreShown host
 
--- So no two connections are granted one LU.
+-- Holds if no two connections are granted the same LU.
 abbrev pub NobodyShares : Host → Type 0
-NobodyShares host = (one other : ℕ) (lu : List ℕ) → lu_of (service_at one host) ≡ Some lu → lu_of (service_at other host) ≡ Some lu → one ≡ other
+NobodyShares host = (one other : ℕ) (lu : List ℕ) → lu_of (service_at one host) ≡ Some lu
+    → lu_of (service_at other host) ≡ Some lu → one ≡ other

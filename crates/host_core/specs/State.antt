@@ -12,7 +12,7 @@ use Rattle.tn3270e_msg.specs.HostTable.{granted, model_asked}
 use Rattle.tn3270e_msg.specs.declared.cause.Cause.{Cause}
 use Rattle.host_core.specs.Answering.{number_of}
 use Rattle.host_core.specs.Application.{application_of}
-use Rattle.host_core.specs.Session.{Conn, new_conn, agreed_lu}
+use Rattle.host_core.specs.Session.{Session, new_conn, agreed_lu}
 use Rattle.host_core.specs.declared.phase.Phase.{Phase}
 use Rattle.host_core.specs.Reports.{Reports, no_reports}
 use Rattle.host_core.specs.declared.phase.Phase.TheVariants as phase
@@ -21,23 +21,24 @@ use Rattle.host_core.specs.declared.terminals.Terminals.TheVariants.{Waiting}
 use Rattle.host_core.specs.declared.turn.Turn.{Turn}
 use Rattle.host_core.specs.declared.turn.Turn.TheVariants.{Host as HostTurn}
 
--- A connection number, to the host: free; open, with what it holds of the stream and the connection; or closed, by this cause.
+-- The state of a connection number: free; open, with its stream's unfinished bytes and its session; or closed.
 pub data Service : Type 0 where
   Free : Service
-  Open : Rest → Conn → Service
+  Open : Rest → Session → Service
   Closed : Cause → Service
 
--- with what the host has to send on it, and what wasn't reported yet
+-- a connection number's state, its unsent output, and its unreported events
 pub record Connection : Type 0 where
   pub service : Service
   pub out : List ℕ
   pub reports : Reports
 
--- Sessions are counted: the number of the session that each connection number was opened for last, and that of the next one.
+-- The count of sessions: the session that each connection number was last opened for, and the next session's number.
 pub record Sessions : Type 0 where
   pub latest : List ℕ
   pub next : ℕ
 
+-- a host: its panels, its pool of LUs, its connections and its count of sessions
 pub record Host : Type 0 where
   pub panels : Panels
   pub pool : List Entry
@@ -45,51 +46,59 @@ pub record Host : Type 0 where
   pub sessions : Sessions
   pub terminals : Terminals  -- those that it serves
 
--- the numbers that there are
+-- connection numbers are below this
 abbrev pub most_connections : ℕ
 most_connections = 64
 
 -- ---- a number
 
+-- a free connection number
 abbrev pub unused : Connection
 unused = record { service = Service.Free; out = []; reports = no_reports }
 
--- TN3270E is offered at once, on a screen of 24 rows of 80 cells
+-- a connection when it is opened: DO TN3270E is to be sent (option 40), and the screen has 24 rows of 80 cells
 abbrev pub opened : Terminals → Panels → Connection
-opened terminals panels = record { service = Service.Open nothing (new_conn terminals (application_of panels)); out = sent_bytes (Opt Do 40 ∷ []); reports = no_reports }
+opened terminals panels = record {
+  service = Service.Open nothing (new_conn terminals (application_of panels));
+  out = sent_bytes (Opt Do 40 ∷ []);
+  reports = no_reports;
+}
 
 abbrev pub phase_agreed : Option (List ℕ) → Phase
 phase_agreed None = phase.Talking
 phase_agreed (Some lu) = phase.Bound lu
 
+-- the phase of a connection number
 abbrev pub phase_of : Service → Phase
 phase_of Service.Free = phase.Free
 phase_of (Service.Open rest conn) = phase_agreed (agreed_lu conn.talk.state)
 phase_of (Service.Closed cause) = phase.Closed cause
 
--- the LU that was granted there
+-- the LU that the pool granted to the connection
 abbrev pub lu_of : Service → Option (List ℕ)
 lu_of Service.Free = None
 lu_of (Service.Open rest conn) = granted conn.talk.state
 lu_of (Service.Closed cause) = None
 
+-- whose turn it is; the host's if the number isn't open
 abbrev pub turn_of : Service → Turn
 turn_of Service.Free = HostTurn
 turn_of (Service.Open rest conn) = conn.turn
 turn_of (Service.Closed cause) = HostTurn
 
--- the model of the terminal, once it has asked for its type
+-- the terminal's model, once it has asked for a device type
 abbrev pub model_of : Service → Option Model
 model_of Service.Free = None
 model_of (Service.Open rest conn) = model_asked conn.talk.state
 model_of (Service.Closed cause) = None
 
--- the number of the command that isn't answered yet
+-- the sequence number of the command that waits for its answer
 abbrev pub pending_of : Service → Option ℕ
 pending_of Service.Free = None
 pending_of (Service.Open rest conn) = number_of conn.pending
 pending_of (Service.Closed cause) = None
 
+-- what is believed of the screen; nothing if the number isn't open
 abbrev pub shadow_of : Service → Shadow
 shadow_of Service.Free = Shadow.NothingKnown
 shadow_of (Service.Open rest conn) = conn.shadow
@@ -103,37 +112,41 @@ connection_at number host = slice_index_or host.connections number unused
 abbrev pub service_at : ℕ → Host → Service
 service_at number host = (connection_at number host).service
 
--- the host with another line at a number
+-- the host with another state of one connection number
 abbrev pub with_connection : ℕ → Connection → Host → Host
 with_connection number connection host = record host { connections = slice_set host.connections number connection }
 
 abbrev pub reports_at : ℕ → Host → Reports
 reports_at number host = (connection_at number host).reports
 
--- the host with something else to report of a connection
+-- the host with other unreported events of one connection number
 abbrev pub with_reports : ℕ → Reports → Host → Host
-with_reports number reports host = with_connection number (record (connection_at number host) { reports = reports }) host
+with_reports number reports host =
+    with_connection number (record (connection_at number host) { reports = reports }) host
 
 -- ---- sessions
 
--- a connection number is opened for the next session; the count has 64 bits
+-- the count after a connection number is opened for the next session; it has 64 bits
 abbrev pub counted : ℕ → Sessions → Sessions
-counted number sessions = record { latest = slice_set sessions.latest number sessions.next; next = (sessions.next + 1) % 2 ^ 64 }
+counted number sessions =
+    record { latest = slice_set sessions.latest number sessions.next; next = (sessions.next + 1) % 2 ^ 64 }
 
+-- the session that a connection number was last opened for
 abbrev pub session_at : ℕ → Host → ℕ
 session_at number host = slice_index_or host.sessions.latest number 0
 
--- none is counted yet
+-- the count when no session is counted yet
 abbrev pub no_sessions : Sessions
 no_sessions = record { latest = replicate most_connections 0; next = 0 }
 
 -- ---- the host, as calls leave it
 
--- a connection begins, with the next session
+-- the host after a connection is opened, with the next session
 abbrev pub with_opened : ℕ → Host → Host
-with_opened number host = record (with_connection number (opened host.terminals host.panels) host) { sessions = counted number host.sessions }
+with_opened number host =
+    record (with_connection number (opened host.terminals host.panels) host) { sessions = counted number host.sessions }
 
--- as it begins: each LU is free, and so is each number
+-- a host at its beginning: each LU is free, and so is each connection number
 abbrev pub host_for : Terminals → Panels → List Entry → Host
 host_for terminals panels pool = record {
   panels = panels;
@@ -143,14 +156,14 @@ host_for terminals panels pool = record {
   terminals = terminals;
 }
 
--- the same, for terminals that wait
+-- a host for terminals that wait
 abbrev pub new_host : Panels → List Entry → Host
 new_host panels pool = host_for Waiting panels pool
 
--- as it is when it starts again: sessions are counted on, so that no answer to a question from before is taken
+-- the host when it starts again: the count of sessions goes on, so that no answer to an earlier question is taken
 abbrev pub restarted : Host → Host
 restarted host = record (host_for host.terminals host.panels host.pool) { sessions = host.sessions }
 
--- a connection is given up: its number is free, and so is its LU
+-- the host after a connection is given up: its number is free, and so is its LU
 abbrev pub given_up : ℕ → Host → Host
 given_up number host = with_connection number unused (record host { pool = given_back number host.pool })

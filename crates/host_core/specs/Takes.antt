@@ -1,5 +1,6 @@
--- What a host makes of what a terminal sends: the connection after it, what it says, the LU that it grants, the request that it
--- rejects, the key that it drops, and the cause by which it closes the connection, if it does (RFC 1647, sections 7, 8.1 and 10.4; turns, beliefs and causes are our profile).
+-- How a host takes what a terminal sends: the connection after it, what the host sends, the LU that it grants, the
+-- request that it rejects, the key that it drops, the rule that it finds broken, and the cause if it closes the
+-- connection (RFC 1647, sections 7, 8.1 and 10.4; turns, beliefs and causes are our profile).
 use Rattle.std.specs.Prelude.{◌==◌, ◌&&◌, ℕ, Bool, true, false, List, [], map, Option, Some, None, Result, Ok, Err, unwrap_or, if◌then◌else◌}
 use Rattle.codes3270.specs.declared.attention.Aid.{Aid}
 use Rattle.codes3270.specs.declared.attention.Aid.TheVariants.{NoAid, Enter, Clear, Pf, Pa}
@@ -37,10 +38,11 @@ use Rattle.host_core.specs.declared.turn_reason.TurnReason.{TurnReason}
 use Rattle.host_core.specs.declared.turn_reason.TurnReason.TheVariants as turn_reasons
 use Rattle.host_core.specs.declared.unheard.Unheard.{Unheard}
 use Rattle.host_core.specs.declared.unheard.Unheard.TheVariants as unheards
-use Rattle.host_core.specs.Session.{Conn, Pending, is_agreed}
+use Rattle.host_core.specs.Session.{Session, Pending, is_agreed}
 
+-- what the host does about a message, and the connection after it
 pub record HostStep : Type 0 where
-  pub conn : Conn
+  pub conn : Session
   pub sends : List ToTerminal
   pub grants : Option (List ℕ)
   pub rejects : Option Rejection
@@ -48,27 +50,47 @@ pub record HostStep : Type 0 where
   pub breaks : Option RuleBreak
   pub closes : Option Cause
 
--- it sends nothing
-abbrev pub quiet : Conn → HostStep
-quiet conn = record { conn = conn; sends = []; grants = None; rejects = None; drops = None; breaks = None; closes = None }
+-- a step that only changes the connection
+abbrev pub quiet : Session → HostStep
+quiet conn =
+    record { conn = conn; sends = []; grants = None; rejects = None; drops = None; breaks = None; closes = None }
 
-abbrev pub closed_by : Cause → Conn → HostStep
-closed_by cause conn = record { conn = conn; sends = []; grants = None; rejects = None; drops = None; breaks = None; closes = Some cause }
+-- the connection closes for this cause
+abbrev pub closed_by : Cause → Session → HostStep
+closed_by cause conn =
+    record { conn = conn; sends = []; grants = None; rejects = None; drops = None; breaks = None; closes = Some cause }
 
-abbrev pub dropping : Aid → Conn → HostStep
-dropping aid conn = record { conn = conn; sends = []; grants = None; rejects = None; drops = Some (record { aid = aid }); breaks = None; closes = None }
+-- the data of this key is dropped
+abbrev pub dropping : Aid → Session → HostStep
+dropping aid conn = record {
+  conn = conn;
+  sends = [];
+  grants = None;
+  rejects = None;
+  drops = Some (record { aid = aid });
+  breaks = None;
+  closes = None;
+}
 
--- the terminal broke a rule
-abbrev pub breaking : RuleBreak → Conn → HostStep
-breaking broken conn = record { conn = conn; sends = []; grants = None; rejects = None; drops = None; breaks = Some broken; closes = Some RuleBroken }
+-- the terminal broke this rule, so the connection closes
+abbrev pub breaking : RuleBreak → Session → HostStep
+breaking broken conn = record {
+  conn = conn;
+  sends = [];
+  grants = None;
+  rejects = None;
+  drops = None;
+  breaks = Some broken;
+  closes = Some RuleBroken;
+}
 
 -- ---- the talk
 
-abbrev pub with_talk : Conn → Talk HostState → Conn
+abbrev pub with_talk : Session → Talk HostState → Session
 with_talk conn talk = record conn { talk = talk }
 
--- the talk replied to what asks for this LU, if it asks for one
-abbrev pub replied : Conn → Option (List ℕ) → Option (List ℕ) → Talk HostState × Reply → HostStep
+-- the negotiation's reply to a message that asks for this LU, if it asks for one
+abbrev pub replied : Session → Option (List ℕ) → Option (List ℕ) → Talk HostState × Reply → HostStep
 replied conn lu grants talked = record {
   conn = with_talk conn talked.0;
   sends = map ToTerminal.TalksDown (sayings talked.1);
@@ -79,7 +101,7 @@ replied conn lu grants talked = record {
   closes = closing talked.1;
 }
 
--- what a pool answers who asks it for an LU: by its name, or for any
+-- what a pool answers to a request for an LU, by its name, or for any
 abbrev pub Answers : Type 0
 Answers = Option (List ℕ) → Result (List ℕ) Reason
 
@@ -87,39 +109,49 @@ abbrev pub granted_by : Result (List ℕ) Reason → Option (List ℕ)
 granted_by (Ok lu) = Some lu
 granted_by (Err reason) = None
 
--- the talk asks the pool, and goes on with its answer
-abbrev pub asked : Conn → Option (List ℕ) → Talk HostState → Result (List ℕ) Reason → HostState → HostStep
-asked conn lu talk answer (Asking device) = replied conn lu (granted_by answer) (follow Closed talk (answer_transition device answer))
+-- the negotiation asks the pool, and goes on with its answer
+abbrev pub asked : Session → Option (List ℕ) → Talk HostState → Result (List ℕ) Reason → HostState → HostStep
+asked conn lu talk answer (Asking device) =
+    replied conn lu (granted_by answer) (follow Closed talk (answer_transition device answer))
 asked conn lu talk answer _ = quiet conn
 
-abbrev pub talked_on : Answers → Conn → Option (List ℕ) → Talk HostState → Reply → HostStep
+-- the negotiation's reply, after it has asked the pool if it has to
+abbrev pub talked_on : Answers → Session → Option (List ℕ) → Talk HostState → Reply → HostStep
 talked_on pool conn lu talk (reply.AskPool name) = asked conn lu talk (pool name) talk.state
 talked_on pool conn lu talk reply = replied conn lu None (talk, reply)
 
--- something comes to the talk, as its table names it
-abbrev pub talked : Answers → Conn → Talk HostState → Comes → HostStep
-talked pool conn talk comes = let next = follow Closed talk (host_transition talk.state comes) in talked_on pool conn (lu_asked comes) next.0 next.1
+-- the negotiation takes a message
+abbrev pub talked : Answers → Session → Talk HostState → Comes → HostStep
+talked pool conn talk comes = let next = follow Closed talk (host_transition talk.state comes) in
+    talked_on pool conn (lu_asked comes) next.0 next.1
 
 -- ---- data
 
--- what the host believes once it hears this, of a screen of the connection's shape
-abbrev pub hears : InboundParts → Conn → Result Shadow HeardFault
-hears parts conn = heard (cells_in conn.shape) conn.shadow parts
+-- what the host believes after this data, of a screen of the connection's size
+abbrev pub hears : InboundParts → Session → Result Shadow HeardFault
+hears parts conn = heard (cells_in conn.size) conn.shadow parts
 
--- Data doesn't say its own form: the host reads it as the whole screen while a read is pending, else as modified fields.
+-- Data doesn't say its form: it is read as the whole screen while a read is pending, else as modified fields.
 abbrev pub form_awaited : Pending → Form
 form_awaited (Pending.Reading number) = Buffer
 form_awaited (Pending.Writing number command) = Modified
 form_awaited (Pending.Noting number command) = Modified
 form_awaited Pending.Nothing = Modified
 
--- what was heard is believed, and the turn is the host's; what still waits for an answer then, and where the cursor is, if the data says it
-abbrev pub believed : TurnReason → Pending → Option ℕ → Conn → Result Shadow HeardFault → HostStep
+-- The data is believed, and the turn is the host's for this reason. `pending` is the command that still waits for its
+-- answer; the cursor moves if the data gives its address.
+abbrev pub believed : TurnReason → Pending → Option ℕ → Session → Result Shadow HeardFault → HostStep
 believed turn_reason pending cursor conn (Ok shadow) =
-    quiet (record conn { shadow = shadow; turn = whose.Host; pending = pending; turn_reason = turn_reason; cursor = unwrap_or cursor conn.cursor })
+    quiet (record conn {
+      shadow = shadow;
+      turn = whose.Host;
+      pending = pending;
+      turn_reason = turn_reason;
+      cursor = unwrap_or cursor conn.cursor;
+    })
 believed turn_reason pending cursor conn (Err fault) = closed_by BadInbound conn
 
--- the key that was pressed last, and its screen was read
+-- the reason for the turn after a Read Buffer is answered: the last key's screen was read
 abbrev pub once_read : TurnReason → TurnReason
 once_read (turn_reasons.Key aid buffered) = turn_reasons.Key aid true
 once_read turn_reasons.Agreement = turn_reasons.Agreement
@@ -131,9 +163,9 @@ may_have_changed unheards.Nothing = false
 may_have_changed unheards.Input = true
 may_have_changed unheards.Clear = true
 
--- A key that was pressed before the last one was answered. It is dropped, since what is shown next is right all the same. Clear leaves
--- nothing to believe of the screen: that is too late for a command that is on its way.
-abbrev pub second_key : Aid → Pending → Conn → HostStep
+-- A second key: one pressed before the last one was answered. It is dropped, since what is shown next is right all the
+-- same. After Clear nothing may be believed of the screen, which is too late for a command that waits for its answer.
+abbrev pub second_key : Aid → Pending → Session → HostStep
 second_key NoAid pending conn = closed_by BadInbound conn
 second_key Enter pending conn = dropping Enter conn
 second_key Clear Pending.Nothing conn = dropping Clear (record conn { unheard = unheards.Clear })
@@ -143,59 +175,65 @@ second_key Clear (Pending.Noting number command) conn = closed_by BadInbound con
 second_key (Pf key) pending conn = dropping (Pf key) conn
 second_key (Pa key) pending conn = dropping (Pa key) conn
 
-abbrev pub second_key_data : InboundParts → Form → Conn → HostStep
+-- data out of turn: a second key's if it has the form of modified fields, else it closes the connection
+abbrev pub second_key_data : InboundParts → Form → Session → HostStep
 second_key_data parts Modified conn = second_key parts.aid conn.pending conn
 second_key_data parts AllModified conn = closed_by BadInbound conn
 second_key_data parts Buffer conn = closed_by BadInbound conn
 
--- Data that comes out of turn. A host that relies on the wait closes.
-abbrev pub out_of_turn : InboundParts → Conn → HostStep
-out_of_turn parts conn = if may_have_changed conn.unheard then second_key_data parts parts.form conn else closed_by BadInbound conn
+-- Data is received out of turn. A host that relies on the wait closes the connection.
+abbrev pub out_of_turn : InboundParts → Session → HostStep
+out_of_turn parts conn = if may_have_changed conn.unheard then second_key_data parts parts.form conn
+    else closed_by BadInbound conn
 
--- the screen wasn't cleared since the host heard of it
+-- the screen wasn't cleared out of turn
 abbrev pub may_be_read : Unheard → Bool
 may_be_read unheards.Nothing = true
 may_be_read unheards.Input = true
 may_be_read unheards.Clear = false
 
--- the host verifies that the terminal keeps the rules
-abbrev pub is_verified : Conn → Bool
+-- the host verifies that the terminal keeps the rules, and the screen wasn't cleared out of turn
+abbrev pub is_verified : Session → Bool
 is_verified conn = conn.verifies && may_be_read conn.unheard
 
--- the rule that this screen shows to be broken, if the host verifies that
-abbrev pub rule_broken_by : InboundParts → Conn → Option RuleBreak
+-- the rule that the answer to Read Buffer shows to be broken, if the host verifies that
+abbrev pub rule_broken_by : InboundParts → Session → Option RuleBreak
 rule_broken_by parts conn = if is_verified conn then rule_break conn.shadow (cells_sent parts.parts) else None
 
-abbrev pub unless_broken : Conn → Option RuleBreak → HostStep → HostStep
+-- the given step, unless a rule is broken
+abbrev pub unless_broken : Session → Option RuleBreak → HostStep → HostStep
 unless_broken conn None step = step
 unless_broken conn (Some broken) step = breaking broken conn
 
 -- the answer to Read Buffer is believed
-abbrev pub buffer_heard : InboundParts → Conn → HostStep
+abbrev pub buffer_heard : InboundParts → Session → HostStep
 buffer_heard parts conn = believed (once_read conn.turn_reason) Pending.Nothing parts.cursor conn (hears parts conn)
 
 -- the answer to Read Buffer, or a key that was pressed before it was read
-abbrev pub buffer_came : InboundParts → Form → Conn → HostStep
+abbrev pub buffer_came : InboundParts → Form → Session → HostStep
 buffer_came parts Buffer conn = unless_broken conn (rule_broken_by parts conn) (buffer_heard parts conn)
 buffer_came parts Modified conn = out_of_turn parts conn
 buffer_came parts AllModified conn = out_of_turn parts conn
 
--- a key was pressed; a note that isn't answered yet still waits
-abbrev pub key_came : InboundParts → Aid → Conn → HostStep
+-- a key's data in the terminal's turn; a note still waits for its answer
+abbrev pub key_came : InboundParts → Aid → Session → HostStep
 key_came parts NoAid conn = closed_by BadInbound conn
 key_came parts Enter conn = believed (turn_reasons.Key Enter false) conn.pending parts.cursor conn (hears parts conn)
 key_came parts Clear conn = believed (turn_reasons.Key Clear false) conn.pending parts.cursor conn (hears parts conn)
-key_came parts (Pf key) conn = believed (turn_reasons.Key (Pf key) false) conn.pending parts.cursor conn (hears parts conn)
-key_came parts (Pa key) conn = believed (turn_reasons.Key (Pa key) false) conn.pending parts.cursor conn (hears parts conn)
+key_came parts (Pf key) conn = believed (turn_reasons.Key (Pf key) false) conn.pending parts.cursor conn
+    (hears parts conn)
+key_came parts (Pa key) conn = believed (turn_reasons.Key (Pa key) false) conn.pending parts.cursor conn
+    (hears parts conn)
 
-abbrev pub key_data_came : InboundParts → Form → Conn → HostStep
+-- data in the terminal's turn: a key's if it has the form of modified fields, else it closes the connection
+abbrev pub key_data_came : InboundParts → Form → Session → HostStep
 key_data_came parts Modified conn = key_came parts parts.aid conn
 key_data_came parts AllModified conn = closed_by BadInbound conn
 key_data_came parts Buffer conn = closed_by BadInbound conn
 
--- While a read is pending, data in that form is its answer. Otherwise it is a key's, in the terminal's turn with nothing pending but a
--- note.
-abbrev pub data_came : InboundParts → Turn → Pending → Conn → HostStep
+-- Data is received in the awaited form. While a read is pending it answers the read. Else it is a key's in the
+-- terminal's turn, if no paint is pending; any other is out of turn.
+abbrev pub data_came : InboundParts → Turn → Pending → Session → HostStep
 data_came parts turn (Pending.Reading number) conn = buffer_came parts parts.form conn
 data_came parts turn (Pending.Writing number command) conn = out_of_turn parts conn
 data_came parts whose.Host Pending.Nothing conn = out_of_turn parts conn
@@ -205,58 +243,71 @@ data_came parts whose.Terminal (Pending.Noting number command) conn = key_data_c
 
 -- ---- responses
 
--- the command is answered: what it wrote is believed now, not when it was sent
-abbrev pub answered : CommandParts → Conn → Conn
-answered command conn = record conn { shadow = taken (cells_in conn.shape) command conn.shadow; pending = Pending.Nothing }
+-- the write is accepted: what it wrote is believed now, not when it was sent
+abbrev pub answered : CommandParts → Session → Session
+answered command conn =
+    record conn { shadow = taken (cells_in conn.size) command conn.shadow; pending = Pending.Nothing }
 
--- the command was refused: nothing is known any more
-abbrev pub refused : Conn → Conn
+-- the command is refused: nothing is known of the screen any more, and the turn is the host's
+abbrev pub refused : Session → Session
 refused conn =
-    record conn { shadow = Shadow.NothingKnown; turn = whose.Host; pending = Pending.Nothing; turn_reason = turn_reasons.Refusal }
+    record conn {
+      shadow = Shadow.NothingKnown;
+      turn = whose.Host;
+      pending = Pending.Nothing;
+      turn_reason = turn_reasons.Refusal;
+    }
 
--- after the refusal of an erase the host has nothing left to try
-abbrev pub write_refused : CommandParts → Conn → HostStep
+-- a write is refused; after an erase the host has nothing left to try
+abbrev pub write_refused : CommandParts → Session → HostStep
 write_refused command conn = if is_erase command.code then closed_by NegativeCause conn else quiet (refused conn)
 
-abbrev pub if_answers : Bool → HostStep → Conn → HostStep
+-- the given step; but a response to another command closes the connection
+abbrev pub if_answers : Bool → HostStep → Session → HostStep
 if_answers true step conn = step
 if_answers false step conn = closed_by BadResponse conn
 
--- a write was answered
-abbrev pub verdict_came : CommandParts → Verdict → Conn → HostStep
+-- the response to a write
+abbrev pub verdict_came : CommandParts → Verdict → Session → HostStep
 verdict_came command Verdict.Positive conn = quiet (answered command conn)
 verdict_came command Verdict.Negative conn = write_refused command conn
 
--- the response to a read can only refuse it
-abbrev pub read_verdict_came : Bool → Verdict → Conn → HostStep
+-- the response to a read, which can only refuse it
+abbrev pub read_verdict_came : Bool → Verdict → Session → HostStep
 read_verdict_came answers Verdict.Positive conn = closed_by BadResponse conn
 read_verdict_came answers Verdict.Negative conn = if_answers answers (quiet (refused conn)) conn
 
-abbrev pub response_came : ℕ → Verdict → Pending → Conn → HostStep
+-- a response is received, which must have the number of the pending command
+abbrev pub response_came : ℕ → Verdict → Pending → Session → HostStep
 response_came number verdict Pending.Nothing conn = closed_by BadResponse conn
-response_came number verdict (Pending.Writing pending command) conn = if_answers (number == pending) (verdict_came command verdict conn) conn
-response_came number verdict (Pending.Noting pending command) conn = if_answers (number == pending) (verdict_came command verdict conn) conn
+response_came number verdict (Pending.Writing pending command) conn =
+    if_answers (number == pending) (verdict_came command verdict conn) conn
+response_came number verdict (Pending.Noting pending command) conn =
+    if_answers (number == pending) (verdict_came command verdict conn) conn
 response_came number verdict (Pending.Reading pending) conn = read_verdict_came (number == pending) verdict conn
 
 -- ---- any message
 
 -- before agreement records are dropped
-abbrev pub once_agreed : Bool → HostStep → Conn → HostStep
+abbrev pub once_agreed : Bool → HostStep → Session → HostStep
 once_agreed true step conn = step
 once_agreed false step conn = quiet conn
 
-abbrev pub took : Answers → Conn → ToHost → HostStep
+-- a message is received
+abbrev pub took : Answers → Session → ToHost → HostStep
 took pool conn (ToHost.TalksUp saying) = talked pool conn conn.talk (says saying)
-took pool conn (ToHost.Data parts) = once_agreed (is_agreed conn.talk.state) (data_came parts conn.turn conn.pending conn) conn
-took pool conn (ToHost.Response number verdict) = once_agreed (is_agreed conn.talk.state) (response_came number verdict conn.pending conn) conn
+took pool conn (ToHost.Data parts) =
+    once_agreed (is_agreed conn.talk.state) (data_came parts conn.turn conn.pending conn) conn
+took pool conn (ToHost.Response number verdict) =
+    once_agreed (is_agreed conn.talk.state) (response_came number verdict conn.pending conn) conn
 
 -- ---- the pool
 
--- where a connection closes, its LU is free
+-- the pool after a connection closes, if it does: its LU is free
 abbrev pub freed_if : ℕ → Option Cause → List Entry → List Entry
 freed_if number None pool = pool
 freed_if number (Some cause) pool = given_back number pool
 
--- what a step of the connection with this number makes of the pool
+-- the pool after a step of the connection with this number
 abbrev pub pool_after : ℕ → HostStep → List Entry → List Entry
 pool_after number step pool = freed_if number step.closes (granted_if number step.grants pool)

@@ -1,59 +1,65 @@
-//! What a host decides in its turn, and does.
-ghost use Rattle.std.specs.Prelude.{◌≡◌, ◌≤◌, ◌<◌, ℕ, Bool, false, true, Some, OnOk, OnErr, length};
+//! The host's turn: what it decides, and how it acts on that.
+ghost use Rattle.std.specs.Prelude.{◌≡◌, ◌≤◌, ◌<◌, ℕ, Bool, false, true, Some, OnOk, OnErr, length, ◌≢◌, [], IfOk, is_some, not, ◌&&◌};
 ghost use Rattle.std.specs.List.{list_any};
 ghost use Rattle.std.specs.Vec.{vec_capacity};
 ghost use Rattle.codes3270.specs.Size.{cells_in};
 ghost use Rattle.codes3270.specs.declared.attention.Aid.TheVariants.{Clear};
 ghost use Rattle.panels.specs.Keys.{IsKey};
-ghost use Rattle.panels.specs.Panel.{Panels};
+ghost use Rattle.panels.specs.Panel.{Panels, HaveNumbersApart};
 ghost use Rattle.panels.specs.declared.message.Message.TheVariants.{Fresh};
 ghost use Rattle.panels.specs.declared.next.Next.TheVariants.{Go};
-ghost use Rattle.host_core.specs.Acts.{Act as Doing, Decision as Decided, acted, after_key, decision_in, decision_on, done, is_in_doubt as in_doubt, is_to_be_read, led, may_act, once_filled_in, repeated, target_or, unless_missing};
+ghost use Rattle.host_core.specs.Acts.{Act as ActValue, Decision as DecisionValue, acted, after_key, decision_in, decision_on, done, is_in_doubt as in_doubt, is_to_be_read, on_key, may_act, once_filled_in, repeated, target_or, check_required, learned};
 ghost use Rattle.shadow.specs.Belief.{IsOfSize};
 ghost use Rattle.host_core.specs.Application.{Application, application_of, panel_at};
 ghost use Rattle.host_core.specs.Choices.{CanBeDone, CanBeShown, act_of, decision_of, values_with};
-ghost use Rattle.host_core.specs.Does.{Grow};
-ghost use Rattle.host_core.specs.Keeps.{DoesOn};
+ghost use Rattle.host_core.specs.Does.{Grow, ValuesMayWantMemory};
+ghost use Rattle.host_core.specs.Representation.{DoesOn, AnswersOn};
 ghost use Rattle.host_core.specs.Learning.{HaveFields};
-ghost use Rattle.host_core.specs.Session.{Conn, is_agreed};
+ghost use Rattle.host_core.specs.Session.{Session as SessionValue, is_agreed};
 ghost use Rattle.host_core.specs.Sound.{IsShownOn};
 ghost use Rattle.host_core.specs.declared.acting.Decision.TheVariants.{Show};
+ghost use Rattle.panels.specs.Values.{value_of, without_fields};
+ghost use Rattle.shadow.specs.Storable.{CanBeStored};
+ghost use Rattle.host_core.specs.Questions.{HasTexts, act_by, answered_in, answered_on, has_its_panel, has_value_of, is_asking, key_of, named_fields, question_in, ticket_of, values_for};
 
 use crate::acted::Acted;
-use crate::learning::{first_missing, is_in_doubt, learn_all};
+use crate::asking::{has_its_panel, has_value_of, key_of, learn_without};
+use crate::learning::{first_missing, is_in_doubt, learn_all, texts_known};
 use crate::pending::Pending;
+use crate::question::{Answer, Question, Ticket, is_ticket};
 use crate::room::{COMMAND_ROOM, READ_BUFFER_ROOM};
 use crate::sending::panel_in;
 use crate::session::Session;
 use crate::turn::Turn;
 use crate::turn_reason::TurnReason;
 use codes3270::Aid;
-use panels::{Field, Message, Next, PanelSet};
+use panels::{Field, Message, Next, PanelSet, Values};
 use shadow::Shadow;
 use telnet_wire::Memory;
 
-/// What the host is to show: a panel, with a message, and whether fields keep what the operator left in them.
+/// What the host is to show: a panel, its message, and whether fields keep what the operator left in them.
 #[derive(Clone, Copy)]
 pub(crate) struct Shown {
+    /// The panel's number, 0-based.
     pub(crate) panel: usize,
     pub(crate) message: Message,
     pub(crate) keep: bool,
 }
 
-/// What the host decides.
+/// What the host decides in its turn.
 #[derive(Clone, Copy)]
 pub(crate) enum Decision {
     /// It does nothing: it isn't its turn, the session isn't agreed, or a command isn't answered yet.
     Nothing,
     /// It reads the whole screen.
     Read,
-    /// It asks the application, and does nothing until that has answered.
+    /// It asks the application, and does nothing until the application has answered.
     Ask,
     /// It shows a panel. With `learn`, the texts that are known become the values of their fields first.
     Show { shown: Shown, learn: bool },
 }
 
-/// Whether some field is in doubt.
+/// Whether the text of some of these fields isn't known.
 fn is_some_in_doubt(shadow: &Shadow, fields: &[Field]) -> bool
     requires { HaveFields shadow.now fields.now }
     ensures { result ≡ list_any (in_doubt shadow.now) fields.now }
@@ -66,7 +72,7 @@ fn is_some_in_doubt(shadow: &Shadow, fields: &[Field]) -> bool
     false
 }
 
-/// A message again, after a refusal.
+/// The message that a panel is shown again with after a refusal: a fresh panel's becomes plain.
 fn repeated(message: Message) -> Message
     ensures { result ≡ repeated message }
 {
@@ -78,12 +84,13 @@ fn repeated(message: Message) -> Message
     }
 }
 
-/// A panel is shown fresh.
+/// The decision to show a panel fresh: no field keeps what the operator left in it.
 fn fresh(panel: usize, learn: bool) -> Decision
-    ensures decision { (app : Application) (conn : Conn) →
-        decision_of app conn result ≡ Some (Decided.Do (Doing.Show panel Fresh false (values_with app conn learn))) }
-    ensures can_be_done { (panels : Panels) (conn : Conn) → panel < length panels.panels →
-        IsOfSize (cells_in conn.shape) conn.shadow → CanBeDone panels conn result }
+    ensures decision { (app : Application) (conn : SessionValue) →
+        decision_of app conn result
+        ≡ Some (DecisionValue.Do (ActValue.Show panel Fresh false (values_with app conn learn))) }
+    ensures can_be_done { (panels : Panels) (conn : SessionValue) → panel < length panels.panels →
+        IsOfSize (cells_in conn.size) conn.shadow → CanBeDone panels conn result }
 {
     Decision::Show {
         shown: Shown {
@@ -95,7 +102,7 @@ fn fresh(panel: usize, learn: bool) -> Decision
     }
 }
 
-/// Law: an identifier is a key's, or none's.
+/// Law: the number of a PF or PA key is in range.
 fn aid_is_real(aid: &Aid)
     ensures { IsKey aid.now }
 {
@@ -112,7 +119,7 @@ fn aid_is_real(aid: &Aid)
     }
 }
 
-/// Where a key leads.
+/// Where a key leads from a panel.
 fn next_of(panels: &PanelSet, panel: usize, aid: &Aid) -> Next
     requires { panel < length panels.now.panels }
     ensures next { result ≡ (application_of panels.now).next panel aid.now }
@@ -123,8 +130,8 @@ fn next_of(panels: &PanelSet, panel: usize, aid: &Aid) -> Next
 }
 
 impl Session {
-    /// Whether the screen is to be read before a key is answered: after PA, if some field of the panel is in doubt, or if the host
-    /// verifies that the terminal keeps the rules.
+    /// Whether the screen must be read before a key is answered: after PA, if some field of the panel is in doubt, or
+    /// if the host verifies that the terminal keeps the rules.
     fn is_to_be_read(&self, panels: &PanelSet, aid: &Aid) -> bool
         requires panel { self.now.panel < length panels.now.panels }
         requires fields { HaveFields self.now.shadow (panel_at panels.now self.now.panel).fields }
@@ -139,14 +146,14 @@ impl Session {
         }
     }
 
-    /// The first required field that is missing, after Enter.
+    /// The number of the first required field that isn't filled in, if the key is Enter.
     fn missing_after(&self, panels: &PanelSet, aid: &Aid) -> Option<usize>
         requires panel { self.now.panel < length panels.now.panels }
         requires fields { HaveFields self.now.shadow (panel_at panels.now self.now.panel).fields }
-        ensures { (decision : Decided) →
+        ensures { (decision : DecisionValue) →
             once_filled_in (application_of panels.now) self.now decision
             (values_with (application_of panels.now) self.now true) aid.now
-            ≡ unless_missing self.now.panel decision (values_with (application_of panels.now) self.now true) result }
+            ≡ check_required self.now.panel decision (values_with (application_of panels.now) self.now true) result }
     {
         panels.panels_are_sound();
         match aid {
@@ -158,7 +165,7 @@ impl Session {
         }
     }
 
-    /// The panel is shown again, with what the operator left in its fields.
+    /// The decision to show the same panel again, with this message and what the operator left in its fields.
     fn again(&self, message: Message) -> Decision
         ensures { result ≡ Show (record { panel = self.now.panel; message = message; keep = true }) true }
     {
@@ -172,12 +179,12 @@ impl Session {
         }
     }
 
-    /// After Enter, while a required field is missing, the panel is shown again in place of what was decided.
+    /// The given decision; but after Enter, if a required field isn't filled in, the same panel again.
     fn once_filled_in(&self, panels: &PanelSet, aid: &Aid, decision: Decision) -> Decision
         requires panel { IsShownOn panels.now self.now }
-        requires known { IsOfSize (cells_in self.now.shape) self.now.shadow }
+        requires known { IsOfSize (cells_in self.now.size) self.now.shadow }
         requires can_be_done { CanBeDone panels.now self.now decision }
-        ensures decision { (decided : Decided) →
+        ensures decision { (decided : DecisionValue) →
             decision_of (application_of panels.now) self.now decision ≡ Some decided →
             decision_of (application_of panels.now) self.now result
             ≡ Some (once_filled_in (application_of panels.now) self.now decided
@@ -191,13 +198,13 @@ impl Session {
         }
     }
 
-    /// Where a key leads. A key that leads nowhere isn't active.
-    fn led(&self, panels: &PanelSet, aid: &Aid, next: Next) -> Decision
+    /// The decision for a key that leads to `next`. A key that leads nowhere isn't active.
+    fn on_key(&self, panels: &PanelSet, aid: &Aid, next: Next) -> Decision
         requires panel { IsShownOn panels.now self.now }
-        requires known { IsOfSize (cells_in self.now.shape) self.now.shadow }
+        requires known { IsOfSize (cells_in self.now.size) self.now.shadow }
         requires target { (target : ℕ) → next ≡ Go target → target < length panels.now.panels }
         ensures decision { decision_of (application_of panels.now) self.now result
-            ≡ Some (led (application_of panels.now) self.now
+            ≡ Some (on_key (application_of panels.now) self.now
             (values_with (application_of panels.now) self.now true) aid.now next) }
         ensures can_be_done { CanBeDone panels.now self.now result }
     {
@@ -208,12 +215,12 @@ impl Session {
         }
     }
 
-    /// After Clear: the target of that key is shown, else the same panel.
+    /// The decision after Clear: the target of that key is shown, else the same panel.
     fn after_clear(&self, panels: &PanelSet) -> Decision
         requires panel { IsShownOn panels.now self.now }
-        requires known { IsOfSize (cells_in self.now.shape) self.now.shadow }
+        requires known { IsOfSize (cells_in self.now.size) self.now.shadow }
         ensures decision { decision_of (application_of panels.now) self.now result
-            ≡ Some (Decided.Do (Doing.Show
+            ≡ Some (DecisionValue.Do (ActValue.Show
             (target_or self.now.panel ((application_of panels.now).next self.now.panel Clear))
             Fresh false self.now.values)) }
         ensures can_be_done { CanBeDone panels.now self.now result }
@@ -224,10 +231,10 @@ impl Session {
         }
     }
 
-    /// After a key.
+    /// The decision after a key; `buffered` says whether the screen was read since.
     fn after_key(&self, panels: &PanelSet, aid: &Aid, buffered: bool) -> Decision
         requires panel { IsShownOn panels.now self.now }
-        requires known { IsOfSize (cells_in self.now.shape) self.now.shadow }
+        requires known { IsOfSize (cells_in self.now.size) self.now.shadow }
         ensures decision { decision_of (application_of panels.now) self.now result
             ≡ Some (after_key (application_of panels.now) self.now aid.now buffered) }
         ensures can_be_done { CanBeDone panels.now self.now result }
@@ -239,15 +246,15 @@ impl Session {
                 if self.is_to_be_read(panels, aid) && !buffered {
                     return Decision::Read;
                 }
-                self.led(panels, aid, next_of(panels, self.panel, aid))
+                self.on_key(panels, aid, next_of(panels, self.panel, aid))
             }
         }
     }
 
-    /// What is decided in its turn: at agreement the first panel is shown, after a refusal the same panel, whole.
+    /// The decision in the host's turn: after agreement the first panel, after a refusal the same panel, whole.
     fn decide_in_turn(&self, panels: &PanelSet) -> Decision
         requires panel { IsShownOn panels.now self.now }
-        requires known { IsOfSize (cells_in self.now.shape) self.now.shadow }
+        requires known { IsOfSize (cells_in self.now.size) self.now.shadow }
         ensures decision { decision_of (application_of panels.now) self.now result
             ≡ Some (decision_on (application_of panels.now) self.now self.now.turn_reason) }
         ensures can_be_done { CanBeDone panels.now self.now result }
@@ -266,7 +273,7 @@ impl Session {
         }
     }
 
-    /// What the host decides now.
+    /// The host's decision now: Nothing unless it may act.
     pub(crate) fn decide(&self, panels: &PanelSet) -> Decision
         requires { IsShownOn panels.now self.now }
         ensures decision { decision_of (application_of panels.now) self.now result
@@ -279,8 +286,7 @@ impl Session {
         self.decide_in_turn(panels)
     }
 
-    /// Sets the texts that are known as values of their fields, before a panel is shown, if that was decided. Memory is
-    /// needed only if a value has to grow.
+    /// If `learn` is set, sets the known texts of fields as their values. Only values that grow need memory.
     fn learn(&mut self, panels: &PanelSet, learn: bool) -> Result<(), Memory>
         requires panel { self.old.panel < length panels.now.panels }
         requires fields { HaveFields self.old.shadow (panel_at panels.now self.old.panel).fields }
@@ -297,18 +303,18 @@ impl Session {
         learn_all(&mut self.values, &self.shadow, fields)
     }
 
-    /// Whether both ends agreed.
+    /// Whether both ends agreed on a session.
     pub(crate) fn agreed(&self) -> bool
         ensures { result ≡ is_agreed self.now.talk.state }
     {
         self.talk.is_agreed()
     }
 
-    /// Whether it may act: in its turn, once the session is agreed and its last command answered.
+    /// Whether the host may act: it is its turn, the ends agreed, and no command waits for its answer.
     fn may_act(&self) -> bool
         ensures may { result ≡ may_act self.now.turn self.now.pending (is_agreed self.now.talk.state) }
-        // Nothing waits for its answer then, so that what is believed has the size of the screen.
-        ensures known { result ≡ true → IsOfSize (cells_in self.now.shape) self.now.shadow }
+        // No command waits for its answer then, so the belief has the size of the screen.
+        ensures known { result ≡ true → IsOfSize (cells_in self.now.size) self.now.shadow }
     {
         match self.turn {
             Turn::Terminal => false,
@@ -319,22 +325,22 @@ impl Session {
         }
     }
 
-    /// Law: the screen of which something is known has the cells of the attributes of the panel's fields, since it has the panel's
-    /// size.
+    /// Law: the believed screen has the attribute cells of the panel's fields, since it has the panel's size.
     pub(crate) fn fields_are_believed(&self, panels: &PanelSet)
         requires panel { IsShownOn panels.now self.now }
-        requires known { IsOfSize (cells_in self.now.shape) self.now.shadow }
+        requires known { IsOfSize (cells_in self.now.size) self.now.shadow }
         ensures { HaveFields self.now.shadow (panel_at panels.now self.now.panel).fields }
     {
         panels.panels_are_sound();
     }
 
-    /// Reads the whole screen, if there is room for the command.
+    /// Sends Read Buffer, if there is room for it.
     fn read_in_turn(&mut self, out: &mut Vec<u8>) -> Acted
-        requires known { IsOfSize (cells_in self.old.shape) self.old.shadow }
-        ensures acted { (app : Application) → DoesOn (Some (done app self.old Doing.Read)) self.old out.old result self.new out.new }
+        requires known { IsOfSize (cells_in self.old.size) self.old.shadow }
+        ensures acted { (app : Application)
+            → DoesOn (Some (done app self.old ActValue.Read)) self.old out.old result self.new out.new }
         ensures panel { self.new.panel ≡ self.old.panel }
-        ensures shape { self.new.shape ≡ self.old.shape }
+        ensures size { self.new.size ≡ self.old.size }
         ensures capacity { vec_capacity out.old ≤ vec_capacity out.new }
     {
         if out.reserve(READ_BUFFER_ROOM).is_err() {
@@ -344,7 +350,7 @@ impl Session {
         Acted::Sent
     }
 
-    /// Shows a panel, if there is room for the command and for the values of fields.
+    /// Shows a panel, after learning if `learn` is set. The command and values that grow may need memory.
     fn show_in_turn(
         &mut self,
         panels: &PanelSet,
@@ -353,7 +359,7 @@ impl Session {
         out: &mut Vec<u8>,
     ) -> Acted
         requires panel { IsShownOn panels.now self.old }
-        requires known { IsOfSize (cells_in self.old.shape) self.old.shadow }
+        requires known { IsOfSize (cells_in self.old.size) self.old.shadow }
         requires shows { CanBeShown (length panels.now.panels) shown }
         ensures acted { DoesOn (Some (done (application_of panels.now) self.old
             (act_of (values_with (application_of panels.now) self.old learn) shown)))
@@ -372,8 +378,8 @@ impl Session {
         Acted::Sent
     }
 
-    /// Sends what there is to do in its turn. Nothing has changed if memory is refused, which is asked for if the value of some
-    /// field has to grow, or if the command may not fit into the room that is there.
+    /// Acts on what is decided now. Memory is needed only if the value of some field has to grow, or if the command
+    /// may not fit into the output's room; if it is refused, nothing has changed.
     pub(crate) fn act(&mut self, panels: &PanelSet, out: &mut Vec<u8>) -> Acted
         requires panel { IsShownOn panels.now self.old }
         ensures acted { DoesOn (acted (application_of panels.now) self.old) self.old out.old result self.new out.new }
@@ -385,5 +391,204 @@ impl Session {
             Decision::Read => self.read_in_turn(out),
             Decision::Show { shown, learn } => self.show_in_turn(panels, shown, learn, out),
         }
+    }
+
+    /// Whether a question is open.
+    fn is_asking(&self, panels: &PanelSet) -> bool
+        requires { IsShownOn panels.now self.now }
+        ensures asking { result ≡ is_asking (application_of panels.now) self.now }
+        ensures fields { result ≡ true → HaveFields self.now.shadow (panel_at panels.now self.now.panel).fields }
+    {
+        match self.decide(panels) {
+            Decision::Ask => {
+                self.fields_are_believed(panels);
+                true
+            }
+            Decision::Nothing | Decision::Read | Decision::Show { .. } => false,
+        }
+    }
+
+    /// The known texts of the panel's fields. Memory is needed only if there is one.
+    fn texts(&self, panels: &PanelSet) -> Result<Values, Memory>
+        requires panel { self.now.panel < length panels.now.panels }
+        requires fields { HaveFields self.now.shadow (panel_at panels.now self.now.panel).fields }
+        ensures texts { IfOk result
+            (λ texts. texts ≡ learned self.now.shadow (panel_at panels.now self.now.panel).fields []) }
+        ensures memory { OnErr result (learned self.now.shadow (panel_at panels.now self.now.panel).fields [] ≢ []) }
+    {
+        panels.panels_are_sound();
+        let fields = panel_in(panels, self.panel).fields();
+        texts_known(*self.sent.allocator(), &self.shadow, fields)
+    }
+
+    /// The question that is open, if one is. Memory is needed only for its texts.
+    pub(crate) fn question(
+        &self,
+        panels: &PanelSet,
+        session: u64,
+    ) -> Result<Option<Question>, Memory>
+        requires { IsShownOn panels.now self.now }
+        ensures question { IfOk result
+            (λ question. question ≡ question_in (application_of panels.now) session self.now) }
+        ensures memory { OnErr result (HasTexts (question_in (application_of panels.now) session self.now)) }
+    {
+        if !self.is_asking(panels) {
+            return Ok(None);
+        }
+        let Some(lu) = self.lu() else {
+            return Ok(None);
+        };
+        let values = self.texts(panels)?;
+        Ok(Some(Question {
+            ticket: self.ticket(session),
+            lu,
+            panel: self.panel,
+            aid: key_of(self.turn_reason),
+            cursor: self.cursor,
+            values,
+        }))
+    }
+
+    /// The ticket of a question that is open now.
+    fn ticket(&self, session: u64) -> Ticket
+        ensures { result ≡ ticket_of session self.now }
+    {
+        Ticket {
+            session,
+            turn: self.next_seq,
+        }
+    }
+
+    /// The fields of the panel that an answer names, in the form for the terminal's model; none if it names no panel.
+    fn named_fields<'a>(&self, panels: &'a PanelSet, answer: &Answer) -> &'a [Field]
+        requires { has_its_panel (application_of panels.now) answer.now ≡ true }
+        ensures { result.now ≡ named_fields (application_of panels.now) self.now answer.now.panel }
+    {
+        match answer.panel {
+            None => &[],
+            Some(panel) => panel_in(panels, panels.shown(panel, self.shown_model())).fields(),
+        }
+    }
+
+    /// A copy of the values of all fields, after the known texts and the answer's values are set.
+    fn values_for(&self, panels: &PanelSet, answer: &Answer) -> Result<Values, Memory>
+        requires panel { self.now.panel < length panels.now.panels }
+        requires fields { HaveFields self.now.shadow (panel_at panels.now self.now.panel).fields }
+        requires there { has_its_panel (application_of panels.now) answer.now ≡ true }
+        ensures { IfOk result
+            (λ values. values ≡ values_for (application_of panels.now) self.now answer.now answer.now.panel) }
+    {
+        panels.panels_are_sound();
+        let mut values = self.values.clone()?;
+        let fields = panel_in(panels, self.panel).fields();
+        let named = self.named_fields(panels, answer);
+        learn_without(&mut values, &self.shadow, fields, named)?;
+        values.set_all(&answer.values)?;
+        Ok(values)
+    }
+
+    /// Sets the known texts as values, for an answer without values. Memory is needed only if a value has to grow.
+    fn keep_known(&mut self, panels: &PanelSet, answer: &Answer) -> Result<(), Memory>
+        requires panel { self.old.panel < length panels.now.panels }
+        requires fields { HaveFields self.old.shadow (panel_at panels.now self.old.panel).fields }
+        requires there { has_its_panel (application_of panels.now) answer.now ≡ true }
+        requires none { answer.now.values ≡ [] }
+        ensures values { OnOk result (self.new ≡ record self.old {
+          values = values_for (application_of panels.now) self.old answer.now answer.now.panel;
+        }) }
+        ensures memory { OnErr result (Grow self.old.values
+            (learned self.old.shadow (panel_at panels.now self.old.panel).fields self.old.values)) }
+        ensures err { OnErr result (self.new ≡ self.old) }
+    {
+        panels.panels_are_sound();
+        let fields = panel_in(panels, self.panel).fields();
+        let named = self.named_fields(panels, answer);
+        learn_without(&mut self.values, &self.shadow, fields, named)
+    }
+
+    /// Sets the known texts and the answer's values as values of their fields. Memory is needed only if a value has
+    /// to grow, or if the answer has values; if it is refused, nothing changes.
+    fn set_values(&mut self, panels: &PanelSet, answer: &Answer) -> Result<(), Memory>
+        requires panel { self.old.panel < length panels.now.panels }
+        requires fields { HaveFields self.old.shadow (panel_at panels.now self.old.panel).fields }
+        requires there { has_its_panel (application_of panels.now) answer.now ≡ true }
+        ensures values { OnOk result (self.new ≡ record self.old {
+          values = values_for (application_of panels.now) self.old answer.now answer.now.panel;
+        }) }
+        ensures memory { OnErr result (ValuesMayWantMemory (application_of panels.now) answer.now self.old) }
+        ensures err { OnErr result (self.new ≡ self.old) }
+    {
+        if answer.values.is_empty() {
+            return self.keep_known(panels, answer);
+        }
+        self.values = self.values_for(panels, answer)?;
+        Ok(())
+    }
+
+    /// What an answer shows, after the values of fields are set.
+    fn shown_by(&self, panels: &PanelSet, answer: &Answer) -> Shown
+        requires panel { self.now.panel < length panels.now.panels }
+        requires there { has_its_panel (application_of panels.now) answer.now ≡ true }
+        ensures act { act_of (values_for (application_of panels.now) self.now answer.now answer.now.panel) result
+            ≡ act_by (application_of panels.now) self.now answer.now answer.now.panel }
+        ensures can_be_done { CanBeShown (length panels.now.panels) result }
+    {
+        let message = Message::Told(answer.message, answer.cursor);
+        match answer.panel {
+            None => Shown {
+                panel: self.panel,
+                message,
+                keep: !has_value_of(panel_in(panels, self.panel).fields(), &answer.values),
+            },
+            Some(panel) => Shown {
+                panel,
+                message,
+                keep: false,
+            },
+        }
+    }
+
+    /// Takes the answer to the open question, and shows what it says. Nothing if no question is open or the answer's
+    /// panel doesn't exist. It may need memory; if that is refused, nothing has changed.
+    fn answer(&mut self, panels: &PanelSet, answer: &Answer, out: &mut Vec<u8>) -> Acted
+        requires panel { IsShownOn panels.now self.old }
+        ensures answered { AnswersOn (application_of panels.now) answer.now
+            (answered_on (application_of panels.now) self.old answer.now) self.old out.old result self.new out.new }
+        ensures panel { IsShownOn panels.now self.new }
+        ensures capacity { vec_capacity out.old ≤ vec_capacity out.new }
+    {
+        if !self.is_asking(panels) || !has_its_panel(panels, answer) {
+            return Acted::Nothing;
+        }
+        if out.reserve(COMMAND_ROOM).is_err() {
+            return Acted::Memory;
+        }
+        let shown = self.shown_by(panels, answer);
+        if self.set_values(panels, answer).is_err() {
+            return Acted::Memory;
+        }
+        self.show(panels, shown, out);
+        Acted::Sent
+    }
+
+    /// Takes an answer, if its ticket is that of the open question.
+    pub(crate) fn answer_to(
+        &mut self,
+        panels: &PanelSet,
+        session: u64,
+        ticket: Ticket,
+        answer: &Answer,
+        out: &mut Vec<u8>,
+    ) -> Acted
+        requires panel { IsShownOn panels.now self.old }
+        ensures answered { AnswersOn (application_of panels.now) answer.now (answered_in (application_of panels.now)
+            session ticket answer.now self.old) self.old out.old result self.new out.new }
+        ensures panel { IsShownOn panels.now self.new }
+        ensures capacity { vec_capacity out.old ≤ vec_capacity out.new }
+    {
+        if !is_ticket(ticket, self.ticket(session)) {
+            return Acted::Nothing;
+        }
+        self.answer(panels, answer, out)
     }
 }

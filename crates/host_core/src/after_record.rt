@@ -1,28 +1,29 @@
-//! What comes of a record.
+//! What a record from the terminal leads to.
 ghost use Rattle.std.specs.Prelude.{◌≡◌};
-ghost use Rattle.host_core.specs.Keeps.{silent, step_of};
-ghost use Rattle.host_core.specs.Session.{Conn};
+ghost use Rattle.host_core.specs.Representation.{silent, step_of};
+ghost use Rattle.host_core.specs.Session.{Session as SessionValue};
 
 use codes3270::Aid;
 use shadow::RuleBreak;
 use tn3270e_msg::Cause;
 
-/// What comes of a record, beside what the session is then.
+/// What a record leads to, beside the session's new state.
 #[derive(Clone, Copy)]
 pub(crate) enum AfterRecord {
+    /// The session goes on.
     GoesOn,
-    /// It closes the connection.
+    /// The record closes the connection for this cause.
     Closes(Cause),
-    /// A key's data was dropped.
+    /// The data of a second key was dropped; this is its AID.
     Drops(Aid),
-    /// The terminal broke a rule, by which it closes the connection.
+    /// The screen in the record shows that the terminal broke this rule, so the connection closes.
     Breaks(RuleBreak),
 }
 
 impl AfterRecord {
-    /// What comes of a record that drops no key.
+    /// The effect of a record that drops no key and shows no broken rule.
     pub(crate) fn of(closes: Option<Cause>) -> AfterRecord
-        ensures { (conn : Conn) → step_of conn result ≡ silent conn closes }
+        ensures { (conn : SessionValue) → step_of conn result ≡ silent conn closes }
     {
         match closes {
             None => AfterRecord::GoesOn,

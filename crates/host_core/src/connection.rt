@@ -1,4 +1,4 @@
-//! A connection number, as the host keeps it.
+//! What the host keeps of a connection number.
 ghost use Rattle.std.specs.Prelude.{◌≡◌, ◌≤◌, ◌<◌, ◌∷◌, ◌++◌, [], ℕ, length, drop, None, IfOk, OnOk, OnErr};
 ghost use Rattle.std.specs.Vec.{vec_capacity};
 ghost use Rattle.telnet_wire.specs.Items.{sent_bytes};
@@ -7,7 +7,7 @@ ghost use Rattle.tn3270e_msg.specs.HostTable.{granted};
 ghost use Rattle.host_core.specs.Does.{Does, DoesAnswer, acted_by, noted_by};
 ghost use Rattle.host_core.specs.Feeds.{Feeds};
 ghost use Rattle.host_core.specs.KeepAlive.{kept_alive, kept_alive_answer, may_keep_alive, no_operation};
-ghost use Rattle.host_core.specs.Keeps.{IsRunning, IsLeft, OthersHold, counter_of, cause_of, claim, shown_by};
+ghost use Rattle.host_core.specs.Representation.{IsRunning, IsLeft, OthersHold, connection_and_pool_of, cause_of, claim, shown_by};
 ghost use Rattle.host_core.specs.Connections.{StaysShown, ShadowIf};
 ghost use Rattle.host_core.specs.Notes.{IsNoteText};
 ghost use Rattle.host_core.specs.Questions.{HasTexts, answered_by, question_of};
@@ -36,7 +36,7 @@ use std::marker::Model;
 use telnet_wire::{Decoder, Memory};
 use tn3270e_msg::{Cause, Fed, HostTalk, RECORD_LIMIT, Stop};
 
-/// What the host keeps of a connection that is open.
+/// What the host keeps of an open connection.
 #[derive(Drop)]
 pub(crate) struct HostEnd {
     pub(crate) decoder: Decoder,
@@ -44,29 +44,31 @@ pub(crate) struct HostEnd {
 }
 
 impl HostEnd {
-    /// Takes bytes that came, as the host does.
+    /// Takes received bytes, and answers how many it took and what stopped it.
     fn feed(
         &mut self,
         pool: &mut Pool,
-        number: usize,
+        conn: usize,
         out: &mut Vec<u8>,
         reports: &mut Reports,
         bytes: &[u8],
     ) -> Fed
         requires running { IsRunning self.old.decoder }
         requires room { out_room ≤ vec_capacity out.old }
-        requires holder { HoldsJust number pool.old (granted self.old.session.talk.state) }
-        ensures fed { Feeds number (counter_of pool.old self.old.decoder self.old.session None out.old reports.old) bytes.now result (counter_of pool.new self.new.decoder self.new.session (cause_of result.stop) out.new reports.new) }
-        ensures holds { HoldsJust number pool.new (claim (cause_of result.stop) self.new.session) }
-        ensures others { OthersHold number pool.old pool.new }
+        requires holder { HoldsJust conn pool.old (granted self.old.session.talk.state) }
+        ensures fed { Feeds conn (connection_and_pool_of pool.old self.old.decoder self.old.session None
+            out.old reports.old) bytes.now result (connection_and_pool_of pool.new self.new.decoder self.new.session
+            (cause_of result.stop) out.new reports.new) }
+        ensures holds { HoldsJust conn pool.new (claim (cause_of result.stop) self.new.session) }
+        ensures others { OthersHold conn pool.old pool.new }
         ensures panel { self.new.session.panel ≡ self.old.session.panel }
-        ensures shape { self.new.session.shape ≡ self.old.session.shape }
+        ensures size { self.new.session.size ≡ self.old.session.size }
         ensures left { IsLeft (cause_of result.stop) self.new.decoder }
         ensures capacity { vec_capacity out.old ≤ vec_capacity out.new }
     {
         feed_open(
             pool,
-            number,
+            conn,
             &mut self.decoder,
             &mut self.session,
             out,
@@ -84,7 +86,7 @@ pub(crate) enum Service {
     Closed(Cause),
 }
 
-/// Makes the room for output that a connection keeps.
+/// Makes the room for output that a connection keeps ([`OUT_ROOM`]).
 fn make_out_room(out: &mut Vec<u8>) -> Result<(), Memory>
     ensures items { out.new.items ≡ out.old.items }
     ensures room { OnOk result (out_room ≤ vec_capacity out.new) }
@@ -92,7 +94,7 @@ fn make_out_room(out: &mut Vec<u8>) -> Result<(), Memory>
     out.reserve(OUT_ROOM)
 }
 
-/// The Telnet command NOP, "no operation", behind its IAC (RFC 854, "TELNET Command Structure").
+/// IAC NOP, "no operation" (RFC 854, "TELNET Command Structure").
 const IAC_NOP: [u8; 2] = [255, 241];
 
 /// Appends IAC NOP.
@@ -104,7 +106,7 @@ fn put_nop(out: &mut Vec<u8>)
     out.extend_from_slice(&IAC_NOP).unwrap();
 }
 
-/// Keeps that a screen was shown, if something was sent, and that is a screen.
+/// Records that a screen was sent, if the act sent one.
 fn keep_shown(reports: &mut Reports, acted: Acted, session: &Session)
     ensures { reports.new ≡ shown_by acted session.now reports.old }
 {
@@ -115,7 +117,7 @@ fn keep_shown(reports: &mut Reports, acted: Acted, session: &Session)
     }
 }
 
-/// A connection number, with what is still to be sent there, and what wasn't reported yet.
+/// A connection number's state, with its unsent output and its unreported events.
 #[derive(Drop)]
 pub(crate) struct Connection {
     service: Service,
@@ -125,17 +127,18 @@ pub(crate) struct Connection {
 
 impl Model for Connection {
     ghost use Rattle.host_core.specs.Connections.{service_of, IsSoundConnection};
-    ghost use Rattle.host_core.specs.State.{Connection as Stood};
+    ghost use Rattle.host_core.specs.State.{Connection as ConnectionValue};
 
-    ghost Value = { Stood };
+    ghost Value = { ConnectionValue };
 
-    ghost view = { λ connection. record { service = service_of connection.service; out = connection.out.items; reports = connection.reports } };
+    ghost view = { λ connection.
+        record { service = service_of connection.service; out = connection.out.items; reports = connection.reports } };
 
     ghost invariant = { λ connection. IsSoundConnection connection.service connection.out };
 }
 
 impl Connection {
-    /// A number that is free. It takes no memory.
+    /// A free number. It takes no memory.
     pub(crate) fn unused(alloc: Global) -> Connection
         ensures { result ≡ unused }
     {
@@ -146,8 +149,8 @@ impl Connection {
         }
     }
 
-    /// Begins a connection to such a terminal, and offers TN3270E there. All the room that a session needs is made here, and that
-    /// for output.
+    /// Begins a connection to terminals of this kind, and puts the offer of TN3270E into its output. The session's
+    /// buffers and the room for output are allocated here; if memory is refused, nothing has changed.
     pub(crate) fn open(&mut self, terminals: Terminals, panels: &PanelSet) -> Result<(), Memory>
         requires free { self.old.service ≡ Free }
         ensures opened { OnOk result (self.new ≡ opened terminals panels.now) }
@@ -170,12 +173,13 @@ impl Connection {
         Ok(())
     }
 
-    /// Takes bytes that came, as the host does.
-    pub(crate) fn feed(&mut self, pool: &mut Pool, number: usize, bytes: &[u8]) -> Fed
-        requires { HoldsJust number pool.old (lu_of self.old.service) }
-        ensures fed { Feeds number (record { pool = pool.old; connection = self.old }) bytes.now result (record { pool = pool.new; connection = self.new }) }
-        ensures held { HoldsJust number pool.new (lu_of self.new.service) }
-        ensures others { OthersHold number pool.old pool.new }
+    /// Takes received bytes, as [`Host::feed`](crate::Host::feed).
+    pub(crate) fn feed(&mut self, pool: &mut Pool, conn: usize, bytes: &[u8]) -> Fed
+        requires { HoldsJust conn pool.old (lu_of self.old.service) }
+        ensures fed { Feeds conn (record { pool = pool.old; connection = self.old }) bytes.now result
+            (record { pool = pool.new; connection = self.new }) }
+        ensures held { HoldsJust conn pool.new (lu_of self.new.service) }
+        ensures others { OthersHold conn pool.old pool.new }
         ensures shown { StaysShown self.old.service self.new.service }
     {
         match &mut self.service {
@@ -188,7 +192,7 @@ impl Connection {
                 stop: Stop::Closed(*cause),
             },
             Service::Open(end) => {
-                let fed = end.feed(pool, number, &mut self.out, &mut self.reports, bytes);
+                let fed = end.feed(pool, conn, &mut self.out, &mut self.reports, bytes);
                 match fed.stop {
                     Stop::Closed(cause) => {
                         self.service = Service::Closed(cause);
@@ -201,7 +205,7 @@ impl Connection {
         }
     }
 
-    /// Acts, as the host does.
+    /// Acts in the host's turn, as [`Host::act`](crate::Host::act).
     pub(crate) fn act(&mut self, panels: &PanelSet) -> Acted
         requires { IsShown panels.now self.old.service }
         ensures acted { Does (acted_by (application_of panels.now) self.old.service) self.old result self.new }
@@ -225,7 +229,8 @@ impl Connection {
         session: u64,
     ) -> Result<Option<Question>, Memory>
         requires { IsShown panels.now self.now.service }
-        ensures question { IfOk result (λ question. question ≡ question_of (application_of panels.now) session self.now.service) }
+        ensures question { IfOk result
+            (λ question. question ≡ question_of (application_of panels.now) session self.now.service) }
         ensures memory { OnErr result (HasTexts (question_of (application_of panels.now) session self.now.service)) }
     {
         match &self.service {
@@ -234,7 +239,7 @@ impl Connection {
         }
     }
 
-    /// Takes an answer, as the host does.
+    /// Takes the application's answer, as [`Host::answer`](crate::Host::answer).
     pub(crate) fn answer(
         &mut self,
         panels: &PanelSet,
@@ -243,7 +248,8 @@ impl Connection {
         answer: &Answer,
     ) -> Acted
         requires { IsShown panels.now self.old.service }
-        ensures answered { DoesAnswer (application_of panels.now) answer.now (answered_by (application_of panels.now) session ticket answer.now self.old.service) self.old result self.new }
+        ensures answered { DoesAnswer (application_of panels.now) answer.now (answered_by (application_of panels.now)
+            session ticket answer.now self.old.service) self.old result self.new }
         ensures held { lu_of self.new.service ≡ lu_of self.old.service }
         ensures shown { IsShown panels.now self.new.service }
     {
@@ -259,7 +265,7 @@ impl Connection {
         }
     }
 
-    /// Sends a note, as the host does.
+    /// Sends a note, as [`Host::note`](crate::Host::note).
     pub(crate) fn note(&mut self, text: &[u8]) -> Acted
         requires { IsNoteText text.now }
         ensures noted { Does (noted_by text.now self.old.service) self.old result self.new }
@@ -276,7 +282,7 @@ impl Connection {
         }
     }
 
-    /// Whether NOP may be sent: the session is agreed, and nothing is to be sent.
+    /// Whether NOP may be sent: the ends agreed, and no output waits to be sent.
     fn may_keep_alive(&self) -> bool
         ensures { result ≡ may_keep_alive self.now }
     {
@@ -286,7 +292,7 @@ impl Connection {
         }
     }
 
-    /// Sends NOP, as the host does.
+    /// Sends NOP, as [`Host::keep_alive`](crate::Host::keep_alive).
     pub(crate) fn keep_alive(&mut self) -> Acted
         ensures answer { result ≡ kept_alive_answer self.old }
         ensures kept_alive { self.new ≡ kept_alive self.old }
@@ -298,14 +304,14 @@ impl Connection {
         Acted::Sent
     }
 
-    /// What is to be sent.
+    /// The bytes to be sent.
     pub(crate) fn out(&self) -> &[u8]
         ensures { result.now ≡ self.now.out }
     {
         self.out.as_slice()
     }
 
-    /// The first bytes of that were sent, and are dropped.
+    /// Drops the first `count` bytes of the output, which were sent.
     pub(crate) fn sent(&mut self, count: usize)
         requires { count ≤ length self.old.out }
         ensures { self.new ≡ record self.old { out = drop count self.old.out } }
@@ -315,7 +321,7 @@ impl Connection {
         self.out.truncate(left);
     }
 
-    /// Removes what is to be reported next, and hands it out.
+    /// Removes and returns the next event.
     pub(crate) fn next_event(&mut self) -> Option<HostEvent>
         ensures next { result ≡ oldest (events_of self.old.reports) }
         ensures removed { events_of self.new.reports ≡ without_oldest (events_of self.old.reports) }
@@ -324,7 +330,7 @@ impl Connection {
         self.reports.next_event()
     }
 
-    /// Frees the number, and hands back what wasn't sent.
+    /// Frees the number, and returns the unsent output.
     pub(crate) fn close(&mut self) -> Vec<u8>
         ensures unsent { result.items ≡ self.old.out }
         ensures closed { self.new ≡ unused }
@@ -335,7 +341,7 @@ impl Connection {
         std::mem::replace(&mut self.out, empty)
     }
 
-    /// Frees the number, and drops what wasn't sent.
+    /// Frees the number, and drops the unsent output.
     pub(crate) fn clear(&mut self)
         ensures { self.new ≡ unused }
     {
@@ -385,7 +391,7 @@ impl Connection {
         }
     }
 
-    /// What is believed of the screen, where the number is open.
+    /// The belief about the screen, if the number is open.
     pub(crate) fn shadow(&self) -> Option<&Shadow>
         ensures { ShadowIf result self.now.service }
     {

@@ -1,12 +1,13 @@
 use codes3270::Aid;
 
-/// A key that was pressed out of turn, whose data the host dropped (our profile).
+/// A key that the operator pressed out of turn, so that the host dropped its data (our profile).
 #[derive(Clone, Copy, Debug, PartialEq, Eq)]
 pub struct DroppedKey {
+    /// The key's attention identifier.
     pub aid: Aid,
 }
 
-// This fills the room that isn't used.
+// Fills the unused slots of an array of keys.
 impl Default for DroppedKey {
     fn default() -> DroppedKey {
         DroppedKey { aid: Aid::NoAid }

@@ -6,14 +6,16 @@ use tn3270e_msg::Lu;
 /// What happened on a connection ([`Host::next_event`](crate::Host::next_event)).
 #[derive(Clone, Copy)]
 pub enum HostEvent {
-    /// The host rejected a request for an LU.
+    /// The host rejected a request for an LU (DEVICE-TYPE REJECT; RFC 1647, section 7).
     Rejected(Rejection),
-    /// The terminal was bound to this LU.
+    /// Both ends agreed, and the terminal is bound to this LU.
     Bound(Lu),
-    /// The host dropped a key that was pressed out of turn. Only a host for any terminal drops keys.
+    /// The host dropped the data of a key that was pressed out of turn. With
+    /// [`Terminals::Waiting`](crate::Terminals::Waiting) it never does: it closes the connection instead.
     KeyDropped(DroppedKey),
-    /// The terminal broke a rule, by which the host closed the connection. Only a host that verifies its terminals looks for that.
+    /// The terminal broke this rule, and the host closed the connection. Only with
+    /// [`Terminals::Verified`](crate::Terminals::Verified).
     RuleBroken(RuleBreak),
-    /// The host sent a screen.
+    /// The host sent a screen, or several, since this was last reported.
     Shown,
 }

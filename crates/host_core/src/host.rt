@@ -2,7 +2,7 @@
 ghost use Rattle.std.specs.Prelude.{◌≡◌, ◌≤◌, ◌<◌, length, drop, replicate, IfOk, OnOk, OnErr};
 ghost use Rattle.host_core.specs.Application.{application_of};
 ghost use Rattle.host_core.specs.Does.{Does, DoesAnswer, acted_by, noted_by};
-ghost use Rattle.host_core.specs.Feeds.{Feeds, counter_at, with_counter};
+ghost use Rattle.host_core.specs.Feeds.{Feeds, connection_and_pool_at, with_connection_and_pool};
 ghost use Rattle.host_core.specs.KeepAlive.{kept_alive, kept_alive_answer};
 ghost use Rattle.host_core.specs.Notes.{IsNoteText};
 ghost use Rattle.host_core.specs.Questions.{HasTexts, answered_by, question_of};
@@ -28,40 +28,53 @@ use std::marker::Model;
 use telnet_wire::Memory;
 use tn3270e_msg::Fed;
 
-/// How many connections there may be: their numbers are below this (our profile).
+/// The number of connections that a host has: connection numbers are `0..64` (our profile).
 pub const MOST_CONNECTIONS: usize = 64;
 
-/// A host that serves panels: Telnet bytes come in on 64 connection numbers, and go out there.
+/// A host that serves panels to terminals on up to 64 connections. The caller feeds it the Telnet bytes of each
+/// connection, lets it act, and sends the bytes of [`out`](Host::out). Each `conn` must be below 64.
 ///
-/// Contracts see its panels, its pool of LUs, and for each number whether it is free, open, or closed for a cause, and what is
-/// to be sent there.
+/// Contracts see its panels, its pool of LUs, the count of sessions, which terminals it serves, and for each connection
+/// number whether it is free, open, or closed for a cause, its unsent output, and its unreported events.
 #[derive(Drop)]
 pub struct Host {
     panels: PanelSet,
     pool: Pool,
     connections: Vec<Connection>,
     sessions: Sessions,
-    // Those that it serves.
+    // Which terminals it serves.
     terminals: Terminals,
-    // What is believed of a screen on a number that isn't open.
+    // What is believed of a screen on a number that isn't open: nothing is known.
     nothing_known: Shadow,
 }
 
 impl Model for Host {
     ghost use Rattle.std.specs.Prelude.{◌≡◌};
     ghost use Rattle.host_core.specs.Sound.{IsSound};
-    ghost use Rattle.host_core.specs.State.{Host as Stands};
+    ghost use Rattle.host_core.specs.State.{Host as HostValue};
     ghost use Rattle.shadow.specs.Belief.Shadow.{NothingKnown};
 
-    ghost Value = { Stands };
+    ghost Value = { HostValue };
 
-    ghost view = { λ host. record { panels = host.panels; pool = host.pool; connections = host.connections.items; sessions = host.sessions; terminals = host.terminals } };
+    ghost view = { λ host. record {
+      panels = host.panels;
+      pool = host.pool;
+      connections = host.connections.items;
+      sessions = host.sessions;
+      terminals = host.terminals;
+    } };
 
-    ghost invariant = { λ host. IsSound (record { panels = host.panels; pool = host.pool; connections = host.connections.items; sessions = host.sessions; terminals = host.terminals })
+    ghost invariant = { λ host. IsSound (record {
+      panels = host.panels;
+      pool = host.pool;
+      connections = host.connections.items;
+      sessions = host.sessions;
+      terminals = host.terminals;
+    })
         × (host.nothing_known ≡ NothingKnown) };
 }
 
-/// So many numbers, all free.
+/// The 64 connection numbers, all free.
 fn unused_connections(alloc: Global) -> Result<Vec<Connection>, Memory>
     ensures { IfOk result (λ connections. connections.items ≡ replicate most_connections unused) }
 {
@@ -72,7 +85,7 @@ fn unused_connections(alloc: Global) -> Result<Vec<Connection>, Memory>
     Ok(connections)
 }
 
-/// Frees each number.
+/// Frees each connection number.
 fn clear_each(connections: &mut Vec<Connection>)
     ensures { connections.new.items ≡ replicate (length connections.old.items) unused }
 {
@@ -82,16 +95,18 @@ fn clear_each(connections: &mut Vec<Connection>)
 }
 
 impl Host {
-    /// A host that serves these panels to terminals which it grants the LUs of this pool. All LUs and numbers are free. It relies on
-    /// the terminals' wait: until it restores their keyboards, operators change nothing and press no second key.
+    /// A host that serves these panels, and grants the LUs of this pool. All LUs and connection numbers are free. It
+    /// relies on the terminals' wait ([`Terminals::Waiting`]): until a command restores the keyboard, operators
+    /// change nothing and press no second key. Fails if memory is refused.
     pub fn new(alloc: Global, panels: PanelSet, pool: Pool) -> Result<Host, Memory>
         ensures { IfOk result (λ host. host ≡ new_host panels pool) }
     {
         Host::serving(alloc, Terminals::Waiting, panels, pool)
     }
 
-    /// The same for these terminals. Those that need not wait may have changed input whenever it shows a panel, since it heard of the
-    /// screen.
+    /// A host that serves these panels to terminals of this kind, and grants the LUs of this pool. All LUs and
+    /// connection numbers are free. If the terminals need not wait, the host assumes whenever it shows a panel that
+    /// input may have changed since it last heard of the screen. Fails if memory is refused.
     pub fn serving(
         alloc: Global,
         terminals: Terminals,
@@ -114,8 +129,9 @@ impl Host {
         })
     }
 
-    /// Begins a connection on a number that is free, and offers TN3270E there. All the room that a session needs is made here, also
-    /// that for [`OUT_ROOM`](crate::OUT_ROOM) bytes of output, which the connection keeps. If memory is refused nothing has changed.
+    /// Begins a connection on a number, which must be free, and puts IAC DO TN3270E into its output. The session's
+    /// buffers are allocated here, also [`OUT_ROOM`](crate::OUT_ROOM) bytes for output, which the connection keeps. If
+    /// memory is refused, nothing has changed.
     pub fn open(&mut self, conn: usize) -> Result<(), Memory>
         requires number { conn < most_connections }
         requires free { phase_of (service_at conn self.old) ≡ phase.Free }
@@ -127,85 +143,91 @@ impl Host {
         Ok(())
     }
 
-    /// Takes bytes that came on a connection, up to one for which there is no room or that closes the connection, and answers
-    /// how many it took and what stopped it. It stands as after these.
+    /// Takes the bytes that were received on a connection, until all are taken, one closes the connection, or memory
+    /// is refused. It answers how many it took and what stopped it, and the host is in the state after these bytes.
     ///
-    /// Room for the largest reply, 516 bytes, is made before a byte is taken. So memory is needed only if the bytes that wait to be
-    /// sent leave less of the connection's room. A number that is free takes nothing and answers Going, one that has closed takes
-    /// nothing and answers its cause. An LU of a connection that closes is free at once.
+    /// Before it takes a byte it makes room for the largest reply, 516 bytes. So memory is needed only if unsent
+    /// output leaves less of the connection's room than that. A number that is free takes nothing and answers Going;
+    /// one that has closed takes nothing and answers its cause. The LU of a connection that closes is free at once.
     pub fn feed(&mut self, conn: usize, bytes: &[u8]) -> Fed
         requires number { conn < most_connections }
-        ensures fed { Feeds conn (counter_at conn self.old) bytes.now result (counter_at conn self.new) }
-        ensures others { self.new ≡ with_counter conn (counter_at conn self.new) self.old }
+        ensures fed { Feeds conn (connection_and_pool_at conn self.old) bytes.now result
+            (connection_and_pool_at conn self.new) }
+        ensures others { self.new ≡ with_connection_and_pool conn (connection_and_pool_at conn self.new) self.old }
     {
         self.connections[conn].feed(&mut self.pool, conn, bytes)
     }
 
-    /// Does what the host does in its turn: it reads the screen, or shows a panel. Nothing if it isn't the host's turn, a command
-    /// waits for its answer, the ends haven't agreed, or a question to the application is open.
+    /// Does what the host does in its turn: it sends Read Buffer, or shows a panel. Nothing if it isn't the host's
+    /// turn, a command waits for its answer, the ends haven't agreed, or a question to the application is open.
     ///
-    /// Memory is needed only if the bytes that wait to be sent leave less of the connection's room than the largest such command
-    /// takes (1,024 bytes may wait), or if the value of some field has to grow: the field has none yet, or a shorter one than the
-    /// text that is known.
+    /// Memory is needed only if unsent output leaves less of the connection's room than the largest command takes
+    /// (1,024 bytes may wait), or if a field's value has to grow; if it is refused, nothing has changed.
     pub fn act(&mut self, conn: usize) -> Acted
         requires number { conn < most_connections }
-        ensures acted { Does (acted_by (application_of self.old.panels) (service_at conn self.old)) (connection_at conn self.old) result (connection_at conn self.new) }
+        ensures acted { Does (acted_by (application_of self.old.panels) (service_at conn self.old))
+            (connection_at conn self.old) result (connection_at conn self.new) }
         ensures others { self.new ≡ with_connection conn (connection_at conn self.new) self.old }
     {
         self.connections[conn].act(&self.panels)
     }
 
-    /// The question that is open on a connection: the operator has pressed a key that the panel asks the application about, and the
-    /// host waits for its answer. None if no question is open: then [`act`](Host::act) does what there is to do.
+    /// The question that is open on a connection: the operator has pressed a key that the panel asks the application
+    /// about, and the host waits for the answer. None if no question is open: then [`act`](Host::act) goes on.
     ///
-    /// What the application learns stands on the operator's screen now. A question stays open until it is answered or the
-    /// connection closes. Memory is needed only for its texts, so never if no question is open; if it is refused, ask again.
+    /// The question describes the operator's screen as it is now, and stays open until it is answered or the connection
+    /// closes. Memory is needed only for its texts, so never if no question is open; if it is refused, ask again.
     pub fn question(&self, conn: usize) -> Result<Option<Question>, Memory>
         requires number { conn < most_connections }
-        ensures question { IfOk result (λ question. question ≡ question_of (application_of self.now.panels) (session_at conn self.now) (service_at conn self.now)) }
-        ensures memory { OnErr result (HasTexts (question_of (application_of self.now.panels) (session_at conn self.now) (service_at conn self.now))) }
+        ensures question { IfOk result (λ question. question
+            ≡ question_of (application_of self.now.panels) (session_at conn self.now) (service_at conn self.now)) }
+        ensures memory { OnErr result (HasTexts
+            (question_of (application_of self.now.panels) (session_at conn self.now) (service_at conn self.now))) }
     {
         let session = self.sessions.at(conn);
         self.connections[conn].question(&self.panels, session)
     }
 
-    /// Takes the application's answer to the question with a ticket, and shows the operator what it says. Nothing if that question
-    /// isn't open any more, or if the answer names a panel that there isn't. If memory is refused, nothing has changed.
+    /// Takes the application's answer to the question with this ticket, and shows the operator what it says. Nothing if
+    /// that question isn't open any more, or if the answer's panel doesn't exist.
     ///
-    /// Memory is needed only if the bytes that wait to be sent leave less of the connection's room than the largest command takes
-    /// (1,024 bytes may wait), if the known text of some field is longer than the value that the host has of it, or if the answer
-    /// has values, which are set in a copy of all.
+    /// Memory is needed only if unsent output leaves less of the connection's room than the largest command takes
+    /// (1,024 bytes may wait), if the known text of some field is longer than the field's value, or if the answer has
+    /// values, which are set in a copy of all values; if it is refused, nothing has changed.
     pub fn answer(&mut self, conn: usize, ticket: Ticket, answer: &Answer) -> Acted
         requires number { conn < most_connections }
-        ensures answered { DoesAnswer (application_of self.old.panels) answer.now (answered_by (application_of self.old.panels) (session_at conn self.old) ticket answer.now (service_at conn self.old)) (connection_at conn self.old) result (connection_at conn self.new) }
+        ensures answered { DoesAnswer (application_of self.old.panels) answer.now
+            (answered_by (application_of self.old.panels) (session_at conn self.old) ticket answer.now
+            (service_at conn self.old)) (connection_at conn self.old) result (connection_at conn self.new) }
         ensures others { self.new ≡ with_connection conn (connection_at conn self.new) self.old }
     {
         let session = self.sessions.at(conn);
         self.connections[conn].answer(&self.panels, session, ticket, answer)
     }
 
-    /// What the host serves.
+    /// The panels that the host serves.
     pub fn panels(&self) -> &PanelSet
         ensures { result.now ≡ self.now.panels }
     {
         &self.panels
     }
 
-    /// Sends a note, of at most 131 characters of code page 037, into the last row while the operator has the turn. What is
-    /// longer than the row's room is cut. Nothing if it isn't the terminal's turn, a command waits for its answer, or the ends
-    /// haven't agreed. Memory is needed only if the bytes that wait to be sent leave less of the connection's room than the largest
-    /// note takes, 284 bytes.
+    /// Writes a note into the last row of the screen while the operator has the turn (our profile). `text` must be at
+    /// most 131 characters of code page 037, each `0x40..=0xFE`; what doesn't fit into the row is cut. Nothing if it
+    /// isn't the terminal's turn, a command waits for its answer, or the ends haven't agreed. Memory is needed only if
+    /// unsent output leaves less than 284 bytes of the connection's room, which the largest note takes.
     pub fn note(&mut self, conn: usize, text: &[u8]) -> Acted
         requires number { conn < most_connections }
         requires text { IsNoteText text.now }
-        ensures noted { Does (noted_by text.now (service_at conn self.old)) (connection_at conn self.old) result (connection_at conn self.new) }
+        ensures noted { Does (noted_by text.now (service_at conn self.old)) (connection_at conn self.old) result
+            (connection_at conn self.new) }
         ensures others { self.new ≡ with_connection conn (connection_at conn self.new) self.old }
     {
         self.connections[conn].note(text)
     }
 
-    /// Sends IAC NOP, which has no effect at the terminal (RFC 854, "no operation"), on a bound connection that has nothing to send.
-    /// TCP notices only by what is sent that a peer is gone. Nothing if the number isn't bound, or if output waits to be sent.
+    /// Sends IAC NOP (RFC 854, "no operation"), which has no effect at the terminal, on a bound connection with no
+    /// output, so that TCP notices a peer that is gone. Nothing if the number isn't bound or output waits to be sent.
     ///
     /// It needs no memory, since a connection keeps its room for output, so the answer is never Memory.
     pub fn keep_alive(&mut self, conn: usize) -> Acted
@@ -216,7 +238,7 @@ impl Host {
         self.connections[conn].keep_alive()
     }
 
-    /// What there is to send on a connection.
+    /// The bytes to be sent on a connection, in order. A connection that has closed may still have some.
     pub fn out(&self, conn: usize) -> &[u8]
         requires number { conn < most_connections }
         ensures { result.now ≡ (connection_at conn self.now).out }
@@ -224,21 +246,21 @@ impl Host {
         self.connections[conn].out()
     }
 
-    /// The first `count` bytes of `out` were sent, and are dropped.
+    /// Drops the first `count` bytes of [`out`](Host::out), which were sent; `count` must be at most its length.
     pub fn sent(&mut self, conn: usize, count: usize)
         requires number { conn < most_connections }
         requires count { count ≤ length (connection_at conn self.old).out }
-        ensures { self.new ≡ with_connection conn (record (connection_at conn self.old) { out = drop count (connection_at conn self.old).out }) self.old }
+        ensures { self.new ≡ with_connection conn
+            (record (connection_at conn self.old) { out = drop count (connection_at conn self.old).out }) self.old }
     {
         self.connections[conn].sent(count);
     }
 
-    /// Hands out what happened on a connection, each event once; None if there is no more. Of what happened since the last call the
-    /// rejections come first, then the LU that the terminal was bound to, the keys that were dropped, the rule that the terminal
-    /// broke, and that a screen was sent.
+    /// Removes and returns the next event of a connection; None if there is none. Rejections come first, then the LU
+    /// that the terminal was bound to, dropped keys, the rule that the terminal broke, and that a screen was sent.
     ///
-    /// A connection keeps this until its number is opened again or freed: at most 8 rejections, the first 8 keys, and one of each
-    /// other kind, so that none displaces another kind.
+    /// A connection keeps its events until its number is opened again or freed: the first 8 rejections, the first 8
+    /// keys, and one of each other kind, so that no kind displaces another.
     pub fn next_event(&mut self, conn: usize) -> Option<HostEvent>
         requires number { conn < most_connections }
         ensures next { result ≡ oldest (events_of (reports_at conn self.old)) }
@@ -248,7 +270,7 @@ impl Host {
         self.connections[conn].next_event()
     }
 
-    /// A connection is lost, or its peer left: frees its number and its LU, and hands back what wasn't sent.
+    /// Frees the number and the LU of a connection that is lost or left by its peer, and returns its unsent output.
     pub fn closed(&mut self, conn: usize) -> Vec<u8>
         requires number { conn < most_connections }
         ensures unsent { result.items ≡ (connection_at conn self.old).out }
@@ -258,7 +280,7 @@ impl Host {
         self.connections[conn].close()
     }
 
-    /// How far the host is with the terminal of a number.
+    /// The phase of a connection: free, negotiating, bound to an LU, or closed.
     pub fn phase(&self, conn: usize) -> Phase
         requires number { conn < most_connections }
         ensures { result ≡ phase_of (service_at conn self.now) }
@@ -274,9 +296,9 @@ impl Host {
         self.connections[conn].turn()
     }
 
-    /// The model of the terminal of a connection, from its request for a device type on; None before, once the request is
-    /// rejected, and on a number that is free or closed. Panels of model 2 and of that model are shown there; in the place of any
-    /// other panel its `otherwise` is.
+    /// The terminal's model, from its request for a device type on (RFC 1647, section 7). None before the request,
+    /// after its rejection, and on a number that is free or closed. The terminal is shown panels of model 2 and of its
+    /// own model; in place of any other panel it is shown that panel's `otherwise`.
     pub fn model(&self, conn: usize) -> Option<TerminalModel>
         requires number { conn < most_connections }
         ensures { result ≡ model_of (service_at conn self.now) }
@@ -284,7 +306,7 @@ impl Host {
         self.connections[conn].model()
     }
 
-    /// The number of the command that waits for its answer, if one does.
+    /// The sequence number of the command that waits for its answer, `0..=32_767`; None if none waits.
     pub fn pending(&self, conn: usize) -> Option<u16>
         requires number { conn < most_connections }
         ensures { result ≡ pending_of (service_at conn self.now) }
@@ -292,7 +314,7 @@ impl Host {
         self.connections[conn].pending()
     }
 
-    /// What is believed of the screen of a connection: nothing where the number isn't open.
+    /// What the host believes of a connection's screen; nothing is known if the number isn't open.
     pub fn shadow(&self, conn: usize) -> &Shadow
         requires number { conn < most_connections }
         ensures { result.now ≡ shadow_of (service_at conn self.now) }
@@ -303,7 +325,7 @@ impl Host {
         }
     }
 
-    /// Starts again: all numbers and all LUs are free. Sessions are counted on.
+    /// Frees all connection numbers and LUs. Sessions are still counted, so that no answer to an old question is taken.
     pub fn restart(&mut self)
         ensures { self.new ≡ restarted self.old }
     {
@@ -311,9 +333,8 @@ impl Host {
         self.pool.free_all();
     }
 
-    /// Law: what holds of each host. An LU is held for a connection exactly while it is granted
-    /// there, so no two connections are granted one; and each connection has a panel that there is,
-    /// of the connection's size.
+    /// Law: what holds of each host. A connection holds exactly the LU that is granted there, so no two connections
+    /// are granted the same LU; and each open connection has a panel that exists, of the connection's size.
     pub fn hosts_are_sound(&self)
         ensures sound { IsSound self.now }
         ensures unshared { NobodyShares self.now }

@@ -1,4 +1,4 @@
-//! What is known of a panel's fields.
+//! What the host learns of the texts of a panel's fields.
 ghost use Rattle.std.specs.Prelude.{◌≡◌, ◌≢◌, ◌<◌, ◌≤◌, ◌+◌, ◌++◌, ◌∷◌, [], true, false, length, Option, Some, IfOk, IfSome, OnOk, OnErr, option_map, if◌then◌else◌, not, ◌==◌};
 ghost use Rattle.std.specs.List.{list_any};
 ghost use Rattle.std.specs.Option.{option_map_or};
@@ -7,7 +7,7 @@ ghost use Rattle.datastream.specs.Inbound.{without_nulls};
 ghost use Rattle.panels.specs.Characters.{AreCharacters};
 ghost use Rattle.panels.specs.Panel.{HaveNumbersApart};
 ghost use Rattle.panels.specs.Values.{set_if};
-ghost use Rattle.shadow.specs.Asked.{kind_of};
+ghost use Rattle.shadow.specs.Queries.{kind_of};
 ghost use Rattle.shadow.specs.Belief.{Belief};
 ghost use Rattle.shadow.specs.Storable.{CanBeStored};
 ghost use Rattle.host_core.specs.Acts.{first_missing, is_blank, is_in_doubt, is_settled_fact, learned, text_known};
@@ -25,7 +25,7 @@ use telnet_wire::Memory;
 /// Room for the text of any field, which is shorter than the largest screen.
 type TextBuffer = ArrayVec<u8, MOST_CELLS>;
 
-/// Whether a fact tells a text.
+/// Whether a fact settles a field's text.
 fn is_settled(fact: Option<Fact>) -> bool
     ensures { (known : Option Belief) → fact ≡ option_map (λ belief. kind_of belief.fact) known →
         result ≡ option_map_or (λ belief. is_settled_fact belief.fact) known false }
@@ -36,7 +36,7 @@ fn is_settled(fact: Option<Fact>) -> bool
     }
 }
 
-/// Whether what is believed of a field is in doubt.
+/// Whether a field's text isn't known.
 pub(crate) fn is_in_doubt(shadow: &Shadow, field: &Field) -> bool
     requires { HasField shadow.now field.now }
     ensures { result ≡ is_in_doubt shadow.now field.now }
@@ -44,7 +44,7 @@ pub(crate) fn is_in_doubt(shadow: &Shadow, field: &Field) -> bool
     !is_settled(shadow.fact(field.extent.attr()))
 }
 
-/// The characters of a field's text, if that is known. There may be nulls among them.
+/// The characters of a field, nulls among them, if its text is known.
 fn characters_known<'a>(shadow: &'a Shadow, field: &Field) -> Option<FieldText<'a>>
     requires stored { CanBeStored shadow.now }
     requires there { HasField shadow.now field.now }
@@ -60,7 +60,7 @@ fn characters_known<'a>(shadow: &'a Shadow, field: &Field) -> Option<FieldText<'
     Some(shadow.text(attr))
 }
 
-/// How many characters there are once one more is counted, unless it is a null.
+/// The count, one higher unless the character is a null.
 fn counted(count: usize, byte: u8) -> usize
     requires { count < most_cells }
     ensures { result ≡ (if not (byte == 0) then count + 1 else count) }
@@ -68,7 +68,7 @@ fn counted(count: usize, byte: u8) -> usize
     if byte != 0 { count + 1 } else { count }
 }
 
-/// How many of these characters aren't nulls.
+/// The number of these characters that aren't nulls.
 fn count_without_nulls(characters: FieldText<'_>) -> usize
     requires { length characters ≤ most_cells }
     ensures { result ≡ length (without_nulls characters.entry) }
@@ -80,7 +80,7 @@ fn count_without_nulls(characters: FieldText<'_>) -> usize
     count
 }
 
-/// Whether the text of a field is known and needs more memory than the field's value has.
+/// Whether a field's text is known and longer than the field's value.
 fn needs_room(values: &Values, shadow: &Shadow, field: &Field) -> bool
     requires stored { CanBeStored shadow.now }
     requires there { HasField shadow.now field.now }
@@ -95,7 +95,7 @@ fn needs_room(values: &Values, shadow: &Shadow, field: &Field) -> bool
     }
 }
 
-/// Whether there is such a field.
+/// Whether the known text of some of these fields is longer than the field's value.
 fn any_needs_room(values: &Values, shadow: &Shadow, fields: &[Field]) -> bool
     requires stored { CanBeStored shadow.now }
     requires there { HaveFields shadow.now fields.now }
@@ -119,7 +119,7 @@ fn put_unless_null(text: &mut TextBuffer, byte: u8)
     }
 }
 
-/// Appends characters, but for nulls.
+/// Appends the characters that aren't nulls.
 fn append_text(text: &mut TextBuffer, characters: FieldText<'_>)
     requires { length text.old.items + length characters ≤ most_cells }
     ensures { text.new.items ≡ text.old.items ++ without_nulls characters.entry }
@@ -129,7 +129,7 @@ fn append_text(text: &mut TextBuffer, characters: FieldText<'_>)
     }
 }
 
-/// Puts characters, but for nulls, in place of a text.
+/// Replaces a text by the characters that aren't nulls.
 fn put_text(text: &mut TextBuffer, characters: FieldText<'_>)
     requires { length characters ≤ most_cells }
     ensures { text.new.items ≡ without_nulls characters.entry }
@@ -138,7 +138,7 @@ fn put_text(text: &mut TextBuffer, characters: FieldText<'_>)
     append_text(text, characters);
 }
 
-/// Sets the value of a field whose text is known, by way of a buffer, whatever that has.
+/// Sets a field's known text as its value, by way of a buffer whose contents don't matter.
 fn learn(
     values: &mut Values,
     shadow: &Shadow,
@@ -159,7 +159,7 @@ fn learn(
     }
 }
 
-/// Sets the values of fields whose texts are known, one after another. If memory is refused, some are set and others not.
+/// Sets the known texts of fields as their values, one by one. If memory is refused, only some are set.
 pub(crate) fn learn_each(
     values: &mut Values,
     shadow: &Shadow,
@@ -178,7 +178,7 @@ pub(crate) fn learn_each(
     Ok(())
 }
 
-/// The known texts of fields. Memory is needed only if there is one.
+/// The known texts of these fields. Memory is needed only if there is one.
 #[tactic(auto, using(crate::proofs::Learned::texts_want))]
 pub(crate) fn texts_known(
     alloc: Global,
@@ -196,8 +196,7 @@ pub(crate) fn texts_known(
     Ok(texts)
 }
 
-/// Sets the known texts of fields as their values. Memory is needed only if a text is longer than the field's value; if it is
-/// refused, nothing changes.
+/// Sets the known texts of fields as their values. Only values that grow need memory; if it is refused, none changes.
 pub(crate) fn learn_all(
     values: &mut Values,
     shadow: &Shadow,
@@ -220,17 +219,17 @@ pub(crate) fn learn_all(
     Ok(())
 }
 
-/// Whether a value is blanks, or nothing.
+/// Whether a value has blanks only, or is empty.
 fn is_blank(value: &[u8]) -> bool
     ensures { result ≡ is_blank value.now }
 {
     value.iter().all(|byte| *byte == BLANK)
 }
 
-/// A blank in the host's code.
+/// A blank in EBCDIC.
 const BLANK: u8 = 0x40;
 
-/// Whether characters are blanks, but for nulls.
+/// Whether all of these characters are blanks or nulls.
 fn are_blanks(characters: FieldText<'_>) -> bool
     ensures { result ≡ is_blank (without_nulls characters.entry) }
 {
@@ -242,7 +241,7 @@ fn are_blanks(characters: FieldText<'_>) -> bool
     true
 }
 
-/// Whether a required field isn't filled in, by what is known of it now.
+/// Whether a field is required and isn't filled in, by its known text, or else by its value.
 fn is_missing_now(values: &Values, shadow: &Shadow, field: &Field) -> bool
     requires stored { CanBeStored shadow.now }
     requires there { HasField shadow.now field.now }
@@ -260,7 +259,7 @@ fn is_missing_now(values: &Values, shadow: &Shadow, field: &Field) -> bool
     }
 }
 
-/// The number of the first required field that isn't filled in, once the known texts are set as values of their fields.
+/// The number of the first required field that isn't filled in, by the known texts, or else by the values.
 pub(crate) fn first_missing(values: &Values, shadow: &Shadow, fields: &[Field]) -> Option<usize>
     requires stored { CanBeStored shadow.now }
     requires there { HaveFields shadow.now fields.now }

@@ -1,12 +1,20 @@
-//! The host: what it makes of what terminals send, and what it does in its turn. It owns no connection and waits for nothing: its
-//! caller numbers them, feeds it the bytes of each, lets it act, and sends what it has to send.
+//! The host side of TN3270E sessions: a [`Host`] negotiates with up to 64 terminals, grants them LUs, shows them
+//! panels, and knows what each terminal has confirmed of its screen. Turns and the order of panels are our profile.
+//!
+//! Data goes in this order, for each connection number: [`Host::open`] begins it; [`Host::feed`] takes the Telnet bytes
+//! that were received; [`Host::act`], [`Host::answer`] or [`Host::note`] sends a command; [`Host::out`] has the Telnet
+//! bytes to send, and [`Host::sent`] drops them; [`Host::next_event`] reports; [`Host::closed`] frees the number.
+//!
+//! The host has no sockets and never waits: that is for its caller, as the crate `socket_links`. The Telnet stream is
+//! that of `telnet_wire`, the negotiation and headers are those of `tn3270e_msg`, panels of `panels`, LUs of `lu_pool`,
+//! and what is believed of a screen of `shadow`.
 //!
 //! ```rust
 //! let panels = PanelSet::read(alloc, text)?;
 //! let pool = Pool::read(alloc, panels.lus())?;
 //! let mut host = Host::new(alloc, panels, pool)?;
 //!
-//! // A client comes: the host has DO TN3270E to send.
+//! // A client connects: the host has DO TN3270E to send.
 //! host.open(0)?;
 //! assert_eq!(rt; host.out(0), b"\xff\xfd\x28".as_slice());
 //! host.sent(0, 3);
@@ -25,12 +33,12 @@
 //! host.feed(0, b"\x02\x00\x00\x00\x00\x00\xff\xef");
 //! assert!(rt; host.shadow(0).known(Addr::first().next(Size::base())) == Some(Cell::Char(0xe6)));
 //!
-//! // The connection is gone: its LU is free, and its number may be opened again.
+//! // The connection is lost: its LU is freed, and its number may be opened again.
 //! host.closed(0);
 //! ```
 //!
-//! A panel's `asks` names keys that the caller decides on: the application. Here it lets the tellers 4711 and 4712 sign on, and tells
-//! others that it doesn't know them. The texts of fields have the codes of code page 037.
+//! A panel's `asks` names the keys that the application decides on: the caller. Here it lets the tellers 4711 and 4712
+//! sign on, and rejects others with a message. The texts of fields are in code page 037.
 //!
 //! ```rust
 //! fn decide(alloc: Global, panels: &PanelSet, question: &Question) -> Answer {
@@ -64,15 +72,15 @@
 //! }
 //! ```
 //!
-//! The answer may also come later: meanwhile other connections are served, and the ticket says which question it is to.
+//! The answer may also come later: meanwhile other connections are served, and the ticket names its question.
 //!
-//! [`serve_turn`] does a turn of this on connections of any kind, by the trait [`Links`]: a read, an
-//! act, and a write. `specs/State` says what a host is, `Rejections` which requests for an LU it
-//! rejected, and `Reports` what a connection keeps until it is reported; `Feeds`, `Bytes`, `Items`
-//! and `Takes` say what bytes make of it, `Does` and `Acts` what it does in its turn, `Notes` what a
-//! note is, `KeepAlive` when NOP is sent, and `Serves` what a turn of serving is. What follows from
-//! these is the contract of [`laws::one_machine`] and of the other laws. The
-//! repository's `tests/cases` has whole dialogues, byte for byte.
+//! [`serve_turn`] does one read, one act and one write of a connection, by the trait [`Links`]. It answers no question.
+//!
+//! `specs/State` says what a host is, `Rejections` which requests for an LU it rejected, and `Reports` which events a
+//! connection keeps; `Feeds`, `Bytes`, `Items` and `Takes` how it takes bytes, `Acts` and `Does` what it does in its
+//! turn, `Questions` what the application is asked, `Notes` what a note is, `KeepAlive` when NOP is sent, and `Serves`
+//! what a turn of serving is. The contracts of [`laws::one_machine`] and the other laws say what follows from these.
+//! The repository's `tests/cases` has whole dialogues, byte for byte.
 #![tactic(auto)]
 
 mod acted;

@@ -5,11 +5,11 @@ ghost use Rattle.host_core.specs.Serves.{GotWithin, TookWithin, ReadCounts, Writ
 /// What a read of a connection gave.
 #[derive(Clone, Copy, Debug, PartialEq, Eq)]
 pub enum LinkRead {
-    /// So many bytes, at the front of the buffer.
+    /// This number of bytes, now at the front of the buffer; at most its length.
     Got(usize),
-    /// Nothing this time.
+    /// No byte for now.
     NotNow,
-    /// The end of what the peer sends.
+    /// The peer has ended its side: it sends no more.
     Ended,
     /// The connection failed.
     Failed,
@@ -18,9 +18,9 @@ pub enum LinkRead {
 /// What a write to a connection took.
 #[derive(Clone, Copy, Debug, PartialEq, Eq)]
 pub enum LinkWrite {
-    /// So many bytes, from the front of what it was handed.
+    /// This number of bytes, from the front of those that it was handed.
     Took(usize),
-    /// Nothing this time.
+    /// No byte for now.
     NotNow,
     /// The connection failed.
     Failed,
@@ -28,10 +28,10 @@ pub enum LinkWrite {
 
 /// The connections that a host serves, by their numbers.
 ///
-/// Contracts see how often each ended or failed, and what an implementation says of its reads and writes. `gave` relates the
-/// links before a read, the number, the length of the buffer, the bytes got, the answer, and the links after. `took` relates the
-/// links before a write, the number, the bytes handed in, the answer, and the links after. An implementation whose count is at
-/// its last value answers NotNow instead.
+/// Contracts see how often each connection ended or failed, and what an implementation says of its reads and writes.
+/// `gave` relates the links before a read, the number, the length of the buffer, the bytes got, the answer, and the
+/// links after. `took` relates the links before a write, the number, the bytes handed in, the answer, and the links
+/// after. An implementation whose count can't rise any more answers NotNow instead of Ended or Failed.
 pub trait Links {
     ghost use Rattle.host_core.specs.declared.links.LinkRead.{LinkRead};
     ghost use Rattle.host_core.specs.declared.links.LinkWrite.{LinkWrite};
@@ -44,15 +44,17 @@ pub trait Links {
 
     ghost took: { Self → ℕ → List ℕ → LinkWrite → Self → Type 0 };
 
-    /// Reads once, into this buffer.
+    /// Reads a connection once, into this buffer.
     fn read(&mut self, conn: usize, buffer: &mut [u8]) -> LinkRead
         ensures within { GotWithin result (length buffer.new) }
-        ensures counts { ReadCounts conn result (ends self.old) (ends self.new) (failures self.old) (failures self.new) }
+        ensures counts { ReadCounts conn result (ends self.old) (ends self.new) (failures self.old)
+            (failures self.new) }
         ensures gave { gave self.old conn (length buffer.new) (bytes_got result buffer.new) result self.new };
 
-    /// Hands bytes over to be sent, once.
+    /// Hands bytes over to be sent on a connection, once; it may take fewer.
     fn write(&mut self, conn: usize, bytes: &[u8]) -> LinkWrite
         ensures within { TookWithin result (length bytes.now) }
-        ensures counts { WriteCounts conn result (ends self.old) (ends self.new) (failures self.old) (failures self.new) }
+        ensures counts { WriteCounts conn result (ends self.old) (ends self.new) (failures self.old)
+            (failures self.new) }
         ensures took { took self.old conn bytes.now result self.new };
 }

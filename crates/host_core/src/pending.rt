@@ -2,9 +2,9 @@ ghost use Rattle.std.specs.Prelude.{◌≡◌, ℕ, List};
 ghost use Rattle.codes3270.specs.Size.{Shape};
 ghost use Rattle.host_core.specs.Does.{is_paint};
 ghost use Rattle.host_core.specs.Items.{is_paint_or_read};
-ghost use Rattle.host_core.specs.Keeps.{number_kept, pending_in};
+ghost use Rattle.host_core.specs.Representation.{number_kept, pending_in};
 
-/// The command that isn't answered yet, with its number (our profile).
+/// The command that waits for its answer, with its sequence number (our profile).
 #[derive(Clone, Copy, Debug, PartialEq, Eq)]
 pub(crate) enum Pending {
     /// There is none.
@@ -18,7 +18,7 @@ pub(crate) enum Pending {
 }
 
 impl Pending {
-    /// Its number.
+    /// The command's sequence number, if there is one.
     pub(crate) fn number(self) -> Option<u16>
         ensures { result ≡ number_kept self }
     {
@@ -32,7 +32,7 @@ impl Pending {
 
     /// Whether a paint waits for its answer.
     pub(crate) fn is_paint(self) -> bool
-        ensures { (shape : Shape) (sent : List ℕ) → result ≡ is_paint (pending_in shape self sent) }
+        ensures { (size : Shape) (sent : List ℕ) → result ≡ is_paint (pending_in size self sent) }
     {
         match self {
             Pending::Writing(_) => true,
@@ -40,9 +40,9 @@ impl Pending {
         }
     }
 
-    /// Whether a paint or a read waits for its answer.
+    /// Whether a paint or a Read Buffer waits for its answer.
     pub(crate) fn is_paint_or_read(self) -> bool
-        ensures { (shape : Shape) (sent : List ℕ) → result ≡ is_paint_or_read (pending_in shape self sent) }
+        ensures { (size : Shape) (sent : List ℕ) → result ≡ is_paint_or_read (pending_in size self sent) }
     {
         match self {
             Pending::Writing(_) | Pending::Reading(_) => true,

@@ -3,14 +3,14 @@ ghost use Rattle.host_core.specs.Serves.{IsClosed};
 
 use tn3270e_msg::{Cause, Lu};
 
-/// How far a host is with the terminal of a connection number.
+/// How far a host is with the terminal of a connection number (our profile).
 #[derive(Clone, Copy, Debug, PartialEq, Eq)]
 pub enum Phase {
     /// The number is free.
     Free,
-    /// The negotiation goes on.
+    /// The ends negotiate TN3270E (RFC 1647, section 7).
     Talking,
-    /// The terminal is bound to this LU.
+    /// Both ends agreed, and the terminal is bound to this LU.
     Bound(Lu),
     /// The host closed the connection for this cause.
     Closed(Cause),

@@ -6,43 +6,45 @@ use codes3270::{Addr, Aid};
 use panels::{MessageText, Values};
 use tn3270e_msg::Lu;
 
-/// Which question an answer is to. Connection numbers and record numbers are used again, the numbers of sessions are not: so an
-/// answer that comes late reaches nobody.
+/// Names the question that an answer is to. Connection numbers and record numbers are used again, session numbers are
+/// not: so a late answer reaches no other question.
 #[derive(Clone, Copy, Debug, PartialEq, Eq)]
 pub struct Ticket {
-    /// The session: the host counts all that it opened, from 0 on, in 64 bits.
+    /// The number of the session: the host counts all that it opened, from 0, in 64 bits.
     pub session: u64,
-    /// The number of the record that will answer the operator, 0 to 32,767.
+    /// The sequence number of the record that will answer the operator, `0..=32_767`.
     pub turn: u16,
 }
 
-/// What the application is asked: the operator has pressed a key that the panel asks about, and this is what stands on the screen.
+/// A question to the application, after a key that the panel asks about. It describes the screen as it is now.
 #[derive(Drop)]
 pub struct Question {
+    /// Names this question; its answer must come with this ticket.
     pub ticket: Ticket,
+    /// The LU that the terminal is bound to.
     pub lu: Lu,
-    /// The number of the panel that is shown.
+    /// The number of the panel that is shown, 0-based.
     pub panel: usize,
-    /// The key.
+    /// The key that was pressed.
     pub aid: Aid,
-    /// Where the cursor is.
+    /// The cursor's buffer address when the terminal last sent data.
     pub cursor: Addr,
-    /// The text of each of the panel's fields, by the field's number over the whole text, without nulls.
+    /// The known text of each of the panel's fields, without nulls, by the field's number in the whole panel text.
     pub values: Values,
 }
 
-/// What the application answers.
+/// The application's answer to a question.
 #[derive(Drop)]
 pub struct Answer {
-    /// The number of the panel that is to be shown; if there is none, the same panel again.
+    /// The number of the panel to show, 0-based; if there is none, the same panel again.
     pub panel: Option<usize>,
-    /// Texts of fields, by their numbers over the whole text. The fields of another panel that is shown have these, and no others;
-    /// on the same panel, fields without one keep what the operator left in them.
+    /// Texts of fields, by their numbers in the whole panel text. The fields of a panel that `panel` names have these
+    /// texts and no others; on the same panel, fields without one keep what the operator left in them.
     pub values: Values,
-    /// The text in the last row.
+    /// The text of the message in the last row.
     pub message: MessageText,
-    /// The number of the field that the cursor is to be in; if there is none, or the panel doesn't have it, the cursor is at the
-    /// panel's own place.
+    /// The number of the field that the cursor goes to; if there is none, or the panel doesn't have it, the cursor
+    /// goes to the panel's own place.
     pub cursor: Option<usize>,
 }
 

@@ -1,4 +1,4 @@
-//! What a host makes of the records of a terminal: data and responses.
+//! How the host takes a terminal's records: data and responses.
 ghost use Rattle.std.specs.Prelude.{◌≡◌, true, drop, IfNone, unwrap_or};
 ghost use Rattle.codes3270.specs.Size.{cells_in};
 ghost use Rattle.codes3270.specs.declared.attention.Aid.TheVariants.{Clear};
@@ -11,7 +11,7 @@ ghost use Rattle.shadow.specs.Exactness.{is_erase};
 ghost use Rattle.shadow.specs.Stores.{is_plain};
 ghost use Rattle.tn3270e_msg.specs.Header.{header_length};
 ghost use Rattle.host_core.specs.Items.{IsNoSecondKey, TakesData, TakesRecord, is_paint_or_read, may_be_second_key, second_key_size, verdict_of};
-ghost use Rattle.host_core.specs.Keeps.{IsPlainWrite, command_in, silent, step_of};
+ghost use Rattle.host_core.specs.Representation.{IsPlainWrite, command_in, silent, step_of};
 ghost use Rattle.host_core.specs.Parts.{IsWrite, key_data_in_turn, write_of};
 ghost use Rattle.host_core.specs.Takes.{believed, buffer_came, buffer_heard, data_came, form_awaited, hears, is_verified, key_data_came, once_read, out_of_turn, rule_broken_by, second_key, refused, response_came, verdict_came};
 
@@ -27,7 +27,7 @@ use shadow::laws::{what_is_believed_can_be_stored, what_is_believed_has_a_size};
 use shadow::{RuleBreak, Shadow};
 use tn3270e_msg::{Cause, DataType, HEADER_LENGTH, Header, POSITIVE, read_header};
 
-/// The screen of the key that was pressed last was read.
+/// The reason for the turn after a Read Buffer is answered: the last key's screen was read.
 fn once_read(turn_reason: TurnReason) -> TurnReason
     ensures { result ≡ once_read turn_reason }
 {
@@ -38,14 +38,14 @@ fn once_read(turn_reason: TurnReason) -> TurnReason
     }
 }
 
-/// Where the cursor is once data was sent: where that says, if it says it.
+/// The cursor's buffer address after data: the one in the data, or the previous one if the data has none.
 fn cursor_after(inbound: &Inbound<'_>, cursor: Addr) -> Addr
     ensures { result ≡ unwrap_or inbound.now.cursor cursor }
 {
     inbound.cursor().unwrap_or(cursor)
 }
 
-/// The write in a record, after its header; it leaves a screen of this size.
+/// The write in the record that was sent, after the header. It leaves a screen of this size.
 fn write_in(sent: &[u8], size: Size) -> Command<'_>
     requires { IsPlainWrite size (drop header_length sent.now) }
     ensures command { result ≡ command_in size (drop header_length sent.now) }
@@ -56,7 +56,7 @@ fn write_in(sent: &[u8], size: Size) -> Command<'_>
     read_command(&sent[HEADER_LENGTH..], size, size).unwrap()
 }
 
-/// Whether a write clears the screen first.
+/// Whether a write erases the screen first (Erase/Write or Erase/Write Alternate).
 fn is_erase(code: CommandCode) -> bool
     ensures { result ≡ is_erase code }
 {
@@ -67,12 +67,12 @@ fn is_erase(code: CommandCode) -> bool
 }
 
 impl Session {
-    /// Takes a record of a session that is agreed.
+    /// Takes a record, after the ends agreed.
     pub(crate) fn take_record(&mut self, bytes: &[u8]) -> AfterRecord
         ensures taken { TakesRecord self.old bytes.now (step_of self.new result) }
         ensures talk { self.new.talk ≡ self.old.talk }
         ensures panel { self.new.panel ≡ self.old.panel }
-        ensures shape { self.new.shape ≡ self.old.shape }
+        ensures size { self.new.size ≡ self.old.size }
     {
         let Ok((header, body)) = read_header(bytes) else {
             return AfterRecord::Closes(Cause::BadRecord);
@@ -84,12 +84,12 @@ impl Session {
         }
     }
 
-    /// Takes data, in the form that is awaited, or else as a second key's, if one may come.
+    /// Takes data in the awaited form. Data in another form may be a second key's, or else closes the connection.
     fn take_data(&mut self, body: &[u8]) -> AfterRecord
         ensures taken { TakesData self.old body.now (step_of self.new result) }
         ensures talk { self.new.talk ≡ self.old.talk }
         ensures panel { self.new.panel ≡ self.old.panel }
-        ensures shape { self.new.shape ≡ self.old.shape }
+        ensures size { self.new.size ≡ self.old.size }
     {
         match read_inbound(body, self.form_awaited(), self.size()) {
             Ok(inbound) => self.hear(&inbound),
@@ -97,20 +97,20 @@ impl Session {
         }
     }
 
-    /// Whether data that can't be read in the form that is awaited may be a second key's.
+    /// Whether data that isn't in the awaited form may be a second key's.
     fn may_be_second_key(&self) -> bool
         ensures { result ≡ may_be_second_key self.now }
     {
         self.unheard.may_have_changed() && self.pending.is_paint_or_read()
     }
 
-    /// Takes data that can't be read in the form that is awaited.
+    /// Takes data that isn't in the awaited form: a second key's is dropped, any other closes the connection.
     fn take_second_key(&mut self, body: &[u8]) -> AfterRecord
-        requires { (fault : InboundFault) × IsNoInbound self.old.shape (form_awaited self.old.pending) fault body.now }
+        requires { (fault : InboundFault) × IsNoInbound self.old.size (form_awaited self.old.pending) fault body.now }
         ensures taken { TakesData self.old body.now (step_of self.new result) }
         ensures talk { self.new.talk ≡ self.old.talk }
         ensures panel { self.new.panel ≡ self.old.panel }
-        ensures shape { self.new.shape ≡ self.old.shape }
+        ensures size { self.new.size ≡ self.old.size }
     {
         if !self.may_be_second_key() {
             return AfterRecord::Closes(Cause::BadInbound);
@@ -121,15 +121,14 @@ impl Session {
         }
     }
 
-    /// The size for which data is read: that of the screen now, whatever the terminal's model is.
+    /// The size by which data is read: that of the screen now, whatever the terminal's model is.
     fn size(&self) -> Size
-        ensures { result ≡ self.now.shape }
+        ensures { result ≡ self.now.size }
     {
         self.size
     }
 
-    /// The size by which a second key's data is read. While a paint is pending, the key may have been
-    /// pressed on a larger screen.
+    /// The size by which a second key's data is read: while a paint is pending, the screen before may have been larger.
     fn second_key_size(&self) -> Size
         ensures { result ≡ second_key_size self.now self.now.pending }
     {
@@ -139,7 +138,7 @@ impl Session {
         }
     }
 
-    /// The form in which data is read.
+    /// The form in which data is read: the whole screen while Read Buffer waits for its answer, else modified fields.
     fn form_awaited(&self) -> Form
         ensures { result ≡ form_awaited self.now.pending }
     {
@@ -151,13 +150,13 @@ impl Session {
 
     // ---- data
 
-    /// Hears data: the answer to a read, or that of a key in the terminal's turn.
+    /// Takes data in the awaited form: the answer to a read, a key's in the terminal's turn, or data out of turn.
     fn hear(&mut self, inbound: &Inbound<'_>) -> AfterRecord
-        requires { inbound.now.size ≡ self.old.shape }
+        requires { inbound.now.size ≡ self.old.size }
         ensures came { step_of self.new result ≡ data_came inbound.now self.old.turn self.old.pending self.old }
         ensures talk { self.new.talk ≡ self.old.talk }
         ensures panel { self.new.panel ≡ self.old.panel }
-        ensures shape { self.new.shape ≡ self.old.shape }
+        ensures size { self.new.size ≡ self.old.size }
     {
         match self.pending {
             Pending::Reading(_) => self.hear_meanwhile(inbound),
@@ -167,12 +166,12 @@ impl Session {
         }
     }
 
-    /// Hears data that comes out of turn: a second key's is dropped, if the host doesn't rely on the terminal's wait.
+    /// Takes data out of turn: a second key's is dropped, unless the host relies on the terminal's wait.
     fn hear_out_of_turn(&mut self, inbound: &Inbound<'_>) -> AfterRecord
         ensures came { step_of self.new result ≡ out_of_turn inbound.now self.old }
         ensures talk { self.new.talk ≡ self.old.talk }
         ensures panel { self.new.panel ≡ self.old.panel }
-        ensures shape { self.new.shape ≡ self.old.shape }
+        ensures size { self.new.size ≡ self.old.size }
     {
         if !self.unheard.may_have_changed() {
             return AfterRecord::Closes(Cause::BadInbound);
@@ -184,12 +183,12 @@ impl Session {
         }
     }
 
-    /// Drops a second key.
+    /// Drops the data of a second key. Data without a key closes the connection.
     fn drop_key(&mut self, aid: Aid) -> AfterRecord
         ensures came { step_of self.new result ≡ second_key aid self.old.pending self.old }
         ensures talk { self.new.talk ≡ self.old.talk }
         ensures panel { self.new.panel ≡ self.old.panel }
-        ensures shape { self.new.shape ≡ self.old.shape }
+        ensures size { self.new.size ≡ self.old.size }
     {
         match aid {
             Aid::NoAid => AfterRecord::Closes(Cause::BadInbound),
@@ -200,12 +199,13 @@ impl Session {
         }
     }
 
-    /// Drops the Clear key: nothing of the screen may be believed when a panel is shown. It is too late if a command is on its way.
+    /// Drops a Clear key: nothing is believed of the screen when a panel is shown next. If a command waits for its
+    /// answer it is too late for that, and the connection closes.
     fn drop_clear(&mut self) -> AfterRecord
         ensures came { step_of self.new result ≡ second_key Clear self.old.pending self.old }
         ensures talk { self.new.talk ≡ self.old.talk }
         ensures panel { self.new.panel ≡ self.old.panel }
-        ensures shape { self.new.shape ≡ self.old.shape }
+        ensures size { self.new.size ≡ self.old.size }
     {
         match self.pending {
             Pending::Nothing => {
@@ -218,14 +218,14 @@ impl Session {
         }
     }
 
-    /// Hears data while a read is pending: its answer, or else a second key's.
+    /// Takes data while Read Buffer waits for its answer: the answer, or data out of turn.
     fn hear_meanwhile(&mut self, inbound: &Inbound<'_>) -> AfterRecord
-        requires size { inbound.now.size ≡ self.old.shape }
-        requires known { IsOfSize (cells_in self.old.shape) self.old.shadow }
+        requires size { inbound.now.size ≡ self.old.size }
+        requires known { IsOfSize (cells_in self.old.size) self.old.shadow }
         ensures came { step_of self.new result ≡ buffer_came inbound.now inbound.now.form self.old }
         ensures talk { self.new.talk ≡ self.old.talk }
         ensures panel { self.new.panel ≡ self.old.panel }
-        ensures shape { self.new.shape ≡ self.old.shape }
+        ensures size { self.new.size ≡ self.old.size }
     {
         match inbound.form() {
             Form::Buffer => self.take_buffer(inbound),
@@ -234,14 +234,14 @@ impl Session {
         }
     }
 
-    /// Hears data while nothing but a note waits for an answer: a key's, in the terminal's turn; in the host's it is out of turn.
+    /// Takes data while no paint or read is pending: in the terminal's turn a key's, in the host's out of turn.
     fn hear_in_turn(&mut self, inbound: &Inbound<'_>) -> AfterRecord
-        requires size { inbound.now.size ≡ self.old.shape }
-        requires known { IsOfSize (cells_in self.old.shape) self.old.shadow }
+        requires size { inbound.now.size ≡ self.old.size }
+        requires known { IsOfSize (cells_in self.old.size) self.old.shadow }
         ensures came { step_of self.new result ≡ key_data_in_turn inbound.now self.old.turn self.old }
         ensures talk { self.new.talk ≡ self.old.talk }
         ensures panel { self.new.panel ≡ self.old.panel }
-        ensures shape { self.new.shape ≡ self.old.shape }
+        ensures size { self.new.size ≡ self.old.size }
     {
         match self.turn {
             Turn::Host => self.hear_out_of_turn(inbound),
@@ -249,15 +249,15 @@ impl Session {
         }
     }
 
-    /// Takes the whole screen: it is believed, unless it shows that the terminal broke a rule.
+    /// Takes the answer to Read Buffer: it is believed, unless it shows that the terminal broke a rule.
     fn take_buffer(&mut self, inbound: &Inbound<'_>) -> AfterRecord
         requires form { inbound.now.form ≡ Buffer }
-        requires size { inbound.now.size ≡ self.old.shape }
-        requires known { IsOfSize (cells_in self.old.shape) self.old.shadow }
+        requires size { inbound.now.size ≡ self.old.size }
+        requires known { IsOfSize (cells_in self.old.size) self.old.shadow }
         ensures came { step_of self.new result ≡ buffer_came inbound.now Buffer self.old }
         ensures talk { self.new.talk ≡ self.old.talk }
         ensures panel { self.new.panel ≡ self.old.panel }
-        ensures shape { self.new.shape ≡ self.old.shape }
+        ensures size { self.new.size ≡ self.old.size }
     {
         match self.rule_broken_by(inbound) {
             Some(broken) => AfterRecord::Breaks(broken),
@@ -265,18 +265,18 @@ impl Session {
         }
     }
 
-    /// Whether the host verifies that the terminal keeps the rules. It doesn't once the screen was cleared out of turn.
+    /// Whether the host verifies that the terminal keeps the rules: not after the screen was cleared out of turn.
     pub(crate) fn is_verified(&self) -> bool
         ensures { result ≡ is_verified self.now }
     {
         self.verifies && self.unheard.may_be_read()
     }
 
-    /// The rule that the whole screen shows to be broken, if the host verifies that.
+    /// The rule that the answer to Read Buffer shows to be broken, if the host verifies that.
     fn rule_broken_by(&self, inbound: &Inbound<'_>) -> Option<RuleBreak>
         requires form { inbound.now.form ≡ Buffer }
-        requires size { inbound.now.size ≡ self.now.shape }
-        requires known { IsOfSize (cells_in self.now.shape) self.now.shadow }
+        requires size { inbound.now.size ≡ self.now.size }
+        requires known { IsOfSize (cells_in self.now.size) self.now.shadow }
         ensures { result ≡ rule_broken_by inbound.now self.now }
     {
         if self.is_verified() {
@@ -286,15 +286,15 @@ impl Session {
         }
     }
 
-    /// Hears the whole screen.
+    /// Believes the answer to Read Buffer, after which no command waits.
     fn hear_buffer(&mut self, inbound: &Inbound<'_>) -> Option<Cause>
         requires form { inbound.now.form ≡ Buffer }
-        requires size { inbound.now.size ≡ self.old.shape }
-        requires known { IsOfSize (cells_in self.old.shape) self.old.shadow }
+        requires size { inbound.now.size ≡ self.old.size }
+        requires known { IsOfSize (cells_in self.old.size) self.old.shadow }
         ensures came { silent self.new result ≡ buffer_heard inbound.now self.old }
         ensures talk { self.new.talk ≡ self.old.talk }
         ensures panel { self.new.panel ≡ self.old.panel }
-        ensures shape { self.new.shape ≡ self.old.shape }
+        ensures size { self.new.size ≡ self.old.size }
     {
         let cause = self.believe(inbound, once_read(self.turn_reason));
         if cause.is_none() {
@@ -303,14 +303,14 @@ impl Session {
         cause
     }
 
-    /// Hears what a key sends.
+    /// Takes a key's data in the terminal's turn, which makes the turn the host's.
     fn hear_key(&mut self, inbound: &Inbound<'_>) -> Option<Cause>
-        requires size { inbound.now.size ≡ self.old.shape }
-        requires known { IsOfSize (cells_in self.old.shape) self.old.shadow }
+        requires size { inbound.now.size ≡ self.old.size }
+        requires known { IsOfSize (cells_in self.old.size) self.old.shadow }
         ensures came { silent self.new result ≡ key_data_came inbound.now inbound.now.form self.old }
         ensures talk { self.new.talk ≡ self.old.talk }
         ensures panel { self.new.panel ≡ self.old.panel }
-        ensures shape { self.new.shape ≡ self.old.shape }
+        ensures size { self.new.size ≡ self.old.size }
     {
         let Form::Modified = inbound.form() else {
             return Some(Cause::BadInbound);
@@ -321,15 +321,16 @@ impl Session {
         }
     }
 
-    /// Hears inbound data, so that the turn is the host's for this reason; what waits for an answer still does.
+    /// Believes inbound data, and makes the turn the host's for this reason. What is pending stays so.
     fn believe(&mut self, inbound: &Inbound<'_>, turn_reason: TurnReason) -> Option<Cause>
-        requires size { inbound.now.size ≡ self.old.shape }
-        requires known { IsOfSize (cells_in self.old.shape) self.old.shadow }
-        ensures came { silent self.new result ≡ believed turn_reason self.old.pending inbound.now.cursor self.old (hears inbound.now self.old) }
+        requires size { inbound.now.size ≡ self.old.size }
+        requires known { IsOfSize (cells_in self.old.size) self.old.shadow }
+        ensures came { silent self.new result
+            ≡ believed turn_reason self.old.pending inbound.now.cursor self.old (hears inbound.now self.old) }
         ensures talk { self.new.talk ≡ self.old.talk }
         ensures panel { self.new.panel ≡ self.old.panel }
-        ensures shape { self.new.shape ≡ self.old.shape }
-        ensures known { IfNone result (IsOfSize (cells_in self.new.shape) self.new.shadow) }
+        ensures size { self.new.size ≡ self.old.size }
+        ensures known { IfNone result (IsOfSize (cells_in self.new.size) self.new.shadow) }
     {
         // What is sent can be stored, and so what is believed of it; and that has its size.
         what_is_believed_can_be_stored();
@@ -348,12 +349,13 @@ impl Session {
 
     // ---- responses
 
-    /// Takes a response: it has to answer what is pending.
+    /// Takes a response, which must answer the pending command; to a read it can only be a refusal.
     fn take_response(&mut self, header: &Header) -> Option<Cause>
-        ensures came { silent self.new result ≡ response_came header.now.seq (verdict_of header.now.flag) self.old.pending self.old }
+        ensures came { silent self.new result
+            ≡ response_came header.now.seq (verdict_of header.now.flag) self.old.pending self.old }
         ensures talk { self.new.talk ≡ self.old.talk }
         ensures panel { self.new.panel ≡ self.old.panel }
-        ensures shape { self.new.shape ≡ self.old.shape }
+        ensures size { self.new.size ≡ self.old.size }
     {
         match self.pending {
             Pending::Nothing => Some(Cause::BadResponse),
@@ -373,13 +375,13 @@ impl Session {
         }
     }
 
-    /// Takes what is said of the write that is pending.
+    /// Takes the response to the pending write.
     fn take_verdict(&mut self, flag: u8) -> Option<Cause>
         requires { IsWrite self.old.pending }
         ensures came { silent self.new result ≡ verdict_came (write_of self.old.pending) (verdict_of flag) self.old }
         ensures talk { self.new.talk ≡ self.old.talk }
         ensures panel { self.new.panel ≡ self.old.panel }
-        ensures shape { self.new.shape ≡ self.old.shape }
+        ensures size { self.new.size ≡ self.old.size }
     {
         what_is_believed_can_be_stored();
         let command = write_in(&self.sent, self.size);
@@ -395,7 +397,7 @@ impl Session {
         None
     }
 
-    /// Forgets what was believed: the command that is pending was refused.
+    /// Handles the refusal of the pending command: nothing of the screen is known, and the turn is the host's.
     fn refuse(&mut self)
         ensures { self.new ≡ refused self.old }
     {

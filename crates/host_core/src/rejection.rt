@@ -13,13 +13,13 @@ use tn3270e_msg::{Lu, Name, OwnedMessage, Reason, Reply, SubMessage, read_sub};
 /// A DEVICE-TYPE REQUEST that the host rejected (RFC 1647, section 7).
 #[derive(Clone, Copy)]
 pub struct Rejection {
-    /// The LU that was asked for: None if no name was given, or if it isn't the name of an LU.
+    /// The LU that the request names with CONNECT; None if it names none, or if the name isn't that of an LU.
     pub lu: Option<Lu>,
     /// Why the request was rejected.
     pub reason: Reason,
 }
 
-// This fills the room that isn't used.
+// Fills the unused slots of an array of rejections.
 impl Default for Rejection {
     fn default() -> Rejection {
         Rejection {
@@ -29,7 +29,7 @@ impl Default for Rejection {
     }
 }
 
-/// The LU of this name.
+/// The LU that CONNECT names; None after ASSOCIATE, if no name is given, or if it isn't the name of an LU.
 fn lu_named(name: Option<Name<'_>>) -> Option<Lu>
     ensures { result ≡ lu_named (name_of name.entry) }
 {
@@ -98,7 +98,8 @@ fn reason_in(reply: &Reply) -> Option<Reason>
 
 /// Keeps the rejection of what an item asks for, if this reply to the item rejects it.
 pub(crate) fn keep_rejection(reports: &mut Reports, reply: &Reply, item: &Item<'_>)
-    ensures { (comes : Comes) → Hears (item_of item.now) comes → reports.new ≡ reported (rejection_by (lu_asked comes) reply.now) None None reports.old }
+    ensures { (comes : Comes) → Hears (item_of item.now) comes
+        → reports.new ≡ reported (rejection_by (lu_asked comes) reply.now) None None reports.old }
 {
     match reason_in(reply) {
         Some(reason) => reports.keep_rejection(lu_asked(item), reason),

@@ -1,4 +1,4 @@
-//! What a connection keeps until it is reported.
+//! The events that a connection keeps until they are reported.
 ghost use Rattle.std.specs.Prelude.{◌≡◌, None, Some, false};
 ghost use Rattle.host_core.specs.Reports.{events_of, kept_with, newly_bound, no_reports, oldest, reported, with_bound, with_shown, without_oldest};
 
@@ -11,11 +11,11 @@ use shadow::RuleBreak;
 use std::marker::Model;
 use tn3270e_msg::{Lu, Reason};
 
-/// The most rejections, and the most keys: a talk sends no more rejections.
+/// The most rejections, and the most dropped keys, that are kept. A negotiation sends no more rejections.
 const MOST_REPORTS: usize = 8;
 
-/// What happened on a connection and wasn't reported yet: requests for an LU that were rejected, and keys that were dropped, the
-/// oldest first; the LU that the terminal was bound to, the rule that it broke, and whether a screen was shown.
+/// The unreported events of a connection: rejected requests for an LU and dropped keys, each the oldest first; the LU
+/// that the terminal was bound to, the rule that it broke, and whether a screen was shown.
 #[derive(Drop)]
 pub(crate) struct Reports {
     rejections: ArrayVec<Rejection, MOST_REPORTS>,
@@ -26,14 +26,20 @@ pub(crate) struct Reports {
 }
 
 impl Model for Reports {
-    ghost use Rattle.host_core.specs.Reports.{Reports as Kept};
+    ghost use Rattle.host_core.specs.Reports.{Reports as ReportsValue};
 
-    ghost Value = { Kept };
+    ghost Value = { ReportsValue };
 
-    ghost view = { λ reports. record { rejections = reports.rejections.items; bound = reports.bound; dropped_keys = reports.dropped_keys.items; rule_break = reports.rule_break; shown = reports.shown } };
+    ghost view = { λ reports. record {
+      rejections = reports.rejections.items;
+      bound = reports.bound;
+      dropped_keys = reports.dropped_keys.items;
+      rule_break = reports.rule_break;
+      shown = reports.shown;
+    } };
 }
 
-/// Keeps a rejection behind the others.
+/// Adds a rejection at the end, unless there are 8.
 fn add_rejection(rejections: &mut ArrayVec<Rejection, MOST_REPORTS>, lu: Option<Lu>, reason: Reason)
     ensures { rejections.new.items ≡ kept_with (Some (record { lu = lu; reason = reason })) rejections.old.items }
 {
@@ -42,7 +48,7 @@ fn add_rejection(rejections: &mut ArrayVec<Rejection, MOST_REPORTS>, lu: Option<
     }
 }
 
-/// Keeps a dropped key behind the others.
+/// Adds a dropped key at the end, unless there are 8.
 fn add_dropped_key(dropped_keys: &mut ArrayVec<DroppedKey, MOST_REPORTS>, aid: Aid)
     ensures { dropped_keys.new.items ≡ kept_with (Some (record { aid = aid })) dropped_keys.old.items }
 {
@@ -52,7 +58,7 @@ fn add_dropped_key(dropped_keys: &mut ArrayVec<DroppedKey, MOST_REPORTS>, aid: A
 }
 
 impl Reports {
-    /// There are none.
+    /// No events.
     pub(crate) fn new() -> Reports
         ensures { result ≡ no_reports }
     {
@@ -95,14 +101,14 @@ impl Reports {
         }
     }
 
-    /// Keeps that a screen was shown, if it was.
+    /// Records that a screen was shown, if `shown` is set.
     pub(crate) fn keep_shown(&mut self, shown: bool)
         ensures { self.new ≡ with_shown shown self.old }
     {
         self.shown = shown || self.shown;
     }
 
-    /// Removes the oldest rejection, and hands it out.
+    /// Removes and returns the oldest rejection.
     fn next_rejection(&mut self) -> Option<Rejection>
         ensures next { result ≡ oldest self.old.rejections }
         ensures removed { self.new ≡ record self.old { rejections = without_oldest self.old.rejections } }
@@ -110,7 +116,7 @@ impl Reports {
         self.rejections.pop_at(0)
     }
 
-    /// Removes the LU that the terminal was bound to, and hands it out.
+    /// Removes and returns the LU that the terminal was bound to.
     fn next_bound(&mut self) -> Option<Lu>
         ensures next { result ≡ self.old.bound }
         ensures removed { self.new ≡ record self.old { bound = None } }
@@ -118,7 +124,7 @@ impl Reports {
         std::mem::replace(&mut self.bound, None)
     }
 
-    /// Removes the oldest dropped key, and hands it out.
+    /// Removes and returns the oldest dropped key.
     fn next_dropped_key(&mut self) -> Option<DroppedKey>
         ensures next { result ≡ oldest self.old.dropped_keys }
         ensures removed { self.new ≡ record self.old { dropped_keys = without_oldest self.old.dropped_keys } }
@@ -126,7 +132,7 @@ impl Reports {
         self.dropped_keys.pop_at(0)
     }
 
-    /// Removes the rule that the terminal broke, and hands it out.
+    /// Removes and returns the rule that the terminal broke.
     fn next_rule_break(&mut self) -> Option<RuleBreak>
         ensures next { result ≡ self.old.rule_break }
         ensures removed { self.new ≡ record self.old { rule_break = None } }
@@ -142,7 +148,7 @@ impl Reports {
         std::mem::replace(&mut self.shown, false)
     }
 
-    /// Removes what is handed out next, and hands it out: rejections, the LU, keys, the rule, the screen.
+    /// Removes and returns the next event: rejections come first, then the LU, keys, the rule, the screen.
     pub(crate) fn next_event(&mut self) -> Option<HostEvent>
         ensures next { result ≡ oldest (events_of self.old) }
         ensures removed { events_of self.new ≡ without_oldest (events_of self.old) }
@@ -165,7 +171,7 @@ impl Reports {
         None
     }
 
-    /// Forgets all.
+    /// Drops all events.
     pub(crate) fn clear(&mut self)
         ensures { self.new ≡ no_reports }
     {

@@ -12,22 +12,23 @@ use tn3270e_msg::Stop;
 /// The length of the buffer that [`serve_turn`] reads into, in bytes (our profile).
 pub const READ_ROOM: usize = 4096;
 
-/// What became of a connection in a turn.
+/// What became of a connection in a turn of serving (our profile).
 #[derive(Clone, Copy, Debug, PartialEq, Eq)]
 pub enum Served {
-    /// It goes on.
+    /// The connection goes on.
     Going,
-    /// It ended, failed or was closed: its number can be given up.
+    /// The connection ended, failed or was closed: the caller may free its number by [`Host::closed`].
     Lost,
-    /// Memory was refused.
+    /// Memory was refused: the bytes that were read and not taken are lost.
     Memory,
 }
 
-/// Hands what there is to send to one write, and answers whether that didn't fail.
+/// Hands the connection's output to one write, if there is any. Answers false if the write failed.
 fn send_out<L: Links>(host: &mut Host, links: &mut L, conn: usize) -> bool
     requires number { conn < most_connections }
     ensures sends { SendsOut L.gave L.took conn host.old links.old host.new links.new }
-    ensures counts { SendCounts conn result (L.ends links.old) (L.ends links.new) (L.failures links.old) (L.failures links.new) }
+    ensures counts { SendCounts conn result (L.ends links.old) (L.ends links.new) (L.failures links.old)
+        (L.failures links.new) }
     ensures phase { phase_of (service_at conn host.new) ≡ phase_of (service_at conn host.old) }
 {
     if host.out(conn).is_empty() {
@@ -43,10 +44,11 @@ fn send_out<L: Links>(host: &mut Host, links: &mut L, conn: usize) -> bool
     }
 }
 
-/// Reads a connection once, and answers how many bytes came; None if it is over.
+/// Reads a connection once, and answers how many bytes were read; None if the connection ended or failed.
 fn receive<L: Links>(links: &mut L, conn: usize, buffer: &mut [u8]) -> Option<usize>
     ensures receives { Receives L.gave L.took conn links.old buffer.new result links.new }
-    ensures counts { ReceiveCounts conn result (L.ends links.old) (L.ends links.new) (L.failures links.old) (L.failures links.new) }
+    ensures counts { ReceiveCounts conn result (L.ends links.old) (L.ends links.new) (L.failures links.old)
+        (L.failures links.new) }
 {
     match links.read(conn, buffer) {
         LinkRead::Got(count) => Some(count),
@@ -56,7 +58,7 @@ fn receive<L: Links>(links: &mut L, conn: usize, buffer: &mut [u8]) -> Option<us
     }
 }
 
-/// Feeds the host the bytes, and has it act. Answers false if memory was refused.
+/// Feeds the host the bytes, and lets it act. Answers false if memory was refused.
 fn respond(host: &mut Host, conn: usize, bytes: &[u8]) -> bool
     requires number { conn < most_connections }
     ensures { Responds conn host.old bytes.now result host.new }
@@ -71,15 +73,16 @@ fn respond(host: &mut Host, conn: usize, bytes: &[u8]) -> bool
     }
 }
 
-/// Reads a connection once, into a buffer of [`READ_ROOM`] bytes, and feeds the host what it read; then the host acts, and what
-/// there is to send is handed to one write. If the read ended or failed, nothing else is done.
+/// Serves a connection, whose number must be below 64, for a turn: reads it once, into a buffer of [`READ_ROOM`] bytes,
+/// feeds the host, lets it act, and hands the output to one write. If the read ended or failed, nothing else is done.
 ///
-/// Lost where the read or the write ended or failed, or the connection is closed. After Memory what was read and not taken is
-/// gone. No other connection changes.
+/// Lost if the read or the write ended or failed, or if the connection is closed. After Memory, bytes that were read
+/// and not taken are lost. No other connection changes.
 pub fn serve_turn<L: Links>(host: &mut Host, links: &mut L, conn: usize) -> Served
     requires number { conn < most_connections }
     ensures serves { Serves L.gave L.took conn host.old links.old result host.new links.new }
-    ensures lost { result ≢ served.Memory → (result ≡ served.Lost) ↔ IsLost conn (L.ends links.old) (L.ends links.new) (L.failures links.old) (L.failures links.new) (phase_of (service_at conn host.new)) }
+    ensures lost { result ≢ served.Memory → (result ≡ served.Lost) ↔ IsLost conn (L.ends links.old) (L.ends links.new)
+        (L.failures links.old) (L.failures links.new) (phase_of (service_at conn host.new)) }
     ensures ends { OthersCount conn (L.ends links.old) (L.ends links.new) }
     ensures failures { OthersCount conn (L.failures links.old) (L.failures links.new) }
 {

@@ -7,8 +7,8 @@ use std::alloc::Global;
 use std::marker::Model;
 use telnet_wire::Memory;
 
-/// Which session each connection number was opened for last, and the number of the next session. Connection numbers are used
-/// again, the numbers of sessions are not.
+/// The session that each connection number was last opened for, and the number of the next session. Connection
+/// numbers are used again, session numbers are not.
 #[derive(Drop)]
 pub(crate) struct Sessions {
     latest: Vec<u64>,
@@ -17,9 +17,9 @@ pub(crate) struct Sessions {
 
 impl Model for Sessions {
     ghost use Rattle.std.specs.Prelude.{◌≡◌, length};
-    ghost use Rattle.host_core.specs.State.{Sessions as Count, most_connections};
+    ghost use Rattle.host_core.specs.State.{Sessions as SessionsValue, most_connections};
 
-    ghost Value = { Count };
+    ghost Value = { SessionsValue };
 
     ghost view = { λ sessions. record { latest = sessions.latest.items; next = sessions.next } };
 
@@ -27,7 +27,7 @@ impl Model for Sessions {
 }
 
 impl Sessions {
-    /// None is counted yet.
+    /// The count at the beginning: no session is counted.
     pub(crate) fn new(alloc: Global) -> Result<Sessions, Memory>
         ensures { IfOk result (λ sessions. sessions ≡ no_sessions) }
     {
@@ -35,20 +35,20 @@ impl Sessions {
         Ok(Sessions { latest, next: 0 })
     }
 
-    /// A connection number is opened for the next session.
-    pub(crate) fn count(&mut self, number: usize)
-        requires { number < most_connections }
-        ensures { self.new ≡ counted number self.old }
+    /// Counts a session, for which this connection number is opened.
+    pub(crate) fn count(&mut self, conn: usize)
+        requires { conn < most_connections }
+        ensures { self.new ≡ counted conn self.old }
     {
-        self.latest[number] = self.next;
+        self.latest[conn] = self.next;
         self.next = self.next.wrapping_add(1);
     }
 
-    /// The session that a connection number was opened for last.
-    pub(crate) fn at(&self, number: usize) -> u64
-        requires { number < most_connections }
-        ensures { result ≡ slice_index_or self.now.latest number 0 }
+    /// The session that this connection number was last opened for; 0 if it never was.
+    pub(crate) fn at(&self, conn: usize) -> u64
+        requires { conn < most_connections }
+        ensures { result ≡ slice_index_or self.now.latest conn 0 }
     {
-        self.latest[number]
+        self.latest[conn]
     }
 }

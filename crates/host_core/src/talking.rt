@@ -1,4 +1,4 @@
-//! What a host makes of what the stream hands out: the talk's part of it, and records.
+//! How the host takes the items of the Telnet stream: the negotiation's, and records.
 ghost use Rattle.std.specs.Prelude.{◌≡◌, ◌≤◌, IfNone, None};
 ghost use Rattle.std.specs.Vec.{vec_capacity};
 ghost use Rattle.lu_pool.specs.Asking.{answer_to};
@@ -7,10 +7,10 @@ ghost use Rattle.lu_pool.specs.Pool.{HoldsNone};
 ghost use Rattle.telnet_wire.specs.Items.{item_of};
 ghost use Rattle.tn3270e_msg.specs.HostTable.{granted};
 ghost use Rattle.tn3270e_msg.specs.Writing.{HasRoomForReply};
-ghost use Rattle.host_core.specs.Keeps.{ItemTaken, OthersHold, step_of};
+ghost use Rattle.host_core.specs.Representation.{ItemTaken, OthersHold, step_of};
 ghost use Rattle.host_core.specs.Parts.{TalkTaken};
 ghost use Rattle.host_core.specs.Reports.{reported};
-ghost use Rattle.host_core.specs.Session.{Conn};
+ghost use Rattle.host_core.specs.Session.{Session as SessionValue};
 ghost use Rattle.host_core.specs.Sound.{HoldsJust};
 ghost use Rattle.host_core.specs.Takes.{granted_by};
 
@@ -22,28 +22,29 @@ use lu_pool::Pool;
 use telnet_wire::Item;
 use tn3270e_msg::{Cause, HostTalk, Lu, Reason, Reply, put_reply};
 
-/// Takes what the stream hands out to the connection with this number, and answers the cause by which it closes, if it does; its
-/// LU is still held then.
+/// Takes an item of the connection's stream, and answers the cause if it closes the connection; its LU is still held
+/// then. Records before agreement are dropped.
 pub(crate) fn take_item(
     pool: &mut Pool,
-    number: usize,
+    conn: usize,
     session: &mut Session,
     out: &mut Vec<u8>,
     reports: &mut Reports,
     item: &Item<'_>,
 ) -> Option<Cause>
     requires room { HasRoomForReply out.old }
-    requires holder { HoldsJust number pool.old (granted session.old.talk.state) }
-    ensures taken { ItemTaken number pool.old session.old (item_of item.now) out.old out.new result pool.new session.new reports.old reports.new }
-    ensures holds { IfNone result (HoldsJust number pool.new (granted session.new.talk.state)) }
-    ensures others { OthersHold number pool.old pool.new }
+    requires holder { HoldsJust conn pool.old (granted session.old.talk.state) }
+    ensures taken { ItemTaken conn pool.old session.old
+        (item_of item.now) out.old out.new result pool.new session.new reports.old reports.new }
+    ensures holds { IfNone result (HoldsJust conn pool.new (granted session.new.talk.state)) }
+    ensures others { OthersHold conn pool.old pool.new }
     ensures panel { session.new.panel ≡ session.old.panel }
-    ensures shape { session.new.shape ≡ session.old.shape }
+    ensures size { session.new.size ≡ session.old.size }
     ensures capacity { vec_capacity out.old ≤ vec_capacity out.new }
 {
     let Item::Record(bytes) = item else {
         let before = session.lu();
-        let closes = talk_on(pool, number, &mut session.talk, out, reports, item);
+        let closes = talk_on(pool, conn, &mut session.talk, out, reports, item);
         reports.keep_bound(before, session.lu());
         return closes;
     };
@@ -55,11 +56,11 @@ pub(crate) fn take_item(
     }
 }
 
-/// Keeps the key that a record drops, or the rule that it shows to be broken, if it does, and answers the cause by which the record
-/// closes the connection, if it does.
+/// Records a dropped key or a broken rule for a report, and answers the cause if the record closes the connection.
 fn keep_report(reports: &mut Reports, after: AfterRecord) -> Option<Cause>
-    ensures closes { (conn : Conn) → result ≡ (step_of conn after).closes }
-    ensures kept { (conn : Conn) → reports.new ≡ reported None (step_of conn after).drops (step_of conn after).breaks reports.old }
+    ensures closes { (conn : SessionValue) → result ≡ (step_of conn after).closes }
+    ensures kept { (conn : SessionValue)
+        → reports.new ≡ reported None (step_of conn after).drops (step_of conn after).breaks reports.old }
 {
     match after {
         AfterRecord::GoesOn => None,
@@ -75,26 +76,26 @@ fn keep_report(reports: &mut Reports, after: AfterRecord) -> Option<Cause>
     }
 }
 
-/// Goes on with the talk by an item, and answers the cause by which the talk closes, if it does. The rejection of a request is
-/// kept.
+/// Takes an item of the negotiation, keeps a rejection for a report, and answers the cause if the connection closes.
 fn talk_on(
     pool: &mut Pool,
-    number: usize,
+    conn: usize,
     talk: &mut HostTalk,
     out: &mut Vec<u8>,
     reports: &mut Reports,
     item: &Item<'_>,
 ) -> Option<Cause>
     requires room { HasRoomForReply out.old }
-    requires holder { HoldsJust number pool.old (granted talk.old.state) }
-    ensures taken { TalkTaken number pool.old talk.old (item_of item.now) out.old out.new result pool.new talk.new reports.old reports.new }
-    ensures holds { IfNone result (HoldsJust number pool.new (granted talk.new.state)) }
-    ensures others { OthersHold number pool.old pool.new }
+    requires holder { HoldsJust conn pool.old (granted talk.old.state) }
+    ensures taken { TalkTaken conn pool.old talk.old
+        (item_of item.now) out.old out.new result pool.new talk.new reports.old reports.new }
+    ensures holds { IfNone result (HoldsJust conn pool.new (granted talk.new.state)) }
+    ensures others { OthersHold conn pool.old pool.new }
     ensures capacity { vec_capacity out.old ≤ vec_capacity out.new }
 {
     match talk.take(item) {
         Reply::AskPool(name) => {
-            let answer = ask(pool, number, &name);
+            let answer = ask(pool, conn, &name);
             let reply = talk.answered(answer);
             keep_rejection(reports, &reply, item);
             put_reply(out, &reply)
@@ -106,16 +107,16 @@ fn talk_on(
     }
 }
 
-/// Asks the pool for an LU, of this name if there is one.
-fn ask(pool: &mut Pool, number: usize, name: &Option<Lu>) -> Result<Lu, Reason>
-    requires { HoldsNone pool.old number }
+/// Asks the pool for the LU of this name, or for any if there is no name.
+fn ask(pool: &mut Pool, conn: usize, name: &Option<Lu>) -> Result<Lu, Reason>
+    requires { HoldsNone pool.old conn }
     ensures answer { result ≡ answer_to pool.old name.now }
-    ensures becomes { pool.new ≡ granted_if number (granted_by result) pool.old }
-    ensures holds { HoldsJust number pool.new (granted_by result) }
-    ensures others { OthersHold number pool.old pool.new }
+    ensures becomes { pool.new ≡ granted_if conn (granted_by result) pool.old }
+    ensures holds { HoldsJust conn pool.new (granted_by result) }
+    ensures others { OthersHold conn pool.old pool.new }
 {
     match name {
-        Some(lu) => pool.ask(number, Some(lu.as_bytes())),
-        None => pool.ask(number, None),
+        Some(lu) => pool.ask(conn, Some(lu.as_bytes())),
+        None => pool.ask(conn, None),
     }
 }

@@ -3,19 +3,20 @@ ghost use Rattle.host_core.specs.Session.{are_verified, unheard_of};
 
 use crate::unheard::Unheard;
 
-/// Which terminals a host serves (our profile). Contracts speak of it: what the host believes when it shows a panel follows from it.
+/// Which terminals a host serves (our profile). What the host believes when it shows a panel depends on it.
 #[derive(Clone, Copy, Debug, PartialEq, Eq)]
 pub enum Terminals {
-    /// Those that wait: after a key that sends, the operator can change nothing until a command restores the keyboard.
+    /// Terminals that wait: after a key that sends data, nothing can be changed until a command restores the keyboard.
     Waiting,
-    /// Any: that wait may end before, as by x3270's Reset, so that input is changed and keys are pressed in it.
+    /// Any terminals: the wait may end early, as by x3270's Reset; then input changes or a second key is pressed.
     Any,
-    /// Any, and the host verifies that they keep the rules: it reads the whole screen before it answers a key.
+    /// Any terminals; to verify that they keep the rules ([`RuleBreak`](crate::RuleBreak)), the host reads the whole
+    /// screen before it answers any key but Clear.
     Verified,
 }
 
 impl Terminals {
-    /// What may have happened to a screen, unheard, from the begin of a connection on.
+    /// What may have happened to a screen, unknown to the host, from the beginning of a connection on.
     pub(crate) fn unheard(self) -> Unheard
         ensures { result ≡ unheard_of self }
     {
@@ -25,7 +26,7 @@ impl Terminals {
         }
     }
 
-    /// Whether the host verifies that they keep the rules.
+    /// Whether the host verifies that these terminals keep the rules.
     pub(crate) fn are_verified(self) -> bool
         ensures { result ≡ are_verified self }
     {

@@ -1,12 +1,12 @@
 use codes3270::Aid;
 
-/// Why the host holds the turn (our profile). Contracts speak of it: what the host does follows from it.
+/// Why it is the host's turn (our profile). What the host does then depends on it.
 #[derive(Clone, Copy, Debug, PartialEq, Eq)]
 pub enum TurnReason {
-    /// The session was agreed.
+    /// The ends agreed on a session.
     Agreement,
-    /// A key was pressed; whether its screen was read since, by Read Buffer.
+    /// A key was pressed; the flag says whether its screen was read since, by Read Buffer.
     Key(Aid, bool),
-    /// The last command was refused.
+    /// The terminal refused the last command, by a negative response.
     Refusal,
 }

@@ -1,8 +1,8 @@
 ghost use Rattle.std.specs.Prelude.{◌≡◌};
 ghost use Rattle.host_core.specs.Takes.{may_be_read, may_have_changed};
 
-/// What may have happened to a terminal's screen since the host heard of it (our profile). Contracts speak of it: what the host
-/// believes when it shows a panel follows from it.
+/// What may have happened to a terminal's screen since the host last heard of it (our profile). What the host
+/// believes when it shows a panel depends on it.
 #[derive(Clone, Copy, Debug, PartialEq, Eq)]
 pub enum Unheard {
     /// Nothing: the terminal waits.

@@ -1,34 +1,35 @@
--- The streams of a run: their bytes, if they are known, and counts of ends and failures (our profile).
+-- The streams of a run: their bytes, if they are known, and the counts of reads, ends and failures (our profile).
 use Rattle.std.specs.Prelude.{◌≡◌, ◌+◌, ◌-◌, ◌^◌, ◌<◌, ◌≤◌, ◌++◌, ◌∷◌, [], ⊤, ℕ, zero, suc, List, take, min, Option, None, Some, Result, Ok, Err}
 use Rattle.std.specs.Io.KnownBytes.{Consumes, IsAtEnd, Appends, Keeps}
 use Rattle.job_streams.specs.declared.streams.Answer.{Answer}
 use Rattle.job_streams.specs.declared.streams.Answer.TheVariants.{Gave, Ended, Interrupted, Failed}
 
--- a count after more; it stays at its last value
+-- a raised count; it stops at its greatest value, 2^64 - 1
 abbrev pub more : ℕ → ℕ → ℕ
 more count by = min (count + by) (2 ^ 64 - 1)
 
 -- ---- a source
 
--- the size of the buffer of each read
+-- the size of the buffer of each read, in bytes
 abbrev pub chunk_size : ℕ
 chunk_size = 4096
 
--- the bytes that later reads give, if they are known; how many reads there were, and how many of these found the end, or failed
+-- a source: the bytes that later reads return, if they are known; the counts of reads, of ends found, and of failed
+-- reads
 pub record Input : Type 0 where
   pub left : Option (List ℕ)
   pub reads : ℕ
   pub ends : ℕ
   pub failures : ℕ
 
--- a read gives at least one byte, and no more than there is room for
+-- holds if a read gives at least one byte, and at most as many as there is room for
 abbrev pub GivesWithin : Answer → ℕ → Type 0
 GivesWithin (Gave count) room = (0 < count) × (count ≤ room)
 GivesWithin Ended room = ⊤
 GivesWithin Interrupted room = ⊤
 GivesWithin Failed room = ⊤
 
--- what a read takes of the bytes that are left; `buffer` is the buffer after the read
+-- holds if a read takes these of the bytes that are left; `buffer` is the buffer after the read
 abbrev pub Gives : Answer → Option (List ℕ) → Option (List ℕ) → List ℕ → Type 0
 Gives (Gave count) old new buffer = Consumes old new (take count buffer)
 Gives Ended old new buffer = Keeps old new × IsAtEnd new
@@ -43,7 +44,7 @@ abbrev pub failures_after : Answer → ℕ → ℕ
 failures_after Failed failures = more failures 1
 failures_after _ failures = failures
 
--- each read is counted
+-- holds if a read is counted
 pub record Counts (answer : Answer) (old new : Input) : Type 0 where
   pub reads : new.reads ≡ more old.reads 1
   pub ends : new.ends ≡ ends_after answer old.ends
@@ -56,41 +57,43 @@ bytes_given Ended buffer = []
 bytes_given Interrupted buffer = []
 bytes_given Failed buffer = []
 
--- `count` reads, one after another, each into a buffer of `room` bytes, give these bytes.
-abbrev pub Reads : {I : Type 0} → (gave : I → ℕ → List ℕ → Answer → I → Type 0) → (room count : ℕ) → I → List ℕ → I → Type 0
+-- Holds if `count` reads, one after another, each into a buffer of `room` bytes, give these bytes.
+abbrev pub Reads : {I : Type 0} → (gave : I → ℕ → List ℕ → Answer → I → Type 0) → (room count : ℕ) → I → List ℕ
+    → I → Type 0
 Reads {I} gave room zero old bytes new = (bytes ≡ []) × (new ≡ old)
 Reads {I} gave room (suc count) old bytes new =
-    (mid : I) × (front back : List ℕ) × (answer : Answer) × Reads gave room count old front mid × gave mid room back answer new × (bytes ≡ front ++ back)
+    (mid : I) × (front back : List ℕ) × (answer : Answer) × Reads gave room count old front mid
+    × gave mid room back answer new × (bytes ≡ front ++ back)
 
 -- ---- a sink
 
--- the bytes that it got, if they are known, and how many writes failed
+-- a sink: the bytes that it has received, if they are known, and the count of failed writes
 pub record Output : Type 0 where
   pub got : Option (List ℕ)
   pub failures : ℕ
 
--- nothing was written
+-- holds if nothing was written
 pub record Untouched (old new : Output) : Type 0 where
   pub kept : Keeps old.got new.got
   pub sound : new.failures ≡ old.failures
 
--- the bytes were written, and nothing else
+-- holds if these bytes were written, and nothing else
 pub record Written (old new : Output) (bytes : List ℕ) : Type 0 where
   pub appended : Appends old.got new.got bytes
   pub sound : new.failures ≡ old.failures
 
--- the first `count` bytes were written, and the write failed
+-- holds if the first `count` bytes were written, and then the write failed
 pub record CutShort (old new : Output) (bytes : List ℕ) : Type 0 where
   pub count : ℕ
   pub appended : Appends old.got new.got (take count bytes)
   pub failed : new.failures ≡ more old.failures 1
 
--- a write of all bytes
+-- holds for the result of a write of all bytes
 abbrev pub Writes : {E : Type 0} → Result Unit E → Output → Output → List ℕ → Type 0
 Writes (Ok done) old new bytes = Written old new bytes
 Writes (Err fault) old new bytes = CutShort old new bytes
 
--- a write of a text and a newline; what a write that fails has written isn't known
+-- holds for the result of a write of a text and a newline; if it fails, it isn't known what was written
 abbrev pub WritesLine : {E : Type 0} → Result Unit E → Output → Output → Option (List ℕ) → Type 0
 WritesLine (Ok done) old new None = new.failures ≡ old.failures
 WritesLine (Ok done) old new (Some text) = Written old new (text ++ 10 ∷ [])

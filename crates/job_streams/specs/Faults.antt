@@ -4,6 +4,7 @@ use Rattle.job_streams.specs.LiveFaults.{live_status}
 use Rattle.job_streams.specs.declared.fault.Fault.{Fault}
 use Rattle.job_streams.specs.declared.fault.Fault.TheVariants.{InputNotRead, Panels, Pool, NotHex, NotUnderstood, NoMemory, SocketFailed, NotRandom, CannotListen, NotAnApplication, TurnsOver, OutputFailed, Live}
 
+-- the exit status for a fault
 abbrev pub status_of : Fault → ℕ
 status_of InputNotRead = 1
 status_of (Panels fault) = 1

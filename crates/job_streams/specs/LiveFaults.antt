@@ -3,6 +3,7 @@ use Rattle.std.specs.Prelude.{ℕ}
 use Rattle.job_streams.specs.declared.live_fault.LiveFault.{LiveFault}
 use Rattle.job_streams.specs.declared.live_fault.LiveFault.TheVariants.{NotRaw, TooSmall, CannotConnect, LuRefused, Closed, HostEnded}
 
+-- the exit status for a fault of a live terminal
 abbrev pub live_status : LiveFault → ℕ
 live_status NotRaw = 2
 live_status (TooSmall fault) = 2

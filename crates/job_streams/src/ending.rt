@@ -1,4 +1,4 @@
-//! How a run reports the fault that ends it.
+//! Reports the fault that ends a run.
 ghost use Rattle.std.specs.Prelude.{◌≡◌};
 ghost use Rattle.job_streams.specs.Faults.{status_of};
 
@@ -6,7 +6,7 @@ use crate::fault::Fault;
 use crate::streams::Sink;
 
 /// Writes a fault as one line, and returns its exit status. A line that can't be written is left out.
-pub fn end_by<E: Sink>(fault: Fault, faults: &mut E) -> u8
+pub fn report_and_exit_code<E: Sink>(fault: Fault, faults: &mut E) -> u8
     ensures { result ≡ status_of fault }
 {
     let status = fault.status();

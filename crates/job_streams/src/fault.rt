@@ -1,4 +1,4 @@
-//! Why a run ends early: the line that it prints, and its exit status.
+//! Why a run ends early, with the line and the exit status of each reason.
 ghost use Rattle.std.specs.Prelude.{◌≡◌};
 ghost use Rattle.job_streams.specs.Faults.{status_of};
 
@@ -17,45 +17,45 @@ pub enum Fault {
     /// The input could not be read, is too long, or isn't UTF-8.
     #[error("input not read")]
     InputNotRead,
-    /// The panel text defines no panels.
+    /// The panel text defines no panels, for this reason.
     #[error("{0}")]
     Panels(PanelFault),
-    /// The panels' LUs are no pool.
+    /// The panels' LUs are no pool, for this reason.
     #[error("{0}")]
     Pool(PoolFault),
-    /// The line with this number, from 1 on, isn't pairs of hexadecimal digits.
+    /// The line with this 1-based number isn't pairs of hexadecimal digits.
     #[error("line {0}: not hex")]
     NotHex(usize),
-    /// The script's line with this number, from 1 on, isn't understood.
+    /// The script's line with this 1-based number is invalid.
     #[error("line {0}: not understood")]
     NotUnderstood(usize),
     /// Memory was refused.
     #[error("no memory")]
     NoMemory,
-    /// The system refused a socket.
+    /// The system can't open, connect or poll a socket.
     #[error("socket failed")]
     SocketFailed,
-    /// The system refused random bytes.
+    /// The system can't give random bytes.
     #[error("no random bytes")]
     NotRandom,
-    /// The system refused to listen at this address, with an error of this kind.
+    /// The system can't listen at this address, with an error of this kind.
     #[error("cannot listen on {0}: {reason}", reason = reason_of(*.1))]
     CannotListen(SocketAddr, ErrorKind),
-    /// The URL is no application's, for this reason.
+    /// The URL isn't that of an application, for this reason.
     #[error("{reason}", reason = url_reason(*.0))]
     NotAnApplication(EndpointFault),
-    /// The turns are used up.
+    /// The run has taken all of its turns.
     #[error("turns over")]
     TurnsOver,
-    /// The output didn't take all that was printed.
+    /// The output couldn't be written completely.
     #[error("output failed")]
     OutputFailed,
-    /// A live terminal ends other than by its operator.
+    /// A live terminal ends for this reason, and not by its operator.
     #[error("{0}")]
     Live(LiveFault),
 }
 
-/// Why the system refuses to listen, in words.
+/// Why the system can't listen, in words.
 fn reason_of(kind: ErrorKind) -> &'static str {
     match kind {
         ErrorKind::AddrInUse => "address in use",
@@ -65,7 +65,7 @@ fn reason_of(kind: ErrorKind) -> &'static str {
     }
 }
 
-/// Why a URL is no application's, in words.
+/// Why a URL isn't that of an application, in words.
 fn url_reason(why: EndpointFault) -> &'static str {
     match why {
         EndpointFault::Memory => "no memory",

@@ -1,4 +1,4 @@
-//! A file that can't be opened, and the line that says so.
+//! The report that a file can't be opened.
 ghost use Rattle.std.specs.Prelude.{◌≡◌};
 ghost use Rattle.job_streams.specs.FileFaults.{file_refused};
 

@@ -13,7 +13,7 @@ pub const MOST_BYTES: usize = 1_048_576;
 /// The most reads of an input, including the one that finds the end.
 pub const MOST_READS: u32 = 65_536;
 
-/// Bytes as UTF-8 text.
+/// The text of UTF-8 bytes; InputNotRead if they aren't UTF-8.
 fn text_of(bytes: Vec<u8>) -> Result<String, Fault>
     ensures text { IfOk result (λ text. string_bytes text ≡ bytes.items) }
     ensures utf8 { OnOk result (IsUtf8 bytes.items) }
@@ -26,8 +26,9 @@ fn text_of(bytes: Vec<u8>) -> Result<String, Fault>
     }
 }
 
-/// The whole input as text. It is refused if a read fails, if it has more than `MOST_BYTES` bytes or takes more than
-/// `MOST_READS` reads, or if it isn't UTF-8. Each read asks for 4,096 bytes.
+/// The whole input as text. InputNotRead if a read fails, if there are more than `MOST_BYTES` bytes or it takes more
+/// than `MOST_READS` reads, or if the bytes aren't UTF-8; NoMemory if memory is refused. Each read asks for 4,096
+/// bytes.
 pub fn read_whole<I: Source>(alloc: Global, input: &mut I) -> Result<String, Fault>
     ensures whole { IfOk result (λ text. IsInput (I.seen input.old) (I.seen input.new) (string_bytes text)) }
     ensures fault { IfErr result (λ fault. RefusesInput fault (I.seen input.old) (I.seen input.new)) }

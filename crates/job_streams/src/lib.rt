@@ -1,9 +1,9 @@
-//! How a job reads its input, writes its output, and ends by a fault. It has no job and opens no socket.
+//! The input and output streams of a job, and its end by a fault. This crate has no job and opens no socket.
 //!
 //! A job reads from a [`Source`] and writes to a [`Sink`], which count failures. [`CountedReader`] and
-//! [`CountedWriter`] make these of any reader and writer, through single calls that contracts can name ([`RawRead`],
-//! [`RawWrite`]). [`read_whole`] reads an input as text. A [`Fault`] that ends a job prints as one line, and has an
-//! exit status; [`end_by`] does both.
+//! [`CountedWriter`] make these from any reader and writer, through single calls that contracts can name ([`RawRead`],
+//! [`RawWrite`]). [`read_whole`] reads an input as text. A [`Fault`] that ends a job prints as one line and has an exit
+//! status; [`end_by`] prints the one and returns the other.
 //!
 //! ```rust
 //! let mut input = CountedReader::new(rt.stdin());
@@ -14,9 +14,9 @@
 //! };
 //! ```
 //!
-//! `specs/Counting` says what a stream counts, `RawCalls` what the answers of readers and writers mean, `Runs` what an
-//! input is and how a run ends, and `Faults`, `LiveFaults` and `FileFaults` the exit status of each fault. The lines of
-//! faults have no definitions: cases compare them.
+//! `specs/Counting` defines what a stream counts, `RawCalls` what the answers of readers and writers mean, `Runs` what
+//! an input is and how a run ends, and `Faults`, `LiveFaults` and `FileFaults` the exit status of each fault. The
+//! printed lines have no definitions; tests compare them.
 #![tactic(auto)]
 
 mod ending;
@@ -27,7 +27,7 @@ mod live_fault;
 mod raw;
 mod streams;
 
-pub use ending::end_by;
+pub use ending::report_and_exit_code;
 pub use fault::Fault;
 pub use file_fault::{FileFault, refuse_file};
 pub use input::{MOST_BYTES, MOST_READS, read_whole};

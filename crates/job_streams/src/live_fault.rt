@@ -1,4 +1,4 @@
-//! Why a live terminal ends other than by its operator: the line that is printed, and the exit status.
+//! Why a live terminal ends although its operator didn't end it, with the line and the exit status of each reason.
 ghost use Rattle.std.specs.Prelude.{◌≡◌};
 ghost use Rattle.job_streams.specs.LiveFaults.{live_status};
 
@@ -11,19 +11,19 @@ use tty_screen::TooSmall;
 /// Why a live terminal ends. Prints as the line on standard error.
 #[derive(Debug, Drop, PartialEq, Eq, Error)]
 pub enum LiveFault {
-    /// It isn't known that the input is a tty in raw mode.
+    /// The input isn't known to be a tty in raw mode.
     #[error("operate needs a tty in raw mode: start it by bin/operate PORT [LU]")]
     NotRaw,
     /// The tty is too small for the screens of the model.
     #[error("{0}")]
     TooSmall(TooSmall),
-    /// The host at this address can't be connected to, with an error of this kind.
+    /// Connecting to the host at this address failed, with an error of this kind.
     #[error("cannot connect to {0}: {reason}", reason = connect_reason(*.1))]
     CannotConnect(SocketAddr, ErrorKind),
-    /// The host refused the terminal an LU for this reason.
+    /// The host rejected the terminal's request for an LU, for this reason.
     #[error("the host refused an LU: {0}")]
     LuRefused(Reason),
-    /// The terminal closed the connection for this cause.
+    /// The terminal closed the connection, for this cause.
     #[error("the host broke the protocol: {0}")]
     Closed(Cause),
     /// The host ended the connection before the terminal was bound to an LU.
@@ -31,7 +31,7 @@ pub enum LiveFault {
     HostEnded,
 }
 
-/// Why the host can't be connected to, in words.
+/// Why connecting failed, in words.
 fn connect_reason(kind: ErrorKind) -> &'static str {
     match kind {
         ErrorKind::ConnectionRefused => "connection refused",

@@ -10,19 +10,19 @@ use std::io::{self, Read, Write};
 
 /// A reader whose calls a contract can name.
 ///
-/// `read_gave` relates the reader before a call, the buffer's size, the bytes that the call put there, its answer, and the reader
-/// after the call. Code that is generic over readers has a `read_gave` only from a call. So its contract can say that it made that
-/// call, and what it did with the answer.
+/// `read_gave` relates the reader before a call, the buffer's size in bytes, the bytes that the call put there, its
+/// answer, and the reader after it. Generic code obtains a `read_gave` only by a call, so its contract can say that it
+/// made that call, and what it did with the answer.
 pub trait RawRead {
     ghost use Rattle.std.specs.Prelude.{Option, Result};
     ghost use Rattle.std.specs.declared.io.Error.{Error};
 
-    /// The bytes that later calls give, if they are known.
+    /// The bytes that later calls return, if they are known.
     ghost remaining: { Self → Option (List ℕ) };
 
     ghost read_gave: { Self → ℕ → List ℕ → Result ℕ Error → Self → Type 0 };
 
-    /// Reads once.
+    /// Reads once. Returns the number of bytes; 0 at the end of the input.
     fn read_once(&mut self, buffer: &mut [u8]) -> io::Result<usize>
         ensures bound { ReadsAtMost result buffer.new }
         ensures bytes { ReadConsumes (remaining self.old) (remaining self.new) result buffer.new }
@@ -31,20 +31,20 @@ pub trait RawRead {
 
 /// A writer whose calls a contract can name.
 ///
-/// `write_took` relates the writer before a call, the bytes that the call was given, its answer, and the writer after the call;
-/// `line_took` does so for a line, by its text and the newline, if the text is known.
+/// `write_took` relates the writer before a call, the bytes of the call, its answer, and the writer after it.
+/// `line_took` relates these for a line, by its text and newline, if the text is known.
 pub trait RawWrite {
     ghost use Rattle.std.specs.Prelude.{Option, Result};
     ghost use Rattle.std.specs.declared.io.Error.{Error};
 
-    /// The bytes that the writer got, if they are known.
+    /// The bytes that the writer has received, if they are known.
     ghost contents: { Self → Option (List ℕ) };
 
     ghost write_took: { Self → List ℕ → Result ℕ Error → Self → Type 0 };
 
     ghost line_took: { Self → Option (List ℕ) → Result Unit Error → Self → Type 0 };
 
-    /// Writes once.
+    /// Writes once. Returns how many of the first bytes were taken.
     fn write_once(&mut self, bytes: &[u8]) -> io::Result<usize>
         ensures bound { WritesAtMost result bytes.now }
         ensures bytes { WriteAppends (contents self.old) (contents self.new) result bytes.now }
@@ -52,11 +52,12 @@ pub trait RawWrite {
 
     /// Writes a text and a newline.
     fn write_text_line<D: Display + Drop>(&mut self, text: D) -> io::Result<()>
-        ensures bytes { OnOk result (IfSome (with_newline (D.output text)) (Appends (contents self.old) (contents self.new))) }
+        ensures bytes { OnOk result
+            (IfSome (with_newline (D.output text)) (Appends (contents self.old) (contents self.new))) }
         ensures took { line_took self.old (with_newline (D.output text)) result self.new };
 }
 
-// std's contracts say of a call how many bytes it moved, and which, if they are known.
+// std's contracts say how many bytes a call moved, and which ones if they are known.
 
 impl<R: Read> RawRead for R {
     ghost use Rattle.job_streams.specs.RawCalls.{ReadsLeft};

@@ -1,4 +1,4 @@
-//! The streams of a run. They count their failures, so that a contract can say that a run ended early only if a stream failed.
+//! The streams of a run. They count failures, so that a contract can say that only a failed stream ended a run early.
 ghost use Rattle.std.specs.Prelude.{◌≡◌, ◌<◌, ℕ, IsErr, List, Option, Result, length};
 ghost use Rattle.job_streams.specs.Counted.{reader_in, writer_in};
 ghost use Rattle.std.specs.Fmt.{with_newline};
@@ -9,17 +9,17 @@ use crate::raw::{RawRead, RawWrite};
 use std::fmt::Display;
 use std::io::{self, ErrorKind, Write};
 
-/// The size of the buffer of each read.
+/// The size of the buffer of each read, in bytes.
 pub const CHUNK: usize = 4096;
 
 /// The answer to a read.
 #[derive(Clone, Copy)]
 pub enum Answer {
-    /// This number of bytes, at least one, at the front of the buffer.
+    /// The read put this number of bytes, at least one, at the start of the buffer.
     Gave(usize),
     /// The end of the input.
     Ended,
-    /// Nothing this time: the call was interrupted.
+    /// The read was interrupted before it did anything.
     Interrupted,
     /// The read failed.
     Failed,
@@ -31,12 +31,13 @@ pub struct WriteFailed;
 
 /// The input of a run.
 ///
-/// `gave` relates the source before a read, the buffer's size, the bytes that the read gave, its answer, and the source after it.
+/// `gave` relates the source before a read, the buffer's size in bytes, the bytes that the read gave, its answer, and
+/// the source after it.
 pub trait Source {
     ghost use Rattle.job_streams.specs.declared.streams.Answer.{Answer};
 
-    /// The bytes that later reads give, if they are known; and how many reads there were, found the end and failed. Only reads
-    /// raise these counts.
+    /// The bytes that later reads return, if they are known; and the counts of reads, of reads that found the end, and
+    /// of failed reads. Only reads raise these counts.
     ghost seen: { Self → Input };
 
     ghost gave: { Self → ℕ → List ℕ → Answer → Self → Type 0 };
@@ -52,19 +53,20 @@ pub trait Source {
 
 /// The output of a run.
 ///
-/// `wrote` relates the sink before a write, the bytes, the result, and the sink after it; `told` does so for a line, by its text and
-/// the newline, if the text is known.
+/// `wrote` relates the sink before a write, the bytes, the result, and the sink after it. `told` relates these for a
+/// line, by its text and newline, if the text is known.
 pub trait Sink {
     ghost use Rattle.job_streams.specs.declared.streams.WriteFailed.{WriteFailed};
 
-    /// The bytes that it got, if they are known; and how many writes failed. Only failed writes raise this count.
+    /// The bytes that it has received, if they are known; and the count of failed writes. Only failed writes raise this
+    /// count.
     ghost seen: { Self → Output };
 
     ghost wrote: { Self → List ℕ → Result Unit WriteFailed → Self → Type 0 };
 
     ghost told: { Self → Option (List ℕ) → Result Unit WriteFailed → Self → Type 0 };
 
-    /// Writes all bytes. A write that fails may have taken some of the first bytes.
+    /// Writes all bytes. If it fails, some of the first bytes may have been written.
     fn write_all(&mut self, bytes: &[u8]) -> Result<(), WriteFailed>
         ensures counts { Writes result (seen self.old) (seen self.new) bytes.now }
         ensures wrote { wrote self.old bytes.now result self.new };
@@ -87,7 +89,7 @@ pub fn read_chunk<I: Source>(source: &mut I, chunk: &mut [u8]) -> Answer
     source.read(chunk)
 }
 
-/// A reader of std's as a source, with counts.
+/// A reader as a source, with counts.
 #[derive(Drop)]
 pub struct CountedReader<R> {
     reader: R,
@@ -97,10 +99,11 @@ pub struct CountedReader<R> {
 }
 
 impl<R: RawRead> CountedReader<R> {
-    /// A source over a reader; all counts are 0.
+    /// A source that reads from this reader. All counts are 0.
     pub fn new(reader: R) -> CountedReader<R>
         ensures reader { reader_in result ≡ reader }
-        ensures unread { ⟦<CountedReader<R> as Source>⟧.seen result ≡ record { left = R.remaining reader; reads = 0; ends = 0; failures = 0 } }
+        ensures unread { ⟦<CountedReader<R> as Source>⟧.seen result
+            ≡ record { left = R.remaining reader; reads = 0; ends = 0; failures = 0 } }
     {
         CountedReader {
             reader,
@@ -145,15 +148,15 @@ impl<R: RawRead> Source for CountedReader<R> {
     }
 }
 
-/// A writer that takes all bytes once its reader has closed the pipe: a reader that needs no more is no fault. What it holds isn't
-/// known.
+/// A writer that ignores all bytes after the reader has closed the pipe, since a reader that needs no more is no fault.
+/// The bytes that it has received aren't known.
 #[derive(Drop)]
 pub struct UntilClosed<W> {
     writer: W,
 }
 
 impl<W: Write> UntilClosed<W> {
-    /// The writer, until its pipe is closed.
+    /// Writes to this writer until its pipe is closed.
     pub fn new(writer: W) -> UntilClosed<W> {
         UntilClosed { writer }
     }
@@ -173,14 +176,14 @@ impl<W: Write> Write for UntilClosed<W> {
     }
 }
 
-/// A writer of std's as a sink, with a count.
+/// A writer as a sink, with a count.
 #[derive(Drop)]
 pub struct CountedWriter<W> {
     writer: W,
     failures: u64,
 }
 
-/// How many bytes a write of at least one byte took: none if it was interrupted. None if it failed.
+/// How many bytes a write of at least one byte took: 0 if it was interrupted; None if it failed.
 fn count_taken(answer: io::Result<usize>) -> Option<usize>
     ensures { result ≡ count_taken answer }
 {
@@ -193,10 +196,11 @@ fn count_taken(answer: io::Result<usize>) -> Option<usize>
 }
 
 impl<W: RawWrite> CountedWriter<W> {
-    /// A sink over a writer; the count is 0.
+    /// A sink that writes to this writer. The count is 0.
     pub fn new(writer: W) -> CountedWriter<W>
         ensures writer { writer_in result ≡ writer }
-        ensures unwritten { ⟦<CountedWriter<W> as Sink>⟧.seen result ≡ record { got = W.contents writer; failures = 0 } }
+        ensures unwritten { ⟦<CountedWriter<W> as Sink>⟧.seen result
+            ≡ record { got = W.contents writer; failures = 0 } }
     {
         CountedWriter {
             writer,

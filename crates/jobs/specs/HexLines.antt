@@ -6,12 +6,12 @@ use Rattle.hex.specs.declared.error.FromHexError.{FromHexError}
 use Rattle.presentation.specs.Glyph.{blank}
 use Rattle.term_core.specs.ScreenText.{newline}
 
--- the lines, each without the newline that ends it; the last may lack one
+-- the lines of a text, without their newlines; the last line may lack one
 abbrev pub lines_of : List ℕ → List (List ℕ)
 lines_of [] = []
 lines_of (char ∷ text) = if char == newline then [] ∷ lines_of text else onto_first char (lines_of text)
 
--- the words of a line, with one blank between each two; a word may be empty
+-- the words of a line, separated by one blank each; a word may be empty
 abbrev pub words_of : List ℕ → List (List ℕ)
 words_of line = slice_split (λ char. char == blank) line
 
@@ -23,7 +23,7 @@ if_decoded (Err fault) = None
 abbrev pub bytes_of_word : List ℕ → Option (List ℕ)
 bytes_of_word word = if_decoded (decode_of word)
 
--- bytes and the bytes after them, if both are there
+-- bytes and the bytes after them; None unless both are given
 abbrev pub joined : Option (List ℕ) → Option (List ℕ) → Option (List ℕ)
 joined None back = None
 joined (Some front) None = None
@@ -33,6 +33,6 @@ abbrev pub bytes_of_words : List (List ℕ) → Option (List ℕ)
 bytes_of_words [] = Some []
 bytes_of_words (word ∷ words) = joined (bytes_of_word word) (bytes_of_words words)
 
--- the bytes of a line; none if it isn't hexadecimal
+-- the bytes of a line; None if it isn't hexadecimal
 unfoldable pub bytes_of_line : List ℕ → Option (List ℕ)
 bytes_of_line line = bytes_of_words (words_of line)

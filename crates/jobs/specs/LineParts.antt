@@ -9,14 +9,14 @@ use Rattle.presentation.specs.Glyph.{blank}
 abbrev pub behind : List ℕ → List ℕ
 behind text = after_first (λ char. char == blank) text
 
--- decimal digits, at least one
+-- whether a word consists of decimal digits, at least one
 abbrev pub is_digits : List ℕ → Bool
 is_digits word = not (length word == 0) && all_ascii_digits word
 
--- the largest number of the machine
+-- the largest number in 64 bits
 abbrev pub largest_number : ℕ
 largest_number = 2 ^ 64 - 1
 
--- a decimal number of any length; one that is too large for the machine counts as the largest
+-- the value of a decimal number of any length, at most `largest_number`; None if the word isn't decimal digits
 unfoldable pub number_of : List ℕ → Option ℕ
 number_of word = if is_digits word then Some (min (digits_value 10 word) largest_number) else None

@@ -10,24 +10,25 @@ use Rattle.codes3270.specs.declared.size.Model.TheVariants.{M2, M3, M4, M5}
 use Rattle.jobs.specs.LineParts.{number_of}
 use Rattle.jobs.specs.declared.tty_size.TtySize.{TtySize}
 
--- a number from `low` to `high`, in decimal digits
+-- the number from `low` to `high` that a word has in decimal digits; None if it has none
 abbrev pub number_in_word : (low high : ℕ) → List ℕ → Option ℕ
-number_in_word low high word = option_and_then (λ number. if nat_le low number && nat_le number high then Some number else None) (number_of word)
+number_in_word low high word =
+    option_and_then (λ number. if nat_le low number && nat_le number high then Some number else None) (number_of word)
 
--- ports that need no privilege
+-- a port number that needs no privileges
 abbrev pub port_of : List ℕ → Option ℕ
 port_of word = number_in_word 1024 65535 word
 
--- the ports of a service
+-- a port number of a service
 abbrev pub service_port_of : List ℕ → Option ℕ
 service_port_of word = number_in_word 1 65535 word
 
--- the other port, if there is one, is the same
+-- whether another port is given and is equal to this one
 abbrev pub is_same_port : ℕ → Option ℕ → Bool
 is_same_port port None = false
 is_same_port port (Some other) = port == other
 
--- time limits in seconds; 0 is none
+-- a time limit in seconds; 0 is no limit
 abbrev pub seconds_of : List ℕ → Option ℕ
 seconds_of word = number_in_word 0 1000000 word
 
@@ -38,7 +39,7 @@ reply_time_of word = number_in_word 1 3600 word
 abbrev pub turns_of : List ℕ → Option ℕ
 turns_of word = number_in_word 1 1000000 word
 
--- the models of the 3278, by their numbers
+-- the 3278 model with this number, 2 to 5
 abbrev pub model_numbered : ℕ → Option Model
 model_numbered number =
     if number == 2 then Some M2 else
@@ -54,13 +55,13 @@ model_of word = option_and_then model_numbered (number_of word)
 abbrev pub this_machine : IpAddr
 this_machine = ip.V4 (record { octets = 127 ∷ 0 ∷ 0 ∷ 1 ∷ [] })
 
--- the address that a word writes: four decimal octets, else the groups of an IPv6 address (RFC 4291, 2.2)
+-- the address that a word spells: four decimal octets, otherwise the groups of an IPv6 address (RFC 4291, 2.2)
 unfoldable pub written_address : List ℕ → Option IpAddr
 written_address word =
     option_map_or (λ octets. Some (ip.V4 (record { octets = octets }))) (whole_value (read_ipv4 word))
     (option_map (λ segments. ip.V6 (record { segments = segments })) (whole_value (read_ipv6 word)))
 
--- the address that a word names: `localhost` is 127.0.0.1 (RFC 6761, 6.3)
+-- the address that a word means: 127.0.0.1 for `localhost` (RFC 6761, 6.3), otherwise the one that it spells
 abbrev pub address_of : List ℕ → Option IpAddr
 address_of word = if bytes_eq word (codes "localhost") then Some this_machine else written_address word
 
@@ -68,17 +69,18 @@ address_of word = if bytes_eq word (codes "localhost") then Some this_machine el
 abbrev pub is_x : ℕ → Bool
 is_x char = char == 120
 
--- how many rows or columns a tty may have
+-- a number of rows or columns of a tty
 abbrev pub tty_side_of : List ℕ → Option ℕ
 tty_side_of word = number_in_word 1 9999 word
 
--- the size of a tty, as `24x80`: its rows and its columns
+-- the size of a tty in a word such as `24x80`: its rows and its columns
 abbrev pub tty_size_of : List ℕ → Option TtySize
 tty_size_of word =
-    option_and_then (λ rows. option_map (λ columns. record { rows = rows; columns = columns }) (tty_side_of (after_first is_x word)))
+    option_and_then
+    (λ rows. option_map (λ columns. record { rows = rows; columns = columns }) (tty_side_of (after_first is_x word)))
     (tty_side_of (before_first is_x word))
 
--- the values of options that aren't given
+-- ---- the values of options that aren't given
 
 abbrev pub usual_turns : ℕ
 usual_turns = 10000

@@ -4,9 +4,10 @@ ghost use Rattle.jobs.specs.HexLines.{bytes_of_word, bytes_of_line};
 
 use std::alloc::{AllocError, Global};
 
-/// The bytes of a word of pairs of hexadecimal digits; None if it isn't such a word.
+/// The bytes of a word of pairs of hexadecimal digits; Ok(None) if it isn't such a word. An error if memory is refused.
 fn bytes_of_word(alloc: Global, word: &str) -> Result<Option<Vec<u8>>, AllocError>
-    ensures { IfOk result (λ found. MatchOption found (bytes_of_word word.now ≡ None) (λ bytes. bytes_of_word word.now ≡ Some bytes.items)) }
+    ensures { IfOk result (λ found. MatchOption found (bytes_of_word word.now ≡ None)
+        (λ bytes. bytes_of_word word.now ≡ Some bytes.items)) }
 {
     match hex::decode(alloc, word) {
         Ok(bytes) => Ok(Some(bytes)),
@@ -15,10 +16,11 @@ fn bytes_of_word(alloc: Global, word: &str) -> Result<Option<Vec<u8>>, AllocErro
     }
 }
 
-/// The bytes of a line of pairs of hexadecimal digits in either case, with blanks before, between and after them; None if it isn't
-/// such a line.
+/// The bytes of a line of pairs of hexadecimal digits in either case, with blanks before, between and after them;
+/// Ok(None) if it isn't such a line. An error if memory is refused.
 pub fn bytes_of_line(alloc: Global, line: &str) -> Result<Option<Vec<u8>>, AllocError>
-    ensures { IfOk result (λ found. MatchOption found (bytes_of_line line.now ≡ None) (λ bytes. bytes_of_line line.now ≡ Some bytes.items)) }
+    ensures { IfOk result (λ found. MatchOption found (bytes_of_line line.now ≡ None)
+        (λ bytes. bytes_of_line line.now ≡ Some bytes.items)) }
 {
     let mut bytes = Vec::new(alloc);
     for word in line.split(' ') {

@@ -11,7 +11,7 @@ use host_core::Terminals;
 use std::marker;
 use tn3270e_msg::Lu;
 
-/// The model of the 3278 with this number; None unless it is 2 to 5.
+/// The 3278 model with this number, 2 to 5; None for any other number.
 fn model_numbered(number: usize) -> Option<Model>
     ensures { result ≡ model_numbered number }
 {
@@ -24,14 +24,14 @@ fn model_numbered(number: usize) -> Option<Model>
     }
 }
 
-/// The model with a number in decimal digits; None if the word isn't such a number.
+/// The 3278 model with a number in decimal digits, 2 to 5; None if the word isn't such a number.
 pub fn model_of(word: &str) -> Option<Model>
     ensures { result ≡ model_of word.now }
 {
     model_numbered(number_of(word)?)
 }
 
-/// A word of the command line: a file's name, or a URL. Contracts see it as that text.
+/// A word of the command line: a file name, or a URL. Contracts see its text.
 #[derive(Debug, Drop)]
 pub struct WordText<'a> {
     text: &'a str,
@@ -46,14 +46,14 @@ impl<'a> marker::Model for WordText<'a> {
 }
 
 impl<'a> WordText<'a> {
-    /// This word.
+    /// The word with this text.
     pub fn new(text: &'a str) -> WordText<'a>
         ensures { result ≡ text.entry.now }
     {
         WordText { text }
     }
 
-    /// Its text.
+    /// The text of the word.
     pub fn as_str(&self) -> &'a str
         ensures { result.now ≡ self.now }
     {
@@ -61,7 +61,7 @@ impl<'a> WordText<'a> {
     }
 }
 
-/// A topic of the program's help: the whole program, or the job of this name.
+/// A topic of the program's help: the whole program, or one job.
 #[derive(Clone, Copy, Debug)]
 pub enum Topic {
     Program,
@@ -77,50 +77,50 @@ pub enum Topic {
     Version,
 }
 
-/// What a live terminal connects to, and its tty.
+/// The options of `operate`: the host's port, the terminal, and its tty.
 #[derive(Clone, Copy, Debug)]
 pub struct LiveOptions {
     /// The port of the host.
     pub port: Port,
-    /// The LU that the terminal requests; any if there is none.
+    /// The LU that the terminal requests; None to get any LU.
     pub lu: Option<Lu>,
     /// The model of the terminal.
     pub model: Model,
-    /// The size of the tty, which is in raw mode; if there is none, it isn't known that there is such a tty.
+    /// The size of the tty, which is then known to be in raw mode; None if it isn't known that there is such a tty.
     pub tty: Option<TtySize>,
 }
 
 /// A job of the program.
 #[derive(Debug, Drop)]
 pub enum Job<'a> {
-    /// Serves panels to the terminals of a script; the host serves such terminals.
+    /// Plays a script: serves panels to its terminals, with a host for these terminals.
     Script {
         terminals: Terminals,
     },
-    /// Applies commands to a screen of a model.
+    /// Applies commands to a screen of this model, and prints it.
     Show {
         model: Model,
     },
-    /// Serves panels to the terminals of a script over sockets.
+    /// Plays a script over loopback sockets.
     Selfrun {
         turns: Turns,
     },
-    /// Checks the panel text of a file, or of the input if there is none.
+    /// Checks the panel text of a file, or of the standard input if there is none.
     Check {
         file: Option<WordText<'a>>,
     },
-    /// Serves panels to terminals that connect, for a number of turns.
+    /// Serves panels to terminals that connect, for this number of turns.
     Host {
         port: Port,
         turns: Turns,
     },
-    /// Serves the panels of a file, or of the input if there is none, to terminals that connect, without end.
+    /// Serves the panels of a file, or of the standard input if there is none, to terminals that connect, without end.
     Serve {
         service: Service,
         panels: Option<WordText<'a>>,
         application: ApplicationChoice<'a>,
     },
-    /// Runs a terminal of a model at a host, and does the commands of a script.
+    /// Runs a terminal of this model at a host, and executes the commands of a script.
     Term {
         port: Port,
         lu: Option<Lu>,

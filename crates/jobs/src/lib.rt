@@ -1,9 +1,9 @@
-//! What the program can be asked to do: a [`Job`], and the values of its options, each in its range. And the parts of
-//! a line: words with one blank between each two, decimal numbers, and bytes in hexadecimal.
+//! The jobs of the program: a [`Job`] with the values of its options, each in its range. Also the parts of a line:
+//! words separated by one blank each, decimal numbers, and bytes in hexadecimal.
 //!
-//! It does no job, and reads no command line. A value is read from its word (`Port::read`), and `specs/OptionValues`
-//! defines which words have one. [`behind`] and [`number_of`] cut and read a line of a script or a word;
-//! [`bytes_of_line`] reads a line of `show`. `specs/LineParts` and `specs/HexLines` define their values.
+//! This crate runs no job, and parses no command line (crate `cli` does). A value is read from its word (`Port::read`),
+//! and `specs/OptionValues` defines which words are values. [`behind`] and [`number_of`] take apart a line of a script;
+//! [`bytes_of_line`] reads a line of `show`. `specs/LineParts` and `specs/HexLines` define their results.
 #![tactic(auto)]
 
 mod hex_line;

@@ -1,11 +1,11 @@
-//! Numbers within bounds, and which of them options take.
+//! Numbers within bounds, and the bounds of each option.
 ghost use Rattle.std.specs.Prelude.{◌≡◌, ◌≤◌};
 ghost use Rattle.jobs.specs.OptionValues.{number_in_word};
 
 use crate::word::number_of;
 use std::marker;
 
-/// A number from `LOW` to `HIGH`. Contracts see it as that number.
+/// A number in `LOW..=HIGH`. Contracts see the number.
 #[derive(Clone, Copy, Debug)]
 pub struct BoundedU16<const LOW: u16, const HIGH: u16> {
     number: u16,
@@ -24,7 +24,7 @@ impl<const LOW: u16, const HIGH: u16> marker::Model for BoundedU16<LOW, HIGH> {
 }
 
 impl<const LOW: u16, const HIGH: u16> BoundedU16<LOW, HIGH> {
-    /// The number in decimal digits; None if the word isn't such a number, or the number isn't from `LOW` to `HIGH`.
+    /// The number in decimal digits; None if the word isn't decimal digits, or if the number isn't in `LOW..=HIGH`.
     pub fn read(word: &str) -> Option<BoundedU16<LOW, HIGH>>
         ensures { result ≡ number_in_word LOW HIGH word.now }
     {
@@ -36,7 +36,7 @@ impl<const LOW: u16, const HIGH: u16> BoundedU16<LOW, HIGH> {
         }
     }
 
-    /// The number, from `LOW` to `HIGH`.
+    /// The number, in `LOW..=HIGH`.
     pub fn get(self) -> u16
         ensures value { result ≡ self.entry }
         ensures in_range { (LOW ≤ result) × (result ≤ HIGH) }
@@ -46,7 +46,7 @@ impl<const LOW: u16, const HIGH: u16> BoundedU16<LOW, HIGH> {
     }
 }
 
-/// A number from `LOW` to `HIGH`. Contracts see it as that number.
+/// A number in `LOW..=HIGH`. Contracts see the number.
 #[derive(Clone, Copy, Debug)]
 pub struct BoundedU32<const LOW: u32, const HIGH: u32> {
     number: u32,
@@ -65,7 +65,7 @@ impl<const LOW: u32, const HIGH: u32> marker::Model for BoundedU32<LOW, HIGH> {
 }
 
 impl<const LOW: u32, const HIGH: u32> BoundedU32<LOW, HIGH> {
-    /// The number in decimal digits; None if the word isn't such a number, or the number isn't from `LOW` to `HIGH`.
+    /// The number in decimal digits; None if the word isn't decimal digits, or if the number isn't in `LOW..=HIGH`.
     pub fn read(word: &str) -> Option<BoundedU32<LOW, HIGH>>
         ensures { result ≡ number_in_word LOW HIGH word.now }
     {
@@ -77,7 +77,7 @@ impl<const LOW: u32, const HIGH: u32> BoundedU32<LOW, HIGH> {
         }
     }
 
-    /// The number, from `LOW` to `HIGH`.
+    /// The number, in `LOW..=HIGH`.
     pub fn get(self) -> u32
         ensures value { result ≡ self.entry }
         ensures in_range { (LOW ≤ result) × (result ≤ HIGH) }
@@ -95,17 +95,17 @@ impl<const LOW: u32, const HIGH: u32> BoundedU32<LOW, HIGH> {
     }
 }
 
-/// A port number of a job for users without privileges.
+/// A port number that needs no privileges, 1024 to 65535.
 pub type Port = BoundedU16<1024, 65535>;
 
-/// A port number of a service.
+/// A port number of a service, 1 to 65535.
 pub type ServicePort = BoundedU16<1, 65535>;
 
-/// A time limit in seconds; 0 is no limit.
+/// A time limit in seconds, 0 to 1,000,000; 0 is no limit.
 pub type Seconds = BoundedU32<0, 1_000_000>;
 
-/// How long an application may take for a reply, in seconds.
+/// How long an application may take for a reply, in seconds, 1 to 3,600.
 pub type ReplyTime = BoundedU32<1, 3_600>;
 
-/// A number of turns.
+/// A number of turns, 1 to 1,000,000.
 pub type Turns = BoundedU32<1, 1_000_000>;

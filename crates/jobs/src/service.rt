@@ -1,4 +1,4 @@
-//! How `serve` serves: where it listens, its time limits, and what it tells.
+//! The options of `serve`: where it listens, its time limits, and what it reports.
 ghost use Rattle.std.specs.Prelude.{◌≡◌};
 ghost use Rattle.jobs.specs.OptionValues.{address_of, written_address};
 
@@ -7,51 +7,52 @@ use crate::number::{ReplyTime, Seconds, ServicePort};
 use host_core::Terminals;
 use std::net::{IpAddr, Ipv4Addr};
 
-/// How long a connection may be silent. 0 seconds: without limit.
+/// The time limits of a connection, in seconds. 0 is no limit.
 #[derive(Clone, Copy, Debug)]
 pub struct TimeLimits {
-    /// A connection that has not agreed on a session this long after it began is dropped.
+    /// A connection is dropped if it has not agreed on a session this long after it began.
     pub negotiate: Seconds,
-    /// A bound connection that sent nothing for this long is sent IAC NOP, so that TCP notices a dead peer.
+    /// A bound connection that sent nothing for this long is sent IAC NOP (RFC 854), so that TCP notices a dead peer.
     pub keepalive: Seconds,
-    /// A connection that sent nothing for this long is dropped.
+    /// A connection is dropped if it sent nothing for this long.
     pub idle: Seconds,
 }
 
-/// How `serve` serves.
+/// The options of `serve`.
 #[derive(Clone, Copy, Debug)]
 pub struct Service {
     /// The address that it listens on.
     pub listen: IpAddr,
     /// The port that it listens on.
     pub port: ServicePort,
-    /// How long connections may be silent.
+    /// The time limits of each connection.
     pub limits: TimeLimits,
-    /// Which terminals connect.
+    /// The terminals that connect.
     pub terminals: Terminals,
-    /// Whether connections are not logged.
+    /// Whether the log is left out.
     pub quiet: bool,
-    /// The port of 127.0.0.1 that answers with metrics, if one does.
+    /// The port of 127.0.0.1 at which metrics are served, if any.
     pub metrics: Option<ServicePort>,
 }
 
-/// Which application decides for `serve`.
+/// The application that decides for `serve`.
 #[derive(Debug, Drop)]
 pub struct ApplicationChoice<'a> {
-    /// The application's URL, if there is an application.
+    /// The application's URL; None if there is no application.
     pub url: Option<WordText<'a>>,
-    /// How long it may take for a reply.
+    /// How long the application may take for a reply.
     pub reply_time: ReplyTime,
 }
 
-/// The IPv4 or IPv6 address that a word writes, if it writes one.
+/// The IPv4 or IPv6 address that a word spells; None if it spells none.
 fn written_address(word: &str) -> Option<IpAddr>
     ensures { result ≡ written_address word.now }
 {
     word.parse::<IpAddr>().ok()
 }
 
-/// The address that a word names: `localhost` is 127.0.0.1, and other words write an IPv4 or IPv6 address.
+/// The address that a word means: 127.0.0.1 for `localhost`, otherwise the IPv4 or IPv6 address that it spells; None if
+/// it spells none.
 pub fn address_of(word: &str) -> Option<IpAddr>
     ensures { result ≡ address_of word.now }
 {

@@ -34,11 +34,12 @@ fn behind_x(word: &str) -> &str
     }
 }
 
-/// A number of rows or columns.
+/// A number of rows or columns, 1 to 9,999.
 type Side = BoundedU16<1, 9999>;
 
 impl TtySize {
-    /// The size that a word names: rows and columns in decimal digits, with an `x` between them. None if the word isn't such a size.
+    /// The size in a word such as `24x80`: rows and columns in decimal digits, with an `x` between them. None if the
+    /// word isn't such a size.
     pub fn read(word: &str) -> Option<TtySize>
         ensures { result ≡ tty_size_of word.now }
     {

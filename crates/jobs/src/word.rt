@@ -12,7 +12,7 @@ pub fn behind(text: &str) -> &str
     }
 }
 
-/// Whether a word is decimal digits, at least one.
+/// Whether a word consists of decimal digits, at least one.
 fn is_digits(word: &str) -> bool
     ensures { result ≡ is_digits word.now }
 {
@@ -24,7 +24,7 @@ fn is_digits(word: &str) -> bool
     !word.is_empty()
 }
 
-/// The value of a decimal number of any length, at most `usize::MAX`; None if the word isn't digits.
+/// The value of a decimal number of any length, at most `usize::MAX`; None if the word isn't decimal digits.
 pub fn number_of(word: &str) -> Option<usize>
     ensures { result ≡ number_of word.now }
 {

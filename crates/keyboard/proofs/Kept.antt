@@ -16,7 +16,7 @@ use Rattle.datastream.proofs.Places.{get_or-across}
 use Rattle.datastream.proofs.Fields.{attribute_over_governed}
 use Rattle.keyboard.specs.Places.{governing_place, is_free_at}
 use Rattle.keyboard.specs.Edits.{text_from, laid, marked_at, rewritten}
-use Rattle.datastream.specs.Held.{Hold, hold_under, CharHeld, CellHeld, Held}
+use Rattle.datastream.specs.KeptByKeys.{Hold, hold_under, CharHeld, CellHeld, KeptByKeys}
 use Rattle.keyboard.proofs.Texts.{letter_at, length-laid, text_is_char, free_is_char}
 use Rattle.keyboard.proofs.Governing.{each_is_char, attribute_over_none, governing_place_governs, governing_place_absent, governed_alike, governed_along}
 
@@ -87,7 +87,7 @@ is_open_place cells at free = second (is_char_at cells at) (protects (attribute_
     second false q e = cc
 
 -- where nothing governs, anything is held
-laid_held : (at : ℕ) (text : List ℕ) (cells : List Cell) → at < length cells → length text ≤ length (text_from cells at) → list_all is_char (laid at (length text) text cells) ≡ true → Held false cells (laid at (length text) text cells)
+laid_held : (at : ℕ) (text : List ℕ) (cells : List Cell) → at < length cells → length text ≤ length (text_from cells at) → list_all is_char (laid at (length text) text cells) ≡ true → KeptByKeys false cells (laid at (length text) text cells)
 laid_held at text cells a few all =
     let new : List Cell = laid at (length text) text cells in
     let long : length new ≡ length cells = length-laid at (length text) text cells in
@@ -102,7 +102,7 @@ laid_held at text cells a few all =
     }
 
 -- A text in place of the one from the cursor on, and MDT on in its field.
-marked_held : (at attr : ℕ) (text : List ℕ) (cells : List Cell) → at < length cells → is_free_at cells at ≡ true → length text ≤ length (text_from cells at) → IsGoverned cells at attr → Held false cells (marked_at (Some attr) (laid at (length text) text cells))
+marked_held : (at attr : ℕ) (text : List ℕ) (cells : List Cell) → at < length cells → is_free_at cells at ≡ true → length text ≤ length (text_from cells at) → IsGoverned cells at attr → KeptByKeys false cells (marked_at (Some attr) (laid at (length text) text cells))
 marked_held at attr text cells a free few governed = record { same_length = long; each = λ place below. held place (rw long at below) }
   where
     new : List Cell
@@ -170,7 +170,7 @@ marked_held at attr text cells a free few governed = record { same_length = long
     ]
 
 -- An edit holds what was left.
-pub rewritten_held : (text : List ℕ) (screen : Screen) → screen.cursor < length screen.cells → is_free_at screen.cells screen.cursor ≡ true → length text ≤ length (text_from screen.cells screen.cursor) → Held false screen.cells (rewritten text screen).cells
+pub rewritten_held : (text : List ℕ) (screen : Screen) → screen.cursor < length screen.cells → is_free_at screen.cells screen.cursor ≡ true → length text ≤ length (text_from screen.cells screen.cursor) → KeptByKeys false screen.cells (rewritten text screen).cells
 rewritten_held text screen a free few = by_place (governing_place new screen.cursor) refl
   where
     new : List Cell
@@ -188,7 +188,7 @@ rewritten_held text screen a free few = by_place (governing_place new screen.cur
     here : is_char_at new screen.cursor ≡ true
     here = alike screen.cursor a ∙ free_is_char screen.cells screen.cursor free
 
-    by_place : (place : Option ℕ) → governing_place new screen.cursor ≡ place → Held false screen.cells (marked_at place new)
+    by_place : (place : Option ℕ) → governing_place new screen.cursor ≡ place → KeptByKeys false screen.cells (marked_at place new)
     by_place None e = laid_held screen.cursor text screen.cells a few (governing_place_absent new screen.cursor inside here e)
     by_place (Some attr) e =
         marked_held screen.cursor attr text screen.cells a free few

@@ -15,12 +15,12 @@ use Rattle.keyboard.specs.State.{Keyboard}
 use Rattle.keyboard.specs.Places.{is_free_at}
 use Rattle.keyboard.specs.Edits.{text_from, within_row, deleted, advanced, rewritten, without_null, with_room, wants_numbers, is_numeric_letter, typed, typed_code, typed_before, changed, with_deleted, with_field_erased}
 use Rattle.keyboard.specs.Keys.{pressed, acted, locked_out, at_lock, edited}
-use Rattle.datastream.specs.Held.{Held}
+use Rattle.datastream.specs.KeptByKeys.{KeptByKeys}
 use Rattle.keyboard.specs.Leaves.{Leaves, LeavesDone}
 use Rattle.keyboard.proofs.Texts.{text_some, free_is_char, length-deleted}
 use Rattle.keyboard.proofs.Kept.{kept_cell, rewritten_held}
 
-held_same : (cells : List Cell) → Held false cells cells
+held_same : (cells : List Cell) → KeptByKeys false cells cells
 held_same cells = record { same_length = refl; each = λ place below. kept_cell (get_or cells place (Char 0)) (attribute_over cells place) }
 
 -- a text with a null less is one shorter
@@ -41,8 +41,8 @@ some_text : (screen : Screen) → screen.cursor < length screen.cells → is_fre
 some_text screen inside free = text_some screen.cells screen.cursor inside (free_is_char screen.cells screen.cursor free)
 
 -- what was made is what there is
-made_held : (edit : Result Screen Refusal) (made new : Screen) (cells : List Cell) → edit ≡ Ok made → edit ≡ Ok new → Held false cells made.cells → Held false cells new.cells
-made_held edit made new cells m e held = let same : made ≡ new = cc in let P : Screen → Type 0 = λ s. Held false cells s.cells in subst P same held
+made_held : (edit : Result Screen Refusal) (made new : Screen) (cells : List Cell) → edit ≡ Ok made → edit ≡ Ok new → KeptByKeys false cells made.cells → KeptByKeys false cells new.cells
+made_held edit made new cells m e held = let same : made ≡ new = cc in let P : Screen → Type 0 = λ s. KeptByKeys false cells s.cells in subst P same held
 
 length-deleted_part : (count : ℕ) (text : List ℕ) → 0 < length text → length (deleted (take count text)) ≤ length text
 length-deleted_part zero text some = omega arith
@@ -50,45 +50,45 @@ length-deleted_part (suc count) [] some = absurd (omega arith)
 length-deleted_part (suc count) (byte ∷ text) some =
     rw (length-deleted (byte ∷ take count text) (omega arith)) (omega (arith, length-take count text))
 
-typed_held : (inserting : Bool) (letter : ℕ) (screen new : Screen) → screen.cursor < length screen.cells → typed inserting letter screen ≡ Ok new → Held false screen.cells new.cells
+typed_held : (inserting : Bool) (letter : ℕ) (screen new : Screen) → screen.cursor < length screen.cells → typed inserting letter screen ≡ Ok new → KeptByKeys false screen.cells new.cells
 typed_held inserting letter screen new inside e = by_code (code_of letter) e
   where
-    by_room : (byte : ℕ) (room : Option (List ℕ)) → with_room inserting (text_from screen.cells screen.cursor) ≡ room → is_free_at screen.cells screen.cursor ≡ true → typed_before byte room screen ≡ Ok new → Held false screen.cells new.cells
+    by_room : (byte : ℕ) (room : Option (List ℕ)) → with_room inserting (text_from screen.cells screen.cursor) ≡ room → is_free_at screen.cells screen.cursor ≡ true → typed_before byte room screen ≡ Ok new → KeptByKeys false screen.cells new.cells
     by_room byte None room free e = cc
     by_room byte (Some rest) room free e =
         let few : suc (length rest) ≡ length (text_from screen.cells screen.cursor) =
         length-with_room inserting (text_from screen.cells screen.cursor) rest (some_text screen inside free) room in
-        let held : Held false screen.cells (rewritten (byte ∷ rest) screen).cells = rewritten_held (byte ∷ rest) screen inside free (omega arith) in
+        let held : KeptByKeys false screen.cells (rewritten (byte ∷ rest) screen).cells = rewritten_held (byte ∷ rest) screen inside free (omega arith) in
         made_held (typed_before byte (Some rest) screen) (advanced (rewritten (byte ∷ rest) screen)) new screen.cells refl e held
 
-    by_test : (byte : ℕ) (free wrong : Bool) (rest : Result Screen Refusal) → (free ≡ true → rest ≡ Ok new → Held false screen.cells new.cells) → cond (not free) (Err Protected) (cond wrong (Err NotNumeric) rest) ≡ Ok new → Held false screen.cells new.cells
+    by_test : (byte : ℕ) (free wrong : Bool) (rest : Result Screen Refusal) → (free ≡ true → rest ≡ Ok new → KeptByKeys false screen.cells new.cells) → cond (not free) (Err Protected) (cond wrong (Err NotNumeric) rest) ≡ Ok new → KeptByKeys false screen.cells new.cells
     by_test byte true true rest held e = cc
     by_test byte true false rest held e = held refl e
     by_test byte false wrong rest held e = cc
 
-    by_code : (code : Option ℕ) → typed_code inserting letter code screen ≡ Ok new → Held false screen.cells new.cells
+    by_code : (code : Option ℕ) → typed_code inserting letter code screen ≡ Ok new → KeptByKeys false screen.cells new.cells
     by_code None e = cc
     by_code (Some byte) e =
         by_test byte (is_free_at screen.cells screen.cursor) (wants_numbers (attribute_over screen.cells screen.cursor) && not (is_numeric_letter letter))
         (typed_before byte (with_room inserting (text_from screen.cells screen.cursor)) screen)
         (λ free made. by_room byte (with_room inserting (text_from screen.cells screen.cursor)) refl free made) e
 
-changed_held : (text : List ℕ) (screen new : Screen) → screen.cursor < length screen.cells → (0 < length (text_from screen.cells screen.cursor) → length text ≤ length (text_from screen.cells screen.cursor)) → changed text screen ≡ Ok new → Held false screen.cells new.cells
+changed_held : (text : List ℕ) (screen new : Screen) → screen.cursor < length screen.cells → (0 < length (text_from screen.cells screen.cursor) → length text ≤ length (text_from screen.cells screen.cursor)) → changed text screen ≡ Ok new → KeptByKeys false screen.cells new.cells
 changed_held text screen new inside few e = by_test (is_free_at screen.cells screen.cursor) refl e
   where
-    by_test : (free : Bool) → is_free_at screen.cells screen.cursor ≡ free → cond free (Ok (rewritten text screen)) (Err Protected) ≡ Ok new → Held false screen.cells new.cells
+    by_test : (free : Bool) → is_free_at screen.cells screen.cursor ≡ free → cond free (Ok (rewritten text screen)) (Err Protected) ≡ Ok new → KeptByKeys false screen.cells new.cells
     by_test true free e =
-        let held : Held false screen.cells (rewritten text screen).cells = rewritten_held text screen inside free (few (some_text screen inside free)) in
+        let held : KeptByKeys false screen.cells (rewritten text screen).cells = rewritten_held text screen inside free (few (some_text screen inside free)) in
         made_held (Ok (rewritten text screen)) (rewritten text screen) new screen.cells refl e held
     by_test false free e = cc
 
-deleted_held : (columns : ℕ) (screen new : Screen) → screen.cursor < length screen.cells → with_deleted columns screen ≡ Ok new → Held false screen.cells new.cells
+deleted_held : (columns : ℕ) (screen new : Screen) → screen.cursor < length screen.cells → with_deleted columns screen ≡ Ok new → KeptByKeys false screen.cells new.cells
 deleted_held columns screen new inside e =
     let text : List ℕ = text_from screen.cells screen.cursor in
     changed_held (deleted (within_row columns screen.cursor text)) screen new inside
     (λ some. length-deleted_part (columns - screen.cursor % columns) text some) e
 
-erased_held : (screen new : Screen) → screen.cursor < length screen.cells → with_field_erased screen ≡ Ok new → Held false screen.cells new.cells
+erased_held : (screen new : Screen) → screen.cursor < length screen.cells → with_field_erased screen ≡ Ok new → KeptByKeys false screen.cells new.cells
 erased_held screen new inside e =
     let text : List ℕ = text_from screen.cells screen.cursor in
     changed_held (replicate (length text) 0) screen new inside (λ some. omega (arith, length-replicate {A = ℕ} (length text) 0)) e

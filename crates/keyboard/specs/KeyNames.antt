@@ -1,4 +1,4 @@
--- The names of keys (our profile): those that scripts write and `{}` prints.
+-- The names of keys (our profile), as scripts write them and `{}` prints them.
 use Rattle.std.specs.Prelude.{ℕ, List, [], ◌∷◌, ◌++◌, Option, bytes_eq, codes, find, map}
 use Rattle.std.specs.Char.{encode_utf8}
 use Rattle.std.specs.Fmt.{decimal}
@@ -28,19 +28,22 @@ name_of Clear = codes "clear"
 name_of (Pf number) = codes "pf" ++ decimal number
 name_of (Pa number) = codes "pa" ++ decimal number
 
--- the keys that have names: those without numbers, PF1 to PF24, PA1 to PA3
+-- the keys with names and without numbers
 abbrev pub plain_keys : List Key
 plain_keys =
-    Tab ∷ BackTab ∷ NewLine ∷ Home ∷ CursorUp ∷ CursorDown ∷ CursorLeft ∷ CursorRight ∷ Backspace ∷ Insert ∷ Delete ∷ EraseEof
+    Tab ∷ BackTab ∷ NewLine ∷ Home ∷ CursorUp ∷ CursorDown ∷ CursorLeft ∷ CursorRight ∷ Backspace ∷ Insert
+    ∷ Delete ∷ EraseEof
     ∷ EraseInput ∷ Reset ∷ Enter ∷ Clear ∷ []
 
+-- PF1 to PF24
 abbrev pub pf_keys : List Key
 pf_keys = map Pf (range_with_len 1 24)
 
+-- PA1 to PA3
 abbrev pub pa_keys : List Key
 pa_keys = map Pa (range_with_len 1 3)
 
--- the first of these keys that has a name
+-- the first of these keys that has this name
 abbrev pub named_among : List Key → List ℕ → Option Key
 named_among keys name = find (λ key. bytes_eq (name_of key) name) keys
 

@@ -1,5 +1,5 @@
--- Laws of what is sent, for proofs in the crates above (our profile): a key that sends names itself on the screen and makes the keyboard wait,
--- and no other key does either.
+-- Laws of sending, for proofs in the crates above (our profile): a key that sends sets the screen's AID and the lock to
+-- Wait, and no other key does either.
 use Rattle.std.specs.Prelude.{◌≡◌, ℕ, length, replicate}
 use Rattle.codes3270.specs.declared.attention.Aid.{Aid}
 use Rattle.codes3270.specs.declared.attention.Aid.TheVariants.{NoAid, Clear as ClearAid}
@@ -12,11 +12,11 @@ use Rattle.keyboard.specs.declared.key.Pressed.TheVariants.{Send}
 use Rattle.keyboard.specs.State.{Keyboard}
 use Rattle.keyboard.specs.Keys.{pressed}
 
--- an answer that sends nothing
+-- holds if a result sends nothing
 abbrev pub IsSilent : Pressed → Type 0
 IsSilent answer = (aid : Aid) → answer ≡ Send aid → ⊥
 
--- After a key that sends, the screen's AID is the one that it answers, which is a key's, and the keyboard waits.
+-- After a key that sends, the screen's AID is the one in the result, which is a key's, and the lock is Wait.
 abbrev pub SendingWaits : Type 0
 SendingWaits = (columns : ℕ) (key : Key) (keyboard : Keyboard) (screen : Screen) (aid : Aid)
     → let new = pressed columns key keyboard screen in
@@ -28,17 +28,19 @@ ClearEmptiesTheScreen = (columns : ℕ) (key : Key) (keyboard : Keyboard) (scree
     → let new = pressed columns key keyboard screen in
     new.answer ≡ Send ClearAid → (new.screen.cells ≡ replicate (length screen.cells) (Char 0)) × (new.screen.cursor ≡ 0)
 
--- A key that sends nothing leaves the AID as it was.
+-- A key that sends nothing keeps the AID.
 abbrev pub SilentKeysKeepTheAid : Type 0
 SilentKeysKeepTheAid = (columns : ℕ) (key : Key) (keyboard : Keyboard) (screen : Screen)
     → let new = pressed columns key keyboard screen in IsSilent new.answer → new.screen.aid ≡ screen.aid
 
--- It makes no keyboard wait that didn't.
+-- A key that sends nothing doesn't set the lock to Wait.
 abbrev pub SilentKeysBeginNoWait : Type 0
 SilentKeysBeginNoWait = (columns : ℕ) (key : Key) (keyboard : Keyboard) (screen : Screen)
-    → let new = pressed columns key keyboard screen in IsSilent new.answer → new.keyboard.lock ≡ Wait → keyboard.lock ≡ Wait
+    → let new = pressed columns key keyboard screen in IsSilent new.answer → new.keyboard.lock ≡ Wait
+    → keyboard.lock ≡ Wait
 
--- At a lock that isn't Free no key sends, and the screen stays.
+-- While the lock isn't Free, no key sends, and the screen stays as it is.
 abbrev pub NothingIsSentAtALock : Type 0
 NothingIsSentAtALock = (columns : ℕ) (key : Key) (keyboard : Keyboard) (screen : Screen)
-    → let new = pressed columns key keyboard screen in (keyboard.lock ≡ Free → ⊥) → IsSilent new.answer × (new.screen ≡ screen)
+    → let new = pressed columns key keyboard screen in (keyboard.lock ≡ Free → ⊥)
+    → IsSilent new.answer × (new.screen ≡ screen)

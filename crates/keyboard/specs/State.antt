@@ -1,17 +1,17 @@
--- A keyboard, seen from outside (our profile).
+-- A keyboard, as contracts see it (our profile).
 use Rattle.std.specs.Prelude.{Bool, false}
 use Rattle.keyboard.specs.declared.key.Lock.{Lock}
 use Rattle.keyboard.specs.declared.key.Lock.TheVariants.{Free, Wait}
 
--- whether it takes keys, and whether characters are inserted
+-- the keyboard lock, and whether insert mode is on
 pub record Keyboard : Type 0 where
   pub lock : Lock
   pub inserting : Bool
 
--- as it begins
+-- the keyboard at the start: locked, insert mode off
 abbrev pub fresh : Keyboard
 fresh = record { lock = Wait; inserting = false }
 
--- freed from any lock; insert mode stays
+-- the keyboard with the lock Free; insert mode stays as it is
 abbrev pub freed : Keyboard → Keyboard
 freed keyboard = record keyboard { lock = Free }

@@ -1,4 +1,4 @@
-//! What typing and erasing make of the screen.
+//! Typing and erasing at the cursor.
 ghost use Rattle.std.specs.Prelude.{◌≡◌, ◌+◌, ◌%◌, ◌<◌, ◌≤◌, ◌∷◌, ◌++◌, ◌&&◌, not, Ok, Err, None, Some, true, MatchResult, MatchOption, length, take, drop, replicate, slice_index_or};
 ghost use Rattle.codes3270.specs.Size.{cells_in};
 ghost use Rattle.codes3270.specs.Storable.{is_storable};
@@ -11,14 +11,15 @@ use crate::{Refusal, places};
 use codes3270::{Addr, Attr, Cell, from_latin1};
 use presentation::Screen;
 
-/// A character typed at the cursor.
+/// Types a character at the cursor.
 pub(crate) fn type_character(
     screen: &mut Screen,
     inserting: bool,
     letter: char,
 ) -> Result<(), Refusal>
     ensures edit { let edit = typed inserting letter screen.old.screen in
-        MatchResult result (λ _. edit ≡ Ok screen.new.screen) (λ why. (edit ≡ Err why) × (screen.new.screen ≡ screen.old.screen)) }
+        MatchResult result (λ _. edit ≡ Ok screen.new.screen)
+        (λ why. (edit ≡ Err why) × (screen.new.screen ≡ screen.old.screen)) }
     ensures size { screen.new ≡ record screen.old { screen = screen.new.screen } }
 {
     let Some(byte) = from_latin1(letter) else {
@@ -40,10 +41,11 @@ pub(crate) fn type_character(
     Ok(())
 }
 
-/// The character at the cursor is taken out of its field and row.
+/// Deletes the character at the cursor: the characters after it in its field and row move back by one cell.
 pub(crate) fn delete(screen: &mut Screen) -> Result<(), Refusal>
     ensures edit { let edit = with_deleted screen.old.size.columns screen.old.screen in
-        MatchResult result (λ _. edit ≡ Ok screen.new.screen) (λ why. (edit ≡ Err why) × (screen.new.screen ≡ screen.old.screen)) }
+        MatchResult result (λ _. edit ≡ Ok screen.new.screen)
+        (λ why. (edit ≡ Err why) × (screen.new.screen ≡ screen.old.screen)) }
     ensures size { screen.new ≡ record screen.old { screen = screen.new.screen } }
 {
     let at = screen.cursor();
@@ -58,10 +60,11 @@ pub(crate) fn delete(screen: &mut Screen) -> Result<(), Refusal>
     Ok(())
 }
 
-/// Nulls from the cursor to the end of its field.
+/// Stores nulls from the cursor to the end of its field.
 pub(crate) fn erase_to_field_end(screen: &mut Screen) -> Result<(), Refusal>
     ensures edit { let edit = with_field_erased screen.old.screen in
-        MatchResult result (λ _. edit ≡ Ok screen.new.screen) (λ why. (edit ≡ Err why) × (screen.new.screen ≡ screen.old.screen)) }
+        MatchResult result (λ _. edit ≡ Ok screen.new.screen)
+        (λ why. (edit ≡ Err why) × (screen.new.screen ≡ screen.old.screen)) }
     ensures size { screen.new ≡ record screen.old { screen = screen.new.screen } }
 {
     let at = screen.cursor();
@@ -74,6 +77,7 @@ pub(crate) fn erase_to_field_end(screen: &mut Screen) -> Result<(), Refusal>
     Ok(())
 }
 
+/// Whether a field with this attribute is numeric. Cells without a field aren't.
 fn is_numeric(over: Option<Attr>) -> bool
     ensures { result ≡ wants_numbers over }
 {
@@ -83,20 +87,21 @@ fn is_numeric(over: Option<Attr>) -> bool
     }
 }
 
-/// Whether a field wants numbers and a character is none.
+/// Whether a field is numeric and a character isn't allowed there.
 fn is_refused_by(over: Option<Attr>, letter: char) -> bool
     ensures { result ≡ (wants_numbers over && not (is_numeric_letter letter)) }
 {
     is_numeric(over) && !is_numeric_character(letter)
 }
 
+/// Whether a numeric field accepts a character: a digit, a point or a minus sign.
 fn is_numeric_character(letter: char) -> bool
     ensures { result ≡ is_numeric_letter letter }
 {
     matches!(letter, '0'..='9' | '.' | '-')
 }
 
-/// The character in a cell.
+/// The character in a cell, which must have one.
 fn character_at(screen: &Screen, at: Addr) -> u8
     requires address { at < cells_in screen.now.size }
     requires character { is_char_at screen.now.screen.cells at ≡ true }
@@ -109,7 +114,7 @@ fn character_at(screen: &Screen, at: Addr) -> u8
     }
 }
 
-/// How many cells an edit may reach: all, but on an unformatted screen those up to the last.
+/// The number of cells that an edit can reach: all cells or, on an unformatted screen, those up to the last one.
 fn reach_length(screen: &Screen, at: Addr) -> u16
     requires { at < cells_in screen.now.size }
     ensures { result ≡ length (reach screen.now.screen.cells at) }
@@ -122,7 +127,7 @@ fn reach_length(screen: &Screen, at: Addr) -> u16
     }
 }
 
-/// How many characters the field has from a cell on.
+/// The number of characters from a cell to the end of its field.
 fn text_length(screen: &Screen, at: Addr) -> u16
     requires { at < cells_in screen.now.size }
     ensures value { result ≡ length (text_from screen.now.screen.cells at) }
@@ -138,13 +143,15 @@ fn text_length(screen: &Screen, at: Addr) -> u16
     limit
 }
 
-/// How many characters shift where one comes before them: none, or in insert mode those before the first null.
+/// The number of characters that shift to make room for a typed one: none or, in insert mode, those before the first
+/// null. Without a null there, insert mode has no room.
 fn room(screen: &Screen, at: Addr, inserting: bool) -> Option<u16>
     requires address { at < cells_in screen.now.size }
     requires free { is_char_at screen.now.screen.cells at ≡ true }
     ensures { let text = text_from screen.now.screen.cells at in
         MatchOption result (with_room inserting text ≡ None)
-        (λ count. (with_room inserting text ≡ Some (take count text ++ drop (count + 1) text)) × (count < length text) × (count < cells_in screen.now.size)) }
+        (λ count. (with_room inserting text ≡ Some (take count text ++ drop (count + 1) text)) × (count < length text)
+        × (count < cells_in screen.now.size)) }
 {
     // For the contract: the screen has the cell.
     let _size = screen.size();
@@ -155,12 +162,13 @@ fn room(screen: &Screen, at: Addr, inserting: bool) -> Option<u16>
     }
 }
 
-/// Where the first null of the field is, counted from a cell on.
+/// The number of characters before the first null of the field, from a cell on.
 fn first_null(screen: &Screen, at: Addr) -> Option<u16>
     requires { at < cells_in screen.now.size }
     ensures { let text = text_from screen.now.screen.cells at in
         MatchOption result (without_null text ≡ None)
-        (λ count. (without_null text ≡ Some (take count text ++ drop (count + 1) text)) × (count < length text) × (count < cells_in screen.now.size)) }
+        (λ count. (without_null text ≡ Some (take count text ++ drop (count + 1) text)) × (count < length text)
+        × (count < cells_in screen.now.size)) }
 {
     let size = screen.size();
     for step in 0..text_length(screen, at) {
@@ -171,14 +179,16 @@ fn first_null(screen: &Screen, at: Addr) -> Option<u16>
     None
 }
 
-/// Stores a character, and the `count` characters from there on one cell further.
+/// Stores a character in a cell, and moves the `count` characters from there on by one cell to the right.
 fn push(screen: &mut Screen, at: Addr, count: u16, byte: u8)
     requires address { at < cells_in screen.old.size }
     requires count { count < length (text_from screen.old.screen.cells at) }
     requires in_range { count < cells_in screen.old.size }
     requires storable { is_storable byte ≡ true }
     ensures { let old = screen.old.screen.cells in
-        screen.new ≡ record screen.old { screen = record screen.old.screen { cells = laid at (count + 1) (byte ∷ text_from old at) old } } }
+        screen.new ≡ record screen.old {
+          screen = record screen.old.screen { cells = laid at (count + 1) (byte ∷ text_from old at) old };
+        } }
 {
     let size = screen.size();
     let mut carried = byte;
@@ -190,14 +200,16 @@ fn push(screen: &mut Screen, at: Addr, count: u16, byte: u8)
     }
 }
 
-/// Moves `count` characters one cell back, over the first of them; a null takes the last one's place.
+/// Removes the first of `count` characters, moves the others by one cell to the left, and stores a null after them.
 fn pull(screen: &mut Screen, at: Addr, count: u16)
     requires address { at < cells_in screen.old.size }
     requires some { 0 < count }
     requires count { count ≤ length (text_from screen.old.screen.cells at) }
     requires in_range { count ≤ cells_in screen.old.size }
     ensures { let old = screen.old.screen.cells in
-        screen.new ≡ record screen.old { screen = record screen.old.screen { cells = laid at count (deleted (take count (text_from old at))) old } } }
+        screen.new ≡ record screen.old {
+          screen = record screen.old.screen { cells = laid at count (deleted (take count (text_from old at))) old };
+        } }
 {
     let size = screen.size();
     for step in 1..count {
@@ -207,12 +219,14 @@ fn pull(screen: &mut Screen, at: Addr, count: u16)
     screen.set_char(at.forward(count - 1, size), 0);
 }
 
-/// Nulls in `count` cells of a field.
+/// Stores nulls in `count` cells of a field.
 fn put_nulls(screen: &mut Screen, at: Addr, count: u16)
     requires address { at < cells_in screen.old.size }
     requires count { count ≤ length (text_from screen.old.screen.cells at) }
     requires in_range { count ≤ cells_in screen.old.size }
-    ensures { screen.new ≡ record screen.old { screen = record screen.old.screen { cells = laid at count (replicate count 0) screen.old.screen.cells } } }
+    ensures { screen.new ≡ record screen.old {
+      screen = record screen.old.screen { cells = laid at count (replicate count 0) screen.old.screen.cells };
+    } }
 {
     let size = screen.size();
     for step in 0..count {
@@ -220,17 +234,19 @@ fn put_nulls(screen: &mut Screen, at: Addr, count: u16)
     }
 }
 
-/// MDT on in the field that the cursor is in, if it is in one.
+/// Sets MDT of the field that the cursor is in, if it is in one.
 fn mark_modified(screen: &mut Screen)
     ensures { let old = screen.old.screen.cells in
-        screen.new ≡ record screen.old { screen = record screen.old.screen { cells = marked_at (governing_place old screen.old.screen.cursor) old } } }
+        screen.new ≡ record screen.old {
+          screen = record screen.old.screen { cells = marked_at (governing_place old screen.old.screen.cursor) old };
+        } }
 {
     if let Some(field) = screen.field_at(screen.cursor()) {
         screen.set_mdt(field.attr);
     }
 }
 
-/// Moves the cursor on from a cell that was typed into.
+/// Moves the cursor on after a character was typed.
 fn advance(screen: &mut Screen)
     ensures { screen.new ≡ record screen.old { screen = advanced screen.old.screen } }
 {
@@ -239,7 +255,8 @@ fn advance(screen: &mut Screen)
     screen.set_cursor(to);
 }
 
-/// Where the cursor goes from a cell, which may hold an attribute.
+/// The address to which the cursor moves when the next cell is `next`, which may have an attribute: it skips the
+/// attribute, and the whole field if that is autoskip.
 fn past(screen: &Screen, attribute: Option<Attr>, next: Addr) -> Addr
     requires { next < cells_in screen.now.size }
     ensures value { result ≡ past_attribute attribute screen.now.screen.cells next }

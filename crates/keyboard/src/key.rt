@@ -1,60 +1,61 @@
-//! Keys, and the answers to them.
+//! Keys, and the results of pressing them.
 ghost use Rattle.std.specs.Prelude.{◌≡◌};
 ghost use Rattle.keyboard.specs.Names.{refusal_number};
 
 use codes3270::{Aid, PaNo, PfNo};
 use std::fmt;
 
-/// A key that the operator may press (GA23-0059-07 on keyboard operation).
+/// A key that the operator can press (GA23-0059-07 on keyboard operation). A start is a cell after the attribute of an
+/// unprotected field that isn't an attribute itself. Searches for one wrap round at the end of the screen.
 #[derive(Clone, Copy, Debug, PartialEq, Eq)]
 pub enum Key {
-    /// A character, which is stored at the cursor if code page 037 has it.
+    /// Types a character at the cursor, if code page 037 has it.
     Char(char),
-    /// To the first start after the cursor; the cursor's own cell is the last looked at.
+    /// Moves the cursor to the first start after it; the cursor's own cell is tested last. Goes to 0 if there is none.
     Tab,
-    /// To the first start before the cursor; the cursor's own cell is the last looked at.
+    /// Moves the cursor to the first start before it; the cursor's own cell is tested last. Goes to 0 if there is none.
     BackTab,
-    /// To the first unprotected cell that isn't an attribute, from the beginning of the next row on; the last cell of the
-    /// cursor's own row is the last looked at.
+    /// Moves the cursor to the first unprotected cell that isn't an attribute, from the beginning of the next row on;
+    /// the last cell of the cursor's own row is tested last. Goes to 0 if there is none.
     NewLine,
-    /// To the start with the lowest address.
+    /// Moves the cursor to the start with the lowest address, or to 0 if there is none.
     Home,
-    /// A row up, round the end.
+    /// Moves the cursor one row up, from the first row to the last.
     CursorUp,
-    /// A row down, round the end.
+    /// Moves the cursor one row down, from the last row to the first.
     CursorDown,
-    /// A cell to the left, round the end.
+    /// Moves the cursor one cell to the left, from the first cell to the last.
     CursorLeft,
-    /// A cell to the right, round the end.
+    /// Moves the cursor one cell to the right, from the last cell to the first.
     CursorRight,
-    /// A cell to the left, round the end.
+    /// Moves the cursor one cell to the left, from the first cell to the last.
     Backspace,
-    /// Insert mode on.
+    /// Turns insert mode on.
     Insert,
-    /// Takes the character at the cursor out of its field and row.
+    /// Deletes the character at the cursor: the rest of its field, within the cursor's row, moves left by one cell.
     Delete,
-    /// Nulls from the cursor to the end of its field.
+    /// Stores nulls from the cursor to the end of its field.
     EraseEof,
-    /// Nulls in all unprotected cells.
+    /// Stores nulls in all unprotected cells, resets their fields' MDT, and moves the cursor as Home does.
     EraseInput,
-    /// Ends insert mode, and the lock after a refusal.
+    /// Ends insert mode, and the lock that a refused key set.
     Reset,
-    /// Sends what was typed.
+    /// Sends its AID with the modified fields.
     Enter,
-    /// A program function key: sends what was typed.
+    /// A program function key: sends its AID with the modified fields.
     Pf(PfNo),
-    /// A program attention key: sends its name alone.
+    /// A program attention key: sends its AID alone.
     Pa(PaNo),
-    /// Empties the screen and sends its name alone.
+    /// Clears the screen and sends its AID alone.
     Clear,
 }
 
-/// Whether the keyboard takes keys (our profile). `{}` prints it as `free`, `wait` or `error`.
+/// The keyboard lock: whether keys are accepted (our profile). `{}` prints it as `free`, `wait` or `error`.
 #[derive(Clone, Copy, Debug, PartialEq, Eq)]
 pub enum Lock {
-    /// It takes all keys.
+    /// All keys are accepted.
     Free,
-    /// It waits for the host. No key ends that.
+    /// The keyboard waits for the host. No key ends that.
     Wait,
     /// A key was refused, and Reset must be pressed first.
     Error,
@@ -75,17 +76,17 @@ impl fmt::Display for Lock {
     }
 }
 
-/// Why a key was refused (our profile). Where several reasons hold, the first of `Locked`, `NoCode`, `Protected`,
-/// `NotNumeric`, `NoRoom` is given. The first two change nothing, the others set the lock to `Error` and change nothing else.
+/// Why a key was refused (our profile). If several reasons hold, the first of `Locked`, `NoCode`, `Protected`,
+/// `NotNumeric`, `NoRoom` is given. The first two change nothing; the others only set the lock to `Error`.
 #[derive(Clone, Copy, Debug, PartialEq, Eq)]
 pub enum Refusal {
-    /// The keyboard takes no key but Reset.
+    /// The keyboard is locked, and the key isn't Reset.
     Locked,
     /// The cursor is on an attribute or in a protected cell.
     Protected,
     /// The field is numeric, and the character isn't a digit, a point or a minus sign.
     NotNumeric,
-    /// Insert mode is on, and the field has no null from the cursor on.
+    /// Insert mode is on, and the field has no null from the cursor to its end.
     NoRoom,
     /// Code page 037 has no such character.
     NoCode,
@@ -127,10 +128,10 @@ impl fmt::Display for Refusal {
 /// The result of pressing a key.
 #[derive(Clone, Copy, Debug, PartialEq, Eq)]
 pub enum Pressed {
-    /// The key did what it does, and sends nothing.
+    /// The key was done, and sends nothing.
     Done,
     /// The key was refused.
     Refused(Refusal),
-    /// What was typed is to be sent, under this identifier.
+    /// The key sends this AID. The caller must send the screen's data.
     Send(Aid),
 }

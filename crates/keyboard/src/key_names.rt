@@ -7,7 +7,7 @@ use crate::key::Key;
 use codes3270::{PaNo, PfNo};
 use std::fmt;
 
-/// The keys that have names, but for those with numbers.
+/// The keys with names, except those with numbers.
 const PLAIN_KEYS: [Key; 16] = [
     Key::Tab,
     Key::BackTab,
@@ -58,14 +58,14 @@ fn pa_name(key: PaNo) -> &'static str
     name_at(&PA_NAMES, (key.get() - 1) as usize)
 }
 
-/// The key without a number that has a name.
+/// The key without a number that has this name.
 fn plain_named(name: &str) -> Option<Key>
     ensures { result ≡ named_among plain_keys name.now }
 {
     PLAIN_KEYS.iter().copied().find(|key| key.name() == name)
 }
 
-/// The program function key with a name.
+/// The program function key that has this name.
 fn pf_named(name: &str) -> Option<Key>
     ensures { result ≡ named_among pf_keys name.now }
 {
@@ -78,7 +78,7 @@ fn pf_named(name: &str) -> Option<Key>
     None
 }
 
-/// The program attention key with a name.
+/// The program attention key that has this name.
 fn pa_named(name: &str) -> Option<Key>
     ensures { result ≡ named_among pa_keys name.now }
 {
@@ -92,7 +92,7 @@ fn pa_named(name: &str) -> Option<Key>
 }
 
 impl Key {
-    /// The key's name; empty of a character, which has none.
+    /// The key's name, which is empty for a character.
     fn name(self) -> &'static str
         ensures { result.now ≡ name_of self }
     {
@@ -121,7 +121,7 @@ impl Key {
 
     /// The key with a name: `tab`, `backtab`, `newline`, `home`, `up`, `down`, `left`, `right`,
     /// `backspace`, `insert`, `delete`, `eraseeof`, `eraseinput`, `reset`, `enter`, `clear`, `pf1` to
-    /// `pf24` or `pa1` to `pa3`. None for any other text: a character has no name.
+    /// `pf24` or `pa1` to `pa3`. Returns `None` for any other text: a character has no name.
     #[tactic(auto, unfolding(crate::specs::KeyNames::key_named))]
     pub fn named(name: &str) -> Option<Key>
         ensures { result ≡ key_named name.now }

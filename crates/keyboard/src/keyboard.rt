@@ -18,9 +18,9 @@ pub struct Keyboard {
 }
 
 impl Model for Keyboard {
-    ghost use Rattle.keyboard.specs.State.{Keyboard as Kept};
+    ghost use Rattle.keyboard.specs.State.{Keyboard as KeyboardValue};
 
-    ghost Value = { Kept };
+    ghost Value = { KeyboardValue };
 
     ghost view = { λ keyboard. record { lock = keyboard.lock; inserting = keyboard.inserting } };
 
@@ -28,7 +28,7 @@ impl Model for Keyboard {
 }
 
 impl Keyboard {
-    /// The keyboard of a terminal that no write has freed yet: its lock is `Wait`, and insert mode is off (our profile).
+    /// A keyboard before any write restored it: its lock is `Wait`, and insert mode is off (our profile).
     pub fn new() -> Keyboard
         ensures { result ≡ fresh }
     {
@@ -38,7 +38,7 @@ impl Keyboard {
         }
     }
 
-    /// Whether it takes keys.
+    /// The keyboard lock.
     pub fn lock(&self) -> Lock
         ensures { result ≡ self.now.lock }
     {
@@ -46,7 +46,7 @@ impl Keyboard {
         lock
     }
 
-    /// Whether insert mode is on, in which characters shift the rest of the field in place of overwriting it.
+    /// Whether insert mode is on. In it, a typed character shifts the rest of the field instead of overwriting it.
     pub fn inserting(&self) -> bool
         ensures { result ≡ self.now.inserting }
     {
@@ -54,8 +54,8 @@ impl Keyboard {
         inserting
     }
 
-    /// What a command does to the keyboard that restores it (GA23-0059-07, "Write Control Character (WCC)"): its lock is `Free`.
-    /// Insert mode stays (our profile).
+    /// Restores the keyboard, as a WCC can ask (GA23-0059-07, "Write Control Character (WCC)"): its lock becomes
+    /// `Free`. Insert mode stays as it is (our profile).
     pub fn restored(&mut self)
         ensures { self.new ≡ freed self.old }
     {
@@ -64,13 +64,14 @@ impl Keyboard {
 
     /// Presses a key (GA23-0059-07 on keyboard operation).
     ///
-    /// At a lock that isn't `Free` only Reset acts, which never ends `Wait`. A key that can't act is refused: the reasons are
-    /// tested in the order that [`Refusal`] names, `Locked` and `NoCode` change nothing, and the other refusals set the lock to
-    /// `Error` and change nothing else (our profile). Enter, PF, PA and Clear set the screen's AID, end insert mode and set the
-    /// lock to `Wait`; what is sent then is read off the screen.
+    /// If the lock isn't `Free`, only Reset acts, and it never ends `Wait`. Reasons to refuse a key are tested in the
+    /// order that [`Refusal`] names. `Locked` and `NoCode` change nothing; other refusals set the lock to `Error` and
+    /// change nothing else (our profile). Enter, PF, PA and Clear set the screen's AID, end insert mode and set the
+    /// lock to `Wait`; the caller then reads what to send from the screen.
     pub fn press(&mut self, screen: &mut Screen, key: Key) -> Pressed
         ensures keyboard { self.new ≡ (pressed screen.old.size.columns key self.old screen.old.screen).keyboard }
-        ensures screen { screen.new ≡ record screen.old { screen = (pressed screen.old.size.columns key self.old screen.old.screen).screen } }
+        ensures screen { screen.new
+            ≡ record screen.old { screen = (pressed screen.old.size.columns key self.old screen.old.screen).screen } }
         ensures answer { result ≡ (pressed screen.old.size.columns key self.old screen.old.screen).answer }
     {
         match self.lock {
@@ -79,7 +80,7 @@ impl Keyboard {
         }
     }
 
-    /// A key at a lock that isn't free: all but Reset are refused.
+    /// Presses a key while the lock isn't `Free`: all keys but Reset are refused.
     fn stay_locked(&mut self, screen: &Screen, key: Key) -> Pressed
         ensures keyboard { self.new ≡ (locked_out key self.old screen.now.screen).keyboard }
         ensures screen { (locked_out key self.old screen.now.screen).screen ≡ screen.now.screen }
@@ -94,10 +95,11 @@ impl Keyboard {
         }
     }
 
-    /// A key at a free lock.
+    /// Presses a key while the lock is `Free`.
     fn act(&mut self, screen: &mut Screen, key: Key) -> Pressed
         ensures keyboard { self.new ≡ (acted screen.old.size.columns key self.old screen.old.screen).keyboard }
-        ensures screen { screen.new ≡ record screen.old { screen = (acted screen.old.size.columns key self.old screen.old.screen).screen } }
+        ensures screen { screen.new
+            ≡ record screen.old { screen = (acted screen.old.size.columns key self.old screen.old.screen).screen } }
         ensures answer { result ≡ (acted screen.old.size.columns key self.old screen.old.screen).answer }
     {
         match key {
@@ -143,7 +145,7 @@ impl Keyboard {
         }
     }
 
-    /// Ends insert mode, and the lock after a refusal.
+    /// Ends insert mode, and the lock that a refused key set.
     fn reset(&mut self)
         ensures { self.new ≡ reset self.old }
     {
@@ -153,7 +155,7 @@ impl Keyboard {
         }
     }
 
-    /// The answer to an edit; a refusal sets the lock.
+    /// The result of an edit. If it was refused, this may set the lock.
     fn finish(&mut self, edit: Result<(), Refusal>) -> Pressed
         ensures keyboard { self.new ≡ keyboard_after edit self.old }
         ensures answer { result ≡ answer_to edit }
@@ -169,7 +171,7 @@ impl Keyboard {
         }
     }
 
-    /// Sends an AID: the keyboard waits, with insert mode off.
+    /// Sets the screen's AID, sets the lock to `Wait` and ends insert mode.
     fn send(&mut self, screen: &mut Screen, aid: Aid) -> Pressed
         ensures keyboard { self.new ≡ (sent aid self.old screen.old.screen).keyboard }
         ensures screen { screen.new ≡ record screen.old { screen = (sent aid self.old screen.old.screen).screen } }
@@ -182,7 +184,7 @@ impl Keyboard {
     }
 }
 
-/// All cells null, the cursor at 0.
+/// Stores nulls in all cells, and puts the cursor at 0.
 fn clear(screen: &mut Screen)
     ensures { screen.new ≡ record screen.old { screen = cleared (length screen.old.screen.cells) screen.old.screen } }
 {
@@ -191,7 +193,7 @@ fn clear(screen: &mut Screen)
     screen.clear();
 }
 
-/// Moves the cursor.
+/// Moves the cursor to an address.
 fn go(screen: &mut Screen, to: Addr) -> Pressed
     requires { to < cells_in screen.old.size }
     ensures screen { screen.new ≡ record screen.old { screen = record screen.old.screen { cursor = to } } }

@@ -7,11 +7,10 @@ ghost use Rattle.keyboard.specs.Sending.{SendingWaits, ClearEmptiesTheScreen, Si
 use crate::Key;
 use datastream::laws::kept_since_the_write;
 
-/// Law: what keys leave of the cells, each of those that it found, and all together of those that
-/// the last write left. A key that sends nothing keeps attributes but for MDT of unprotected
-/// fields, protected cells, and each unprotected field whose MDT is off, but for Erase Input, which
-/// nulls the unprotected cells and resets their MDT. Enter, PF and PA keep the cells, and Clear
-/// nulls them. No key moves the cursor off the screen.
+/// Law: what keys keep of the cells, both of those before the key and of those that the last write left. A key that
+/// sends nothing keeps protected cells, unprotected fields with MDT off, and all attributes except MDT of unprotected
+/// fields; but Erase Input stores nulls in the unprotected cells and resets their MDT. Enter, PF and PA keep all cells,
+/// and Clear stores nulls in all. No key moves the cursor off the screen.
 pub fn keys_keep_what_was_left()
     ensures leave { KeysLeave }
     ensures keep { KeysKeep }
@@ -21,14 +20,14 @@ pub fn keys_keep_what_was_left()
     kept_since_the_write();
 }
 
-/// Law: a key leaves a screen that can be sent where it found one.
+/// Law: a key keeps a screen sendable.
 pub fn what_keys_leave_can_be_sent()
     ensures { KeysKeepSendable }
 {
     keys_keep_what_was_left();
 }
 
-/// Law: a key is one that a terminal has, as the numbers in it are in range.
+/// Law: the number in a PF or PA key is in its range, so a terminal has the key.
 pub fn keys_are_real(key: &Key)
     ensures { IsKey key.now }
 {
@@ -45,17 +44,16 @@ pub fn keys_are_real(key: &Key)
     }
 }
 
-/// Law: a refused key changes the lock alone, if that, and that at a lock only Reset acts, which
-/// doesn't end Wait.
+/// Law: a refused key changes at most the lock. While the lock isn't `Free`, only Reset acts, and it
+/// doesn't end `Wait`.
 pub fn locks_hold()
     ensures refused { RefusalsSetTheLockAlone }
     ensures reset_alone { ResetAloneActsUnderALock }
     ensures wait { NoKeyEndsWait }
 {}
 
-/// Law: a key that sends leaves its identifier on the screen and the keyboard waiting, that Clear
-/// empties the screen, and that a key that sends nothing keeps the AID and begins no wait. At a
-/// lock no key sends.
+/// Law: after a key that sends, the screen has its AID and the lock is `Wait`, and Clear has cleared the screen. A key
+/// that sends nothing keeps the AID and doesn't set the lock to `Wait`. While the lock isn't `Free`, no key sends.
 pub fn sent_keys_wait()
     ensures sends { SendingWaits }
     ensures clears { ClearEmptiesTheScreen }
@@ -64,9 +62,8 @@ pub fn sent_keys_wait()
     ensures locked { NothingIsSentAtALock }
 {}
 
-/// Law: Tab, Back Tab, New Line and autoskip go to the nearest place that they look for, round the
-/// end, the place that they start from being the farthest, and to 0 where there is none. Home goes
-/// where Tab goes from the last cell.
+/// Law: Tab, Back Tab, New Line and autoskip go to the nearest cell that they search for, wrapping round at the end and
+/// testing the cell where they begin last. They go to 0 if there is none. Home goes where Tab goes from the last cell.
 pub fn keys_go_to_the_nearest()
     ensures onward { NearestOnward }
     ensures backward { NearestBackward }
@@ -75,10 +72,9 @@ pub fn keys_go_to_the_nearest()
     ensures home { HomeIsTabFromTheEnd }
 {}
 
-/// Law: what edits make of the text from the cursor on. A text comes in place of as many
-/// characters, and what of the field lies behind them stays. No other cell changes, but that MDT is
-/// turned on in the attribute that governs the cursor's cell, where there is one. An inserted
-/// character takes the room of the first null, and Delete brings in a null at the end.
+/// Law: an edit replaces characters from the cursor on by as many others, and keeps the rest of the field after them.
+/// It changes no other cell, except that it sets MDT in the attribute that governs the cursor's cell, if there is one.
+/// An inserted character takes the room of the first null, and Delete brings in a null at the end.
 pub fn edits_rewrite_the_text()
     ensures rewritten { EditsRewriteTheText }
     ensures marked { EditsMarkTheirField }
@@ -88,8 +84,8 @@ pub fn edits_rewrite_the_text()
     ensures deleted { DeleteBringsInANull }
 {}
 
-/// Law: what is printed of a key is read by [`Key::named`] as that key, and what is printed of a
-/// character, which has no name, as no key.
+/// Law: [`Key::named`] reads a key's printed name as that key. It reads a printed character, which has
+/// no name, as no key.
 pub fn names_read_back()
     ensures keys { NamesReadBack }
     ensures characters { CharactersHaveNoName }

@@ -1,14 +1,13 @@
-//! The keyboard of a 3278 of any model from 2 to 5: what each key does to the screen and to the keyboard (GA23-0059-07 on keyboard operation; the
-//! order of refusals and what each leaves is our profile). No call allocates.
+//! The keyboard of a 3278 of model 2 to 5: what each key does to the screen and to the keyboard (GA23-0059-07 on
+//! keyboard operation; the order of refusals and what a refused key leaves are our profile). No call allocates. The
+//! screen itself, and the data that a terminal sends, are the crate `presentation`'s.
 //!
-//! A [`Keyboard`] starts in [`Lock::Wait`], and the host's writes free it by [`Keyboard::restored`]. [`Keyboard::press`]
-//! changes a screen as a key does, and answers whether it was refused or sends what was typed.
+//! A [`Keyboard`] starts in [`Lock::Wait`], and [`Keyboard::restored`] unlocks it when a write's WCC does.
+//! [`Keyboard::press`] changes a screen as a key does, and returns whether the key was done, refused, or sends its AID.
 //!
-//! `specs/` has the definitions: `Keys` says what each key makes of keyboard and screen, `Edits` what typing and erasing
-//! make of a field's text, `Places` where the cursor goes, `Leaves` what stays of the cells, and `Laws`, `Sending` and
-//! `Sendable` what joins these. The functions [`laws::keys_keep_what_was_left`], [`laws::what_keys_leave_can_be_sent`],
-//! [`laws::keys_are_real`], [`laws::locks_hold`], [`laws::sent_keys_wait`], [`laws::keys_go_to_the_nearest`],
-//! [`laws::edits_rewrite_the_text`] and [`laws::names_read_back`] have the laws as their contracts.
+//! `specs/` has the definitions: `Keys` says what each key does to the keyboard and the screen, `Edits` what typing and
+//! erasing do to a field's text, `Places` where the cursor goes, `Leaves` what a key keeps of the cells, and `Laws`,
+//! `Sending` and `Sendable` how these relate. The functions in [`laws`] have these laws as their contracts.
 #![tactic(auto)]
 
 mod edits;

@@ -1,4 +1,4 @@
-//! The places that keys look for.
+//! The addresses that keys search for. A start is a first cell of an unprotected field.
 ghost use Rattle.std.specs.Prelude.{◌≡◌, ◌+◌, ◌-◌, ◌%◌, ◌<◌, ◌≤◌, ◌&&◌, not, length};
 ghost use Rattle.codes3270.specs.Size.{cells_in};
 ghost use Rattle.datastream.specs.Screen.{is_char, is_char_at, protects};
@@ -16,7 +16,7 @@ pub(crate) fn is_character_at(screen: &Screen, at: Addr) -> bool
     screen.cell(at).is_character()
 }
 
-/// Whether a cell may be typed into: it is unprotected, and no attribute.
+/// Whether a cell can be typed into: it is unprotected, and has no attribute.
 pub(crate) fn is_free(screen: &Screen, at: Addr) -> bool
     requires { at < cells_in screen.now.size }
     ensures { result ≡ is_free_at screen.now.screen.cells at }
@@ -24,7 +24,7 @@ pub(crate) fn is_free(screen: &Screen, at: Addr) -> bool
     is_free_under(screen.attribute_over(at), screen.cell(at))
 }
 
-/// Whether a cell may be typed into that an attribute governs.
+/// Whether a cell can be typed into, given the attribute that governs it.
 fn is_free_under(over: Option<Attr>, cell: Cell) -> bool
     ensures { result ≡ (is_char cell && not (protects over)) }
 {
@@ -38,7 +38,7 @@ fn is_start(before: Cell, cell: Cell) -> bool
     before.is_unprotected_attribute() && cell.is_character()
 }
 
-/// The first start behind a cell, round the end; its own is the last. 0 if there is none.
+/// The first start after a cell, wrapping round; the cell itself is tested last. It is 0 if there is none.
 #[tactic(auto, using(crate::proofs::Homes::start_found, crate::proofs::Homes::home_round))]
 pub(crate) fn next_start(screen: &Screen, at: Addr) -> Addr
     requires { at < cells_in screen.now.size }
@@ -53,7 +53,7 @@ pub(crate) fn next_start(screen: &Screen, at: Addr) -> Addr
     }
 }
 
-/// The first start before a cell, round the end; its own is the last. 0 if there is none.
+/// The first start before a cell, wrapping round; the cell itself is tested last. It is 0 if there is none.
 pub(crate) fn start_before(screen: &Screen, at: Addr) -> Addr
     requires { at < cells_in screen.now.size }
     ensures value { result ≡ start_ahead screen.now.screen.cells at }
@@ -74,10 +74,11 @@ pub(crate) fn start_before(screen: &Screen, at: Addr) -> Addr
     Addr::first()
 }
 
-/// The first free cell behind a cell, round the end; its own is the last. 0 if there is none.
+/// The first cell after a cell that can be typed into, wrapping round; the cell itself is tested last. 0 if none.
 fn next_free(screen: &Screen, at: Addr) -> Addr
     requires { at < cells_in screen.now.size }
-    ensures value { result ≡ first_or_zero (is_free_at screen.now.screen.cells) (onward (length screen.now.screen.cells) at) }
+    ensures value { result
+        ≡ first_or_zero (is_free_at screen.now.screen.cells) (onward (length screen.now.screen.cells) at) }
     ensures in_range { result < cells_in screen.now.size }
 {
     let size = screen.size();
@@ -94,7 +95,7 @@ fn next_free(screen: &Screen, at: Addr) -> Addr
     Addr::first()
 }
 
-/// The number of cells of a row, of which the screen has one or more.
+/// The number of cells of a row, which is at least 1.
 pub(crate) fn columns_of(screen: &Screen) -> u16
     ensures value { result ≡ screen.now.size.columns }
     ensures some { 0 < result }
@@ -109,7 +110,8 @@ pub(crate) fn columns_of(screen: &Screen) -> u16
 /// The cell above a cell, in the last row if the cell is in the first.
 pub(crate) fn up(screen: &Screen, at: Addr) -> Addr
     requires { at < cells_in screen.now.size }
-    ensures value { result ≡ (at + length screen.now.screen.cells - screen.now.size.columns) % length screen.now.screen.cells }
+    ensures value { result
+        ≡ (at + length screen.now.screen.cells - screen.now.size.columns) % length screen.now.screen.cells }
     ensures in_range { result < cells_in screen.now.size }
 {
     at.backward(columns_of(screen), screen.size())
@@ -124,7 +126,7 @@ pub(crate) fn down(screen: &Screen, at: Addr) -> Addr
     at.forward(columns_of(screen), screen.size())
 }
 
-/// The cell before a cell, round the end.
+/// The cell before a cell; the last one before the first.
 pub(crate) fn left(screen: &Screen, at: Addr) -> Addr
     requires { at < cells_in screen.now.size }
     ensures value { result ≡ (at + length screen.now.screen.cells - 1) % length screen.now.screen.cells }
@@ -133,7 +135,7 @@ pub(crate) fn left(screen: &Screen, at: Addr) -> Addr
     at.backward(1, screen.size())
 }
 
-/// The cell behind a cell, round the end.
+/// The cell after a cell; the first one after the last.
 pub(crate) fn right(screen: &Screen, at: Addr) -> Addr
     requires { at < cells_in screen.now.size }
     ensures value { result ≡ (at + 1) % length screen.now.screen.cells }
@@ -142,7 +144,7 @@ pub(crate) fn right(screen: &Screen, at: Addr) -> Addr
     at.next(screen.size())
 }
 
-/// How many cells of its row are behind a cell.
+/// The number of cells after a cell in its row.
 fn rest_of_row(at: u16, columns: u16) -> u16
     requires { 0 < columns }
     ensures value { result ≡ columns - 1 - at % columns }
@@ -151,7 +153,7 @@ fn rest_of_row(at: u16, columns: u16) -> u16
     columns - 1 - at % columns
 }
 
-/// The last cell of a row.
+/// The last cell of the row that a cell is in.
 fn row_end_of(screen: &Screen, at: Addr) -> Addr
     requires { at < cells_in screen.now.size }
     ensures value { result ≡ row_end screen.now.size.columns at }
@@ -161,7 +163,8 @@ fn row_end_of(screen: &Screen, at: Addr) -> Addr
     at.forward(rest, screen.size())
 }
 
-/// The first free cell behind the row of a cell, round the end; that row's last cell is the last. 0 if there is none.
+/// The first cell after a cell's row that can be typed into, wrapping round; the row's last cell is tested last. 0 if
+/// none.
 pub(crate) fn next_line(screen: &Screen, at: Addr) -> Addr
     requires { at < cells_in screen.now.size }
     ensures value { result ≡ line_behind screen.now.size.columns screen.now.screen.cells at }

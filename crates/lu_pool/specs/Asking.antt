@@ -1,4 +1,4 @@
--- What a pool answers who asks for an LU, and what it makes of it (our profile).
+-- What a pool answers to a request for an LU, and how that changes it (our profile).
 use Rattle.std.specs.Prelude.{◌≡◌, ℕ, List, Option, None, Some, Result, Ok, Err, is_none, if◌then◌else◌, find, slice_get, slice_set}
 use Rattle.std.specs.Str.{bytes_eq}
 use Rattle.tn3270e_msg.specs.Lu.{lu_of}
@@ -6,48 +6,52 @@ use Rattle.tn3270e_msg.specs.declared.reply.Reason.{Reason}
 use Rattle.lu_pool.specs.declared.entry.Entry.{Entry}
 use Rattle.lu_pool.specs.Pool.{entry, HoldsNone}
 
--- the reasons have the codes of RFC 1647, section 3
+-- DEVICE-IN-USE (RFC 1647, section 3): the requested LU is held or, without a name, all LUs are
 abbrev pub device_in_use : Reason
 device_in_use = record { 0 = 1 }
 
+-- INV-NAME (RFC 1647, section 3): the pool has no such LU
 abbrev pub inv_name : Reason
 inv_name = record { 0 = 3 }
 
--- an entry is granted where nobody holds it
+-- the answer to a request for an entry's LU: it is granted if no connection holds it
 abbrev pub granted : Entry → Result (List ℕ) Reason
 granted at = if is_none at.holder then Ok at.lu else Err device_in_use
 
--- with a name: the entry of that LU
+-- the answer to a request by name, given the entry with that name
 abbrev pub named : Option Entry → Result (List ℕ) Reason
 named None = Err inv_name
 named (Some at) = granted at
 
+-- the answer to a request by name, given the LU that the name is read as
 abbrev pub answer_to_lu : List Entry → Option (List ℕ) → Result (List ℕ) Reason
 answer_to_lu pool None = Err inv_name
 answer_to_lu pool (Some lu) = named (find (λ at. bytes_eq at.lu lu) pool)
 
--- without one: the first free entry
+-- the answer to a request without a name, given the first free entry
 abbrev pub unnamed : Option Entry → Result (List ℕ) Reason
 unnamed None = Err device_in_use
 unnamed (Some at) = Ok at.lu
 
+-- the answer to a request, with or without a name
 abbrev pub answer_to : List Entry → Option (List ℕ) → Result (List ℕ) Reason
 answer_to pool None = unnamed (find (λ at. is_none at.holder) pool)
 answer_to pool (Some name) = answer_to_lu pool (lu_of name)
 
--- the entry at this place is free, and is the answer
+-- holds if the entry at this index is free, and its LU is the answer
 pub record IsFreePlace (pool : List Entry) (answer : Result (List ℕ) Reason) (place : ℕ) : Type 0 where
   pub lu : List ℕ
   pub free : slice_get pool place ≡ Some (entry lu None)
   pub is_answer : answer ≡ Ok lu
 
--- this LU's entry was free and is this connection's, and no other entry changes
+-- holds if this LU was free and is now this connection's, and no other entry changed
 pub record Grants (old : List Entry) (conn : ℕ) (lu : List ℕ) (new : List Entry) : Type 0 where
   pub place : ℕ
   pub free : slice_get old place ≡ Some (entry lu None)
   pub becomes : new ≡ slice_set old place (entry lu (Some conn))
 
--- the entry that this connection holds becomes free, if it holds one, and no other entry changes
+-- holds if the LU that this connection held, if any, is now free, and no other entry changed
 pub data Frees (old : List Entry) (conn : ℕ) (new : List Entry) : Type 0 where
   held_none : HoldsNone old conn → new ≡ old → Frees old conn new
-  held : (place : ℕ) (lu : List ℕ) → slice_get old place ≡ Some (entry lu (Some conn)) → new ≡ slice_set old place (entry lu None) → Frees old conn new
+  held : (place : ℕ) (lu : List ℕ) → slice_get old place ≡ Some (entry lu (Some conn))
+      → new ≡ slice_set old place (entry lu None) → Frees old conn new

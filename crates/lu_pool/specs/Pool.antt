@@ -3,48 +3,52 @@ use Rattle.std.specs.Prelude.{◌≡◌, ℕ, ◌≤◌, ◌==◌, Bool, false, 
 use Rattle.tn3270e_msg.specs.Lu.{is_lu}
 use Rattle.lu_pool.specs.declared.entry.Entry.{Entry}
 
--- an LU, and the connection that holds it, if one does
+-- an entry: an LU, and the connection that holds it, if one does
 abbrev pub entry : List ℕ → Option ℕ → Entry
 entry lu holder = record { lu = lu; holder = holder }
 
+-- whether this connection is the holder
 abbrev pub is_held_by : ℕ → Option ℕ → Bool
 is_held_by conn None = false
 is_held_by conn (Some holder) = holder == conn
 
--- this connection holds this LU
+-- holds if this connection holds this LU
 abbrev pub Holds : List Entry → ℕ → List ℕ → Type 0
 Holds pool conn lu = (place : ℕ) × (slice_get pool place ≡ Some (entry lu (Some conn)))
 
+-- holds if this connection holds no LU
 abbrev pub HoldsNone : List Entry → ℕ → Type 0
 HoldsNone pool conn = (lu : List ℕ) → Holds pool conn lu → ⊥
 
--- two connections never hold one LU
+-- holds if no LU has two holders
 abbrev pub OneHolder : List Entry → Type 0
 OneHolder pool = (lu : List ℕ) (conn other : ℕ) → Holds pool conn lu → Holds pool other lu → conn ≡ other
 
--- a connection never holds two
+-- holds if no connection holds two LUs
 abbrev pub OneLu : List Entry → Type 0
 OneLu pool = (conn : ℕ) (lu other : List ℕ) → Holds pool conn lu → Holds pool conn other → lu ≡ other
 
--- what each entry has of an LU is a name of one
+-- holds if each entry has an LU name
 abbrev pub AreLus : List Entry → Type 0
 AreLus pool = (place : ℕ) (at : Entry) → slice_get pool place ≡ Some at → IsTrue (is_lu at.lu)
 
--- no LU has two entries
+-- holds if no LU has two entries
 abbrev pub ListedOnce : List Entry → Type 0
-ListedOnce pool = (place other : ℕ) (at there : Entry) → slice_get pool place ≡ Some at → slice_get pool other ≡ Some there → at.lu ≡ there.lu → place ≡ other
+ListedOnce pool = (place other : ℕ) (at there : Entry) → slice_get pool place ≡ Some at
+    → slice_get pool other ≡ Some there → at.lu ≡ there.lu → place ≡ other
 
--- no connection has two entries
+-- holds if no connection is the holder of two entries
 abbrev pub HeldOnce : List Entry → Type 0
-HeldOnce pool = (place other conn : ℕ) (at there : Entry) → slice_get pool place ≡ Some at → slice_get pool other ≡ Some there
+HeldOnce pool = (place other conn : ℕ) (at there : Entry) → slice_get pool place ≡ Some at
+    → slice_get pool other ≡ Some there
     → at.holder ≡ Some conn → there.holder ≡ Some conn → place ≡ other
 
--- a pool has 1 to 64 LUs
+-- holds if a pool can have this number of LUs: 1 to 64
 pub record IsCount (count : ℕ) : Type 0 where
   pub some : 1 ≤ count
   pub few : count ≤ 64
 
--- the pools there are
+-- holds if this list of entries is a pool
 pub record IsPool (pool : List Entry) : Type 0 where
   pub count : IsCount (length pool)
   pub are_lus : AreLus pool

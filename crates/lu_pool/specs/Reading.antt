@@ -1,4 +1,4 @@
--- How a list of names becomes a pool, and why it doesn't (our profile).
+-- How a list of names gives a pool, or a fault (our profile).
 use Rattle.std.specs.Prelude.{◌≡◌, ℕ, ◌<◌, List, length, map, Option, None, Some, slice_get, IsTrue, String}
 use Rattle.std.specs.String.{string_bytes}
 use Rattle.tn3270e_msg.specs.Lu.{is_lu, lu_of}
@@ -7,44 +7,47 @@ use Rattle.lu_pool.specs.declared.fault.PoolFault.{PoolFault}
 use Rattle.lu_pool.specs.declared.fault.PoolFault.TheVariants.{BadName, Twice, BadCount, Memory}
 use Rattle.lu_pool.specs.Pool.{entry, IsCount}
 
--- the LUs that these texts are read as, if they are
+-- the LU that each of these texts names, or `None` for a text that is no LU name
 abbrev pub readings : {Z : Type 0} → List (String Z) → List (Option (List ℕ))
 readings names = map (λ name. lu_of (string_bytes name)) names
 
--- the pool has the LUs that were read, in their order, and nobody holds one
+-- holds if the pool has the LUs that were read, in their order, and no connection holds one
 pub record IsReadFrom (read : List (Option (List ℕ))) (pool : List Entry) : Type 0 where
   pub lus : read ≡ map (λ at. Some at.lu) pool
   pub free : pool ≡ map (λ at. entry at.lu None) pool
 
--- what is wrong with what was read: the count, a text that is no LU, or one that was read before
+-- holds if the texts have this fault: their number, a text that is no LU name, or one that names an earlier text's LU
 abbrev pub HasFault : List (Option (List ℕ)) → PoolFault → Type 0
 HasFault read BadCount = IsCount (length read) → ⊥
 HasFault read (BadName place) = slice_get read place ≡ Some None
 HasFault read (Twice place) =
-    (earlier : ℕ) × (lu : List ℕ) × (earlier < place) × (slice_get read earlier ≡ Some (Some lu)) × (slice_get read place ≡ Some (Some lu))
+    (earlier : ℕ) × (lu : List ℕ) × (earlier < place) × (slice_get read earlier ≡ Some (Some lu))
+    × (slice_get read place ≡ Some (Some lu))
 HasFault read Memory = ⊥
 
--- nothing is wrong
+-- holds if the texts have no fault
 abbrev pub IsRight : List (Option (List ℕ)) → Type 0
 IsRight read = (fault : PoolFault) → HasFault read fault → ⊥
 
--- no text before this place is wrong
+-- holds if no text before this index has a fault
 abbrev pub IsRightBelow : List (Option (List ℕ)) → ℕ → Type 0
-IsRightBelow read place = (before : ℕ) → before < place → (HasFault read (BadName before) → ⊥) × (HasFault read (Twice before) → ⊥)
+IsRightBelow read place = (before : ℕ) → before < place → (HasFault read (BadName before) → ⊥)
+    × (HasFault read (Twice before) → ⊥)
 
--- the count is wrong, or it is right and this is the first text that is wrong; or memory was refused
+-- holds if this is the first fault: the number of texts, or else the first text with a fault; or memory was refused
 abbrev pub IsFirstFault : List (Option (List ℕ)) → PoolFault → Type 0
 IsFirstFault read BadCount = HasFault read BadCount
 IsFirstFault read (BadName place) = IsCount (length read) × HasFault read (BadName place) × IsRightBelow read place
 IsFirstFault read (Twice place) = IsCount (length read) × HasFault read (Twice place) × IsRightBelow read place
 IsFirstFault read Memory = IsCount (length read)
 
--- what is wrong with one text, behind these entries
+-- holds if a text after those of these entries has this fault
 pub data IsTextFault (pool : List Entry) (place : ℕ) (read : Option (List ℕ)) (fault : PoolFault) : Type 0 where
   no_name : read ≡ None → fault ≡ BadName place → IsTextFault pool place read fault
-  named_before : (lu : List ℕ) (earlier : ℕ) (at : Entry) → read ≡ Some lu → slice_get pool earlier ≡ Some at → at.lu ≡ lu → fault ≡ Twice place → IsTextFault pool place read fault
+  named_before : (lu : List ℕ) (earlier : ℕ) (at : Entry) → read ≡ Some lu → slice_get pool earlier ≡ Some at
+      → at.lu ≡ lu → fault ≡ Twice place → IsTextFault pool place read fault
 
--- this LU is read, and no entry has it yet
+-- holds if the text names this LU, and no entry has it yet
 pub record IsNew (pool : List Entry) (read : Option (List ℕ)) (lu : List ℕ) : Type 0 where
   pub read_as : read ≡ Some lu
   pub is_lu : IsTrue (is_lu lu)

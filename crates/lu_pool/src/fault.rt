@@ -6,16 +6,16 @@ use std::alloc::AllocError;
 use std::error::Error;
 use std::fmt;
 
-/// Why a list of names is no pool. Places count from 0.
+/// Why a list of names is no pool. Indexes count from 0.
 #[derive(Clone, Copy, Debug, PartialEq, Eq)]
 pub enum PoolFault {
-    /// 1: the text at this place is no name of an LU.
+    /// 1: the text at this index is no LU name.
     BadName(usize),
-    /// 2: the text at this place is read as an LU that an earlier one is read as.
+    /// 2: the text at this index names an LU that an earlier text names.
     Twice(usize),
-    /// 3: there is no text, or there are more than 64.
+    /// 3: there are no texts, or more than 64.
     BadCount,
-    /// There was no memory for the pool.
+    /// Memory for the pool was refused.
     Memory,
 }
 

@@ -2,9 +2,9 @@
 //! other crates use them; no program calls them, and the root doesn't export them.
 ghost use Rattle.lu_pool.specs.HolderLaws.{PoolsAreSound, StaysSoundFree, StaysSoundGranted, StaysSoundBack, NobodyHolds, AnswersWhatIsFree, AnswersNames, AnswersTheName, GrantIsHeld, OthersStay, OthersKeep, BackIsFree, GrantsOneEntry, FreesOneEntry, GrantMakesPool, FreeMakesPool};
 
-/// Law: a pool is a map from LUs to the connections that hold them. What it answers is free, is the
-/// LU that was asked for, and is held once it is granted; granting and giving back change one
-/// entry, and no other pool comes of them.
+/// Law: a pool is a map from LUs to the connections that hold them. The LU with which it answers a request is free, is
+/// the one that was named, if one was, and is held once it is granted. Granting and giving back each change at most one
+/// entry, and determine the new pool.
 pub fn the_pool_is_a_map()
     ensures sound { PoolsAreSound }
     ensures sound_free { StaysSoundFree }

@@ -1,12 +1,12 @@
 //! A host's logical units, and which connection holds which (our profile).
 //!
-//! A [`Pool`] is read once from the names of its LUs. A connection asks for one, by its name or the first that is free,
-//! and gives it back when it ends; in every state an LU has one holder at most, and a connection one LU. `Pool::read`
-//! alone takes memory.
+//! A [`Pool`] is made once, from the names of its LUs. A connection asks for an LU, by name or for the first free one,
+//! and gives it back when it ends. At all times an LU has at most one holder, and a connection at most one LU. Only
+//! [`Pool::read`] allocates. Reading LU names is the crate `tn3270e_msg`'s.
 //!
-//! Contracts see a pool as the list of its entries. `specs/` has what they cite: `Pool` (who holds what), `Reading` (how
-//! names become a pool, and which fault is first), `Asking` (what is answered, and which entry changes) and `Holders` (the
-//! pool after a change). What follows of these is in `HolderLaws`.
+//! Contracts see a pool as the list of its entries. `specs/` has what they cite: `Pool` (who holds what), `Reading`
+//! (how names become a pool, and which fault is first), `Asking` (the answer to a request, and which entry changes) and
+//! `Holders` (the pool after a change). `HolderLaws` has what follows from these.
 #![tactic(auto)]
 
 mod entry;

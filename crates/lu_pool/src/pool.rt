@@ -15,7 +15,7 @@ use std::alloc::{AllocError, Global};
 use std::marker::Model;
 use tn3270e_msg::{Lu, Reason};
 
-/// The LUs that a pool has at most (our profile).
+/// The most LUs that a pool can have (our profile).
 const MOST_LUS: usize = 64;
 
 /// A host's logical units, 1 to 64, and which connection holds which. Contracts see it as the list of
@@ -38,9 +38,9 @@ impl Model for Pool {
 }
 
 impl Pool {
-    /// A pool of the LUs that these texts are read as, in their order; nobody holds one. BadCount
-    /// where there aren't 1 to 64; else the fault of the first text that is no name of an LU
-    /// (BadName), or is read as an LU that an earlier one is read as (Twice).
+    /// Makes a pool of the LUs that these texts name, in their order. No connection holds one. Fails with `BadCount`
+    /// unless there are 1 to 64 texts; else with the fault of the first text that is no LU name (`BadName`), or names
+    /// an LU that an earlier text names (`Twice`); or with `Memory`.
     pub fn read(alloc: Global, names: &[String]) -> Result<Pool, PoolFault>
         ensures read { IfOk result (IsReadFrom (readings names.now)) }
         ensures right { OnOk result (IsRight (readings names.now)) }
@@ -60,16 +60,16 @@ impl Pool {
         Ok(Pool { entries })
     }
 
-    /// Grants an LU to a connection that holds none: the one of this name, or without a name the
-    /// first that is free. INV-NAME where the pool has no such LU, DEVICE-IN-USE where it is held,
-    /// or where each is; then nothing changes. `lu_held_by` tells whether a connection holds none.
+    /// Grants an LU to a connection, which must not hold one (see [`Pool::lu_held_by`]): the LU with this name or,
+    /// without a name, the first free one. Fails with INV-NAME if the pool has no such LU, and with DEVICE-IN-USE if
+    /// that LU is held, or if each is (RFC 1647, section 3; our profile). Then nothing changes.
     pub fn ask(&mut self, conn: usize, name: Option<&[u8]>) -> Result<Lu, Reason>
         requires { HoldsNone self.old conn }
         ensures answer { result ≡ answer_to self.old (option_copied name.entry) }
         ensures granted { IfOk result (λ lu. Grants self.old conn lu self.new) }
         ensures becomes { IfOk result (λ lu. self.new ≡ granted_to conn lu self.old) }
         ensures refused { OnErr result (self.new ≡ self.old) }
-        // Afterwards this connection holds what was granted, and each holds what it held.
+        // Afterwards this connection holds what was granted, and each connection still holds what it held.
         ensures held { (other : ℕ) (lu : List ℕ) → Holds self.new other lu
             ↔ (Holds self.old other lu ⊎ ((other ≡ conn) × (result ≡ Ok lu))) }
         ensures is_lu { IfOk result (λ lu. IsTrue (is_lu lu)) }
@@ -87,7 +87,7 @@ impl Pool {
     pub fn give_back(&mut self, conn: usize)
         ensures frees { Frees self.old conn self.new }
         ensures becomes { self.new ≡ given_back conn self.old }
-        // Afterwards it holds none, and each other connection holds what it held.
+        // Afterwards it holds none, and each other connection still holds what it held.
         ensures held { (other : ℕ) (lu : List ℕ) → Holds self.new other lu
             ↔ (Holds self.old other lu × (other ≢ conn)) }
         ensures one_holder { OneHolder self.new }
@@ -108,7 +108,7 @@ impl Pool {
         free_each(&mut self.entries);
     }
 
-    /// Law: a pool has 1 to 64 LUs, each listed once, and that no connection holds two of them.
+    /// Law: a pool has 1 to 64 LUs, each listed once, and no connection holds two of them.
     pub fn lus_are_listed_once(&self)
         ensures { IsPool self.now }
     {
@@ -127,12 +127,14 @@ impl Pool {
     }
 }
 
+/// Whether a pool can have this number of LUs: 1 to 64.
 fn is_count(count: usize) -> bool
     ensures { IsTrue result ↔ IsCount count }
 {
     (1..=MOST_LUS).contains(&count)
 }
 
+/// Appends an entry with this LU that no connection holds.
 fn add_free(entries: &mut Vec<Entry>, lu: Lu) -> Result<(), AllocError>
     ensures { OnOk result (entries.new.items ≡ entries.old.items ++ entry lu None ∷ []) }
 {
@@ -140,7 +142,7 @@ fn add_free(entries: &mut Vec<Entry>, lu: Lu) -> Result<(), AllocError>
     Ok(())
 }
 
-// The LU that the text at this place is read as, if no entry has it yet.
+// The LU that the text at this index names. Fails if it is no LU name, or if an entry already has the LU.
 fn new_lu(entries: &[Entry], place: usize, name: &[u8]) -> Result<Lu, PoolFault>
     ensures new { IfOk result (IsNew entries.now (lu_of name.now)) }
     ensures fault { IfErr result (IsTextFault entries.now place (lu_of name.now)) }

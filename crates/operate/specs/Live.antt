@@ -1,4 +1,5 @@
--- A live terminal: what the bytes of an operator's tty and of a host make of it, and what the tty is written (our profile).
+-- A live terminal: the effect of bytes from the operator's tty and from the host, and the bytes written to the tty (our
+-- profile).
 use Rattle.std.specs.Prelude.{◌≡◌, ℕ, Bool, true, false, List, [], ◌∷◌, ◌++◌, Option, None, Some, codes, if◌then◌else◌}
 use Rattle.std.specs.Option.{option_to_list}
 use Rattle.keyboard.specs.declared.key.Key.{Key}
@@ -22,30 +23,30 @@ use Rattle.tty_screen.specs.Changes.{drawing_of}
 use Rattle.tty_screen.specs.Painting.{picture_of}
 use Rattle.tty_screen.specs.Pictures.{PictureParts}
 use Rattle.tty_screen.specs.Spelling.{all_spelt}
-use Rattle.operate.specs.declared.live.Asked.{Asked}
-use Rattle.operate.specs.declared.live.Asked.TheVariants as asked
+use Rattle.operate.specs.declared.live.OperatorRequest.{OperatorRequest}
+use Rattle.operate.specs.declared.live.OperatorRequest.TheVariants as asked
 
--- What an operator has: the terminal, the refusal that the status row shows, what the operator asks of the program, and the picture
--- that the tty shows, if it is known.
+-- An operator's seat: the terminal, the refusal that the status row shows, what the operator asks of the program, and
+-- the picture that the tty shows, if it is known.
 pub record Seat : Type 0 where
   pub terminal : Terminal
   pub refusal : Option Refusal
-  pub asks : Asked
+  pub asks : OperatorRequest
   pub shown : Option PictureParts
 
--- a seat, the bytes of a keystroke that isn't complete, and the capacity of the terminal's output buffer
+-- a seat, the bytes of an incomplete keystroke, and the capacity of the terminal's output buffer
 pub record Live : Type 0 where
   pub seat : Seat
   pub kept : List ℕ
   pub room : ℕ
 
--- at first; nothing is known of the tty
+-- the seat at the start; it isn't known what the tty shows
 abbrev pub first_seat : Model → Seat
 first_seat model = record { terminal = new_terminal model; refusal = None; asks = asked.Nothing; shown = None }
 
 -- ---- keystrokes
 
-abbrev pub is_quit : Asked → Bool
+abbrev pub is_quit : OperatorRequest → Bool
 is_quit asked.Quit = true
 is_quit asked.Connect = false
 is_quit asked.Nothing = false
@@ -61,18 +62,18 @@ abbrev pub is_enter : Key → Bool
 is_enter key.Enter = true
 is_enter _ = false
 
--- a key that a locked keyboard refuses changes nothing of what the status row shows; another shows why it is refused, or nothing
+-- the refusal shown after a key; it stays if the keyboard was locked, and otherwise is the key's own refusal, if any
 abbrev pub refusal_after : Pressed → Option Refusal → Option Refusal
 refusal_after (pressed.Refused refusal.Locked) shown = shown
 refusal_after (pressed.Refused why) shown = Some why
 refusal_after pressed.Done shown = None
 refusal_after (pressed.Send aid) shown = None
 
--- Enter asks for a connection, if there is none
-abbrev pub asks_after : Key → TermPhase → Asked → Asked
+-- without a connection, Enter asks for one
+abbrev pub asks_after : Key → TermPhase → OperatorRequest → OperatorRequest
 asks_after key phase asks = if is_idle phase then (if is_enter key then asked.Connect else asks) else asks
 
--- A key is pressed, whatever the lock is: what the keyboard refuses is gone.
+-- A key is pressed, even if the keyboard is locked; the terminal drops a key that the keyboard refuses.
 abbrev pub after_press : Key → Seat → Seat
 after_press key seat = record seat {
   terminal = after_key key seat.terminal;
@@ -80,27 +81,28 @@ after_press key seat = record seat {
   asks = asks_after key (phase_of seat.terminal.link) seat.asks;
 }
 
+-- the seat after the action of a keystroke
 abbrev pub after_meaning : Keystroke → Seat → Seat
 after_meaning (stroke.Key key) seat = after_press key seat
 after_meaning stroke.Redraw seat = record seat { shown = None }
 after_meaning stroke.Quit seat = record seat { asks = asked.Quit }
 after_meaning stroke.Unknown seat = seat
 
--- keystrokes behind the one that ends the program mean nothing
+-- a keystroke after the one that ends the program has no effect
 abbrev pub after_keystroke : Keystroke → Seat → Seat
 after_keystroke keystroke seat = if is_quit seat.asks then seat else after_meaning keystroke seat
 
--- keystrokes, one after another
+-- the seat after keystrokes, one after another
 abbrev pub after_keystrokes : List Keystroke → Seat → Seat
 after_keystrokes [] seat = seat
 after_keystrokes (keystroke ∷ keystrokes) seat = after_keystrokes keystrokes (after_keystroke keystroke seat)
 
--- The keystrokes of bytes that were read from the tty are taken, one after another.
+-- Holds if the keystrokes in these bytes of the tty are taken, one after another.
 pub record ReadsTyped (bytes : List ℕ) (old new : Live) : Type 0 where
   pub seat : new.seat ≡ after_keystrokes (read_bytes old.kept bytes).keystrokes old.seat
   pub kept : new.kept ≡ (read_bytes old.kept bytes).kept
 
--- A read of the tty gave these bytes. One that finds none ends a keystroke that isn't complete.
+-- Holds for a read of the tty that gave these bytes. A read without a byte ends an incomplete keystroke.
 abbrev pub Types : (bytes : List ℕ) → (old new : Live) → Type 0
 Types [] old new = (new.seat ≡ after_keystrokes (option_to_list (after_pause old.kept)) old.seat) × (new.kept ≡ [])
 Types (byte ∷ bytes) old new = ReadsTyped (byte ∷ bytes) old new
@@ -114,7 +116,7 @@ is_connected (phase.Bound lu) = true
 is_connected (phase.Refused reason) = true
 is_connected (phase.Closed cause) = false
 
--- what the status row has in the LU's place: the LU; and without a connection, what Enter does
+-- the text in the status row's place for the LU: the LU's name, or what Enter does if there is no connection
 abbrev pub lu_place : TermPhase → List ℕ
 lu_place (phase.Bound lu) = lu
 lu_place phase.Idle = codes "Enter connects"
@@ -122,15 +124,16 @@ lu_place phase.Talking = []
 lu_place (phase.Refused reason) = []
 lu_place (phase.Closed cause) = []
 
--- what the operator is shown
+-- the picture that the tty must show
 abbrev pub picture_at : Seat → PictureParts
 picture_at seat =
     let phase = phase_of seat.terminal.link in
-    picture_of seat.terminal.station.screen seat.terminal.station.keyboard (is_connected phase) seat.refusal (lu_place phase)
+    picture_of seat.terminal.station.screen seat.terminal.station.keyboard (is_connected phase) seat.refusal
+    (lu_place phase)
 
 -- ---- a turn
 
--- bytes of the host come: the terminal is fed them, and memory isn't refused
+-- holds if the terminal is fed these bytes from the host, and memory isn't refused
 pub record Hears (bytes : List ℕ) (old new : Live) : Type 0 where
   pub fed : Fed
   pub feeds : Feeds new.room old.seat.terminal bytes fed new.seat.terminal
@@ -138,12 +141,12 @@ pub record Hears (bytes : List ℕ) (old new : Live) : Type 0 where
   pub seat : new.seat ≡ record old.seat { terminal = new.seat.terminal }
   pub kept : new.kept ≡ old.kept
 
--- The tty is drawn: what is written has it show what the operator is to be shown.
+-- Holds if the bytes are drawn with which the tty shows the current picture.
 pub record Draws (old new : Live) (drawn_old drawn_new : List ℕ) : Type 0 where
   pub drawn : drawn_new ≡ drawn_old ++ all_spelt (drawing_of old.seat.shown (picture_at old.seat))
   pub live : new ≡ record old { seat = record old.seat { shown = Some (picture_at old.seat) } }
 
--- A turn: the host's bytes are heard, then the keys that were typed are pressed in order, and then the tty is drawn.
+-- Holds for a turn: the host's bytes are taken, then the typed keys are pressed in order, and then the tty is drawn.
 pub record TakesTurn (came typed : List ℕ) (old new : Live) (drawn_old drawn_new : List ℕ) : Type 0 where
   pub heard : Live
   pub hears : Hears came old heard

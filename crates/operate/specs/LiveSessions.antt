@@ -11,23 +11,27 @@ use Rattle.operate.specs.Live.{Live, TakesTurn, Types}
 use Rattle.socket_links.specs.Sockets.{SocketSlot, Gives, Takes, emptied, has_taken}
 use Rattle.job_streams.specs.declared.streams.Answer.{Answer}
 
--- the bytes that a write took are sent
+-- the live terminal after a write: the bytes that it took are dropped from the output
 abbrev pub sent_by : LinkWrite → Live → Live
 sent_by (write.Took count) live =
-    record live { seat = record live.seat { terminal = record live.seat.terminal { out = drop count live.seat.terminal.out } } }
+    record live {
+      seat = record live.seat { terminal = record live.seat.terminal { out = drop count live.seat.terminal.out } };
+    }
 sent_by write.NotNow live = live
 sent_by write.Failed live = live
 
--- the connection is lost
+-- holds if the terminal has lost its connection
 abbrev pub lost_live : Live → Live → Type 0
-lost_live old new = (new.seat ≡ record old.seat { terminal = lost old.seat.terminal; refusal = None }) × (new.kept ≡ old.kept)
+lost_live old new = (new.seat ≡ record old.seat { terminal = lost old.seat.terminal; refusal = None })
+    × (new.kept ≡ old.kept)
 
--- nothing came, nothing was typed, and the tty shows the screen
+-- whether nothing was received or typed, and the tty shows the current screen
 abbrev pub is_quiet : List ℕ → List ℕ → Bool → Bool
 is_quiet came typed stale = length came == 0 && length typed == 0 && not stale
 
--- A session: the live terminal; its connection of type S, if there is one; the keys; the tty, and what it is still to be written;
--- whether it may show another screen than the terminal's; and whether the terminal was bound to an LU at some time.
+-- A session: the live terminal; its connection of type S, if there is one; the keys; the tty, and the bytes that must
+-- still be written there; whether the tty may show another screen than the terminal's; and whether the terminal was
+-- ever bound to an LU.
 pub record Session (S K T : Type 0) : Type 0 where
   pub live : Live
   pub socket : SocketSlot S
@@ -37,14 +41,15 @@ pub record Session (S K T : Type 0) : Type 0 where
   pub stale : Bool
   pub was_bound : Bool
 
--- The terminal's output is written to its connection once.
-pub record SendsOnce {S : Type 0} (took : S → List ℕ → Result ℕ Error → S → Type 0) (old new : Live) (socket_old socket_new : SocketSlot S) (sent : Bool) : Type 0 where
+-- Holds if the terminal's output is written to its connection once.
+pub record SendsOnce {S : Type 0} (took : S → List ℕ → Result ℕ Error → S → Type 0) (old new : Live)
+    (socket_old socket_new : SocketSlot S) (sent : Bool) : Type 0 where
   pub answer : LinkWrite
   pub takes : Takes took socket_old old.seat.terminal.out answer socket_new
   pub live : new ≡ sent_by answer old
   pub moved : sent ≡ has_taken answer
 
--- how many bytes a read gave
+-- how many bytes a read returned
 abbrev pub got_count : LinkRead → ℕ
 got_count (read.Got count) = count
 got_count read.NotNow = 0
@@ -52,60 +57,66 @@ got_count read.Ended = 0
 got_count read.Failed = 0
 
 module _ {S K T : Type 0} where
-  -- the output is written once; nothing else changes
-  pub record SendsOver (took : S → List ℕ → Result ℕ Error → S → Type 0) (old new : Session S K T) (moved : Bool) : Type 0 where
+  -- holds if the output is written once; nothing else changes
+  pub record SendsOver (took : S → List ℕ → Result ℕ Error → S → Type 0) (old new : Session S K T)
+      (moved : Bool) : Type 0 where
     pub sends : SendsOnce took old.live new.live old.socket new.socket moved
     pub rest : new ≡ record old { live = new.live; socket = new.socket }
 
-  -- the connection ended or failed: the terminal has lost it
+  -- holds if the connection ended or failed, and the terminal has lost it
   pub record Loses (old new : Session S K T) : Type 0 where
     pub live : lost_live old.live new.live
     pub rest : new ≡ record old { live = new.live; socket = emptied old.socket; stale = true }
 
+  -- holds for the session after this answer to a read of the connection
   abbrev pub AfterRead : LinkRead → (old new : Session S K T) → Type 0
   AfterRead (read.Got count) old new = new ≡ old
   AfterRead read.NotNow old new = new ≡ old
   AfterRead read.Ended old new = Loses old new
   AfterRead read.Failed old new = Loses old new
 
-  -- The connection is read once, and gives these bytes. If it ended or failed, the terminal has lost it.
-  pub record ReadsHost (gave : S → ℕ → List ℕ → Result ℕ Error → S → Type 0) (came : List ℕ) (old new : Session S K T) : Type 0 where
+  -- Holds if the connection is read once, and gives these bytes. If it ended or failed, the terminal has lost it.
+  pub record ReadsHost (gave : S → ℕ → List ℕ → Result ℕ Error → S → Type 0) (came : List ℕ)
+      (old new : Session S K T) : Type 0 where
     pub answer : LinkRead
     pub socket : SocketSlot S
     pub gives : Gives gave old.socket chunk_size came answer socket
     pub after : AfterRead answer (record old { socket = socket }) new
 
-  -- the keys are read once, and give these bytes
-  pub record ReadsKeys (gave : K → ℕ → List ℕ → Answer → K → Type 0) (typed : List ℕ) (old new : Session S K T) : Type 0 where
+  -- holds if the keys are read once, and give these bytes
+  pub record ReadsKeys (gave : K → ℕ → List ℕ → Answer → K → Type 0) (typed : List ℕ)
+      (old new : Session S K T) : Type 0 where
     pub answer : Answer
     pub gives : gave old.keys chunk_size typed answer new.keys
     pub rest : new ≡ record old { keys = new.keys }
 
-  -- nothing is drawn; what was typed before may end
+  -- holds if nothing is drawn; a read without a byte may end an incomplete keystroke
   pub record Rests (typed : List ℕ) (old new : Session S K T) : Type 0 where
     pub types : Types typed old.live new.live
     pub rest : new ≡ record old { live = new.live }
 
   module _ (seen : T → Output) where
-    -- the tty is written all of this
+    -- holds if all bytes to be drawn are written to the tty
     pub record WritesTty (old new : Session S K T) : Type 0 where
       pub written : Written (seen old.tty) (seen new.tty) old.drawn
       pub rest : new ≡ record old { tty = new.tty; drawn = [] }
 
-    -- a turn of the live terminal, after which the tty is written what has it show the screen
+    -- holds for a turn of the live terminal, after which the tty is drawn
     pub record Works (came typed : List ℕ) (old new : Session S K T) : Type 0 where
       pub drawn : List ℕ
       pub turned : TakesTurn came typed old.live new.live old.drawn drawn
       pub writes : WritesTty (record old { live = new.live; drawn = drawn; stale = false }) new
 
-    -- what becomes of bytes that came and bytes that were typed
+    -- holds for the effect of the bytes received and the bytes typed
     abbrev pub TakesInput : (came typed : List ℕ) → (old new : Session S K T) → Type 0
     TakesInput came typed old new =
-        ((is_quiet came typed old.stale ≡ true) × Rests typed old new) ⊎ ((is_quiet came typed old.stale ≡ false) × Works came typed old new)
+        ((is_quiet came typed old.stale ≡ true) × Rests typed old new)
+        ⊎ ((is_quiet came typed old.stale ≡ false) × Works came typed old new)
 
-  -- A turn: connection and keys are read once; the bytes are taken, and the tty is written; and the output is written to the
-  -- connection once.
-  pub record TakesTurnOver (gave : S → ℕ → List ℕ → Result ℕ Error → S → Type 0) (took : S → List ℕ → Result ℕ Error → S → Type 0)
+  -- Holds for a turn: the connection and the keys are read once, the bytes are taken, the tty is written, and the
+  -- output is written to the connection once.
+  pub record TakesTurnOver (gave : S → ℕ → List ℕ → Result ℕ Error → S → Type 0)
+      (took : S → List ℕ → Result ℕ Error → S → Type 0)
       (key_gave : K → ℕ → List ℕ → Answer → K → Type 0) (seen : T → Output) (old new : Session S K T) : Type 0 where
     pub came : List ℕ
     pub heard : Session S K T

@@ -1,12 +1,13 @@
-//! The job `operate`: a terminal on a tty.
+//! The job `operate`: a terminal for an operator at a tty.
 //!
-//! It has no thread and no timer. A [`LiveTerminal`] takes the bytes of the host and of the keys, and draws what
-//! changed. An [`OperatorSession`] reads the connection and the keys once a turn, and writes to both. `specs/Live` and
-//! `LiveSessions` say what a turn does.
+//! It has no thread and no timer. A [`LiveTerminal`] takes the bytes of the host and of the keys, and produces the
+//! bytes that draw the changes. An [`OperatorSession`] reads the connection and the keys once in each turn, and writes
+//! to both. This crate does not decode keys (crate `tty_keys`), compose the tty's screen (`tty_screen`), or define the
+//! terminal (`term_core`). `specs/Live` and `LiveSessions` define a turn.
 #![tactic(auto)]
 
 mod live;
 mod live_session;
 
-pub use live::{Asked, LiveTerminal};
+pub use live::{LiveTerminal, OperatorRequest};
 pub use live_session::{OperatorSession, run_operate};

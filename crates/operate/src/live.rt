@@ -17,7 +17,7 @@ use tty_screen::{Drawing, Picture, Status};
 
 /// What an operator asks of the program.
 #[derive(Clone, Copy)]
-pub enum Asked {
+pub enum OperatorRequest {
     /// Nothing.
     Nothing,
     /// That it connects to the host again.
@@ -26,18 +26,19 @@ pub enum Asked {
     Quit,
 }
 
-/// A terminal that an operator uses at a tty. It owns neither tty nor connection: its caller hands it bytes of both, and sends
-/// and writes what it answers.
+/// A terminal that an operator uses at a tty. It owns neither the tty nor the connection: its caller hands it the bytes
+/// of both, and sends and writes what it returns.
 ///
-/// Contracts see its seat (the terminal, the refusal that the status row shows, what the operator asks for, and the picture that
-/// the tty shows), the bytes of a keystroke that isn't complete, and the capacity of the terminal's output buffer.
+/// Contracts see its seat (the terminal, the refusal that the status row shows, the operator's request, and the picture
+/// that the tty shows), the bytes of an incomplete keystroke, and the capacity of the terminal's output buffer in
+/// bytes.
 #[derive(Drop)]
 pub struct LiveTerminal {
     terminal: Terminal,
     reader: KeyReader,
     drawing: Drawing,
     refusal: Option<Refusal>,
-    asked: Asked,
+    asked: OperatorRequest,
 }
 
 impl marker::Model for LiveTerminal {
@@ -46,19 +47,20 @@ impl marker::Model for LiveTerminal {
     ghost Value = { Live };
 
     ghost view = { λ live. record {
-      seat = record { terminal = live.terminal.terminal; refusal = live.refusal; asks = live.asked; shown = live.drawing };
+      seat =
+          record { terminal = live.terminal.terminal; refusal = live.refusal; asks = live.asked; shown = live.drawing };
       kept = live.reader;
       room = live.terminal.room;
     } };
 }
 
-// ---- what a keystroke means
+// ---- the meaning of a keystroke
 
-/// Whether the program is to end.
-fn is_quit(asked: Asked) -> bool
+/// Whether the operator asked to end the program.
+fn is_quit(asked: OperatorRequest) -> bool
     ensures { result ≡ is_quit asked }
 {
-    matches!(asked, Asked::Quit)
+    matches!(asked, OperatorRequest::Quit)
 }
 
 /// Whether there is no connection.
@@ -75,7 +77,7 @@ fn is_enter(key: &Key) -> bool
     matches!(key, Key::Enter)
 }
 
-/// The refusal that the status row shows after a key.
+/// The refusal that the status row shows after a key; None if it shows none.
 fn refusal_after(pressed: &Pressed, shown: Option<Refusal>) -> Option<Refusal>
     ensures { result ≡ refusal_after pressed.now shown }
 {
@@ -91,7 +93,7 @@ fn refusal_after(pressed: &Pressed, shown: Option<Refusal>) -> Option<Refusal>
     }
 }
 
-/// Presses a key, and answers the refusal that the status row shows after it.
+/// Presses a key, and returns the refusal that the status row shows after it.
 fn press(
     terminal: &mut Terminal,
     key: Key,
@@ -106,18 +108,22 @@ fn press(
     }
 }
 
-/// What the operator asks for after a key, by the terminal's phase before it.
-fn asks_after(key: &Key, phase: &TermPhase, asked: Asked) -> Asked
+/// What the operator asks for after a key, given the terminal's phase before it.
+fn asks_after(key: &Key, phase: &TermPhase, asked: OperatorRequest) -> OperatorRequest
     ensures { result ≡ asks_after key.now phase.now asked }
 {
     if is_idle(phase) {
-        if is_enter(key) { Asked::Connect } else { asked }
+        if is_enter(key) {
+            OperatorRequest::Connect
+        } else {
+            asked
+        }
     } else {
         asked
     }
 }
 
-// ---- what the status row has
+// ---- the contents of the status row
 
 /// Whether there is a connection.
 fn is_connected(phase: &TermPhase) -> bool
@@ -129,7 +135,7 @@ fn is_connected(phase: &TermPhase) -> bool
     }
 }
 
-/// What the status row has in the LU's place: the LU; and without a connection, what Enter does.
+/// The text in the status row's place for the LU: the LU's name, or what Enter does if there is no connection.
 fn lu_place(phase: &TermPhase) -> &[u8]
     ensures { result.now ≡ lu_place phase.now }
 {
@@ -141,7 +147,7 @@ fn lu_place(phase: &TermPhase) -> &[u8]
 }
 
 impl LiveTerminal {
-    /// A terminal of a model without a connection, at a tty of which nothing is known.
+    /// A terminal of a model without a connection. It isn't known what its tty shows. An error if memory is refused.
     pub fn new(alloc: Global, model: Model) -> Result<LiveTerminal, AllocError>
         ensures seat { IfOk result (λ live. live.seat ≡ first_seat model) }
         ensures kept { IfOk result (λ live. live.kept ≡ []) }
@@ -151,22 +157,23 @@ impl LiveTerminal {
             reader: KeyReader::new(),
             drawing: Drawing::new(),
             refusal: None,
-            asked: Asked::Nothing,
+            asked: OperatorRequest::Nothing,
         })
     }
 
-    /// How far the terminal is with its host.
+    /// The phase of the terminal's connection.
     pub fn phase(&self) -> TermPhase
         ensures { result ≡ phase_of self.now.seat.terminal.link }
     {
         self.terminal.phase()
     }
 
-    /// Begins a connection, on which the terminal requests this LU, if there is one. It may be called only in phase Idle. Memory is
-    /// needed only if the terminal's output lacks room; if it is refused, nothing changes.
+    /// Begins a connection, on which the terminal requests this LU, if one is given. Must be called only in phase Idle.
+    /// Memory is needed only if the terminal's output lacks room; if it is refused, nothing changes.
     pub fn connect(&mut self, wanted: Option<Lu>) -> Result<(), AllocError>
         requires { phase_of self.old.seat.terminal.link ≡ TermPhase.Idle }
-        ensures seat { OnOk result (self.new.seat ≡ record self.old.seat { terminal = connected (model_of self.old.seat.terminal) wanted; refusal = None }) }
+        ensures seat { OnOk result (self.new.seat
+            ≡ record self.old.seat { terminal = connected (model_of self.old.seat.terminal) wanted; refusal = None }) }
         ensures kept { OnOk result (self.new.kept ≡ self.old.kept) }
         ensures room { OnOk result (out_room ≤ self.new.room) }
         ensures full { OnErr result (self.old.room < out_room) }
@@ -178,7 +185,7 @@ impl LiveTerminal {
         Ok(())
     }
 
-    /// The connection is lost. Unsent output is lost, too; the screen stays.
+    /// Takes the loss of the connection. Unsent output is lost, too; the screen stays.
     pub fn lose(&mut self)
         ensures seat { self.new.seat ≡ record self.old.seat { terminal = lost self.old.seat.terminal; refusal = None } }
         ensures kept { self.new.kept ≡ self.old.kept }
@@ -187,27 +194,31 @@ impl LiveTerminal {
         self.refusal = None;
     }
 
-    /// What the terminal has to send.
+    /// The bytes that the terminal has to send.
     pub fn out(&self) -> &[u8]
         ensures { result.now ≡ self.now.seat.terminal.out }
     {
         self.terminal.out()
     }
 
-    /// The first `count` bytes of `out` are sent, and dropped.
+    /// Drops the first `count` bytes of `out`, which were sent.
     pub fn sent(&mut self, count: usize)
         requires { count ≤ length self.old.seat.terminal.out }
-        ensures { self.new ≡ record self.old { seat = record self.old.seat { terminal = record self.old.seat.terminal { out = drop count self.old.seat.terminal.out } } } }
+        ensures { self.new ≡ record self.old {
+          seat = record self.old.seat {
+            terminal = record self.old.seat.terminal { out = drop count self.old.seat.terminal.out };
+          };
+        } }
     {
         self.terminal.sent(count);
     }
 
-    /// What the operator asked for since the last such call.
-    pub fn take_asked(&mut self) -> Asked
+    /// What the operator has asked for since the last call of this function.
+    pub fn take_asked(&mut self) -> OperatorRequest
         ensures asked { result ≡ self.old.seat.asks }
-        ensures taken { self.new ≡ record self.old { seat = record self.old.seat { asks = Asked.Nothing } } }
+        ensures taken { self.new ≡ record self.old { seat = record self.old.seat { asks = OperatorRequest.Nothing } } }
     {
-        std::mem::replace(&mut self.asked, Asked::Nothing)
+        std::mem::replace(&mut self.asked, OperatorRequest::Nothing)
     }
 
     /// Presses a key.
@@ -221,7 +232,7 @@ impl LiveTerminal {
         Ok(())
     }
 
-    /// Does what a keystroke means.
+    /// Performs the action of a keystroke.
     fn act_on(&mut self, keystroke: Keystroke) -> Result<(), AllocError>
         ensures seat { OnOk result (self.new.seat ≡ after_meaning keystroke self.old.seat) }
         ensures kept { self.new.kept ≡ self.old.kept }
@@ -233,14 +244,14 @@ impl LiveTerminal {
                 Ok(())
             }
             Keystroke::Quit => {
-                self.asked = Asked::Quit;
+                self.asked = OperatorRequest::Quit;
                 Ok(())
             }
             Keystroke::Unknown => Ok(()),
         }
     }
 
-    /// Takes a keystroke, unless the program is to end.
+    /// Takes a keystroke. It is ignored once the operator has asked to end the program.
     fn take(&mut self, keystroke: Keystroke) -> Result<(), AllocError>
         ensures seat { OnOk result (self.new.seat ≡ after_keystroke keystroke self.old.seat) }
         ensures kept { self.new.kept ≡ self.old.kept }
@@ -252,9 +263,10 @@ impl LiveTerminal {
         }
     }
 
-    /// Takes a byte of the tty.
+    /// Takes a byte that was typed at the tty.
     fn take_byte(&mut self, byte: u8) -> Result<(), AllocError>
-        ensures seat { OnOk result (self.new.seat ≡ after_keystrokes (read_byte self.old.kept byte).keystrokes self.old.seat) }
+        ensures seat { OnOk result
+            (self.new.seat ≡ after_keystrokes (read_byte self.old.kept byte).keystrokes self.old.seat) }
         ensures kept { OnOk result (self.new.kept ≡ (read_byte self.old.kept byte).kept) }
     {
         let pushed = self.reader.push(byte);
@@ -264,7 +276,7 @@ impl LiveTerminal {
         }
     }
 
-    /// Takes bytes of the tty.
+    /// Takes bytes that were typed at the tty.
     fn take_bytes(&mut self, typed: &[u8]) -> Result<(), AllocError>
         ensures { OnOk result (ReadsTyped typed.now self.old self.new) }
     {
@@ -274,15 +286,15 @@ impl LiveTerminal {
         Ok(())
     }
 
-    /// Takes a read of the tty that found no byte. What that ends means nothing.
+    /// Takes a read of the tty without a byte. It ends an incomplete keystroke.
     fn take_pause(&mut self)
         ensures { Types [] self.old self.new }
     {
         let _ = self.reader.pause();
     }
 
-    /// Takes what a read of the tty gave: the keys of these bytes are pressed in order. A read that finds no byte ends a keystroke
-    /// that isn't complete.
+    /// Takes the bytes of a read of the tty: presses their keys in order. A read without a byte ends an incomplete
+    /// keystroke.
     pub fn take_typed(&mut self, typed: &[u8]) -> Result<(), AllocError>
         ensures { OnOk result (Types typed.now self.old self.new) }
     {
@@ -294,7 +306,7 @@ impl LiveTerminal {
         }
     }
 
-    /// Takes bytes of the host.
+    /// Takes bytes received from the host.
     fn hear(&mut self, came: &[u8]) -> Result<(), AllocError>
         ensures { OnOk result (Hears came.now self.old self.new) }
     {
@@ -305,7 +317,7 @@ impl LiveTerminal {
         }
     }
 
-    /// What the operator is to be shown.
+    /// What the tty must show.
     fn picture(&self, alloc: Global) -> Result<Picture, AllocError>
         ensures { IfOk result (λ picture. picture ≡ picture_at self.now.seat) }
     {
@@ -323,7 +335,7 @@ impl LiveTerminal {
         )
     }
 
-    /// Appends what has the tty show what the operator is to be shown.
+    /// Appends the bytes with which the tty shows the current picture.
     fn draw(&mut self, alloc: Global, drawn: &mut Vec<u8>) -> Result<(), AllocError>
         ensures { OnOk result (Draws self.old self.new drawn.old.items drawn.new.items) }
     {
@@ -331,8 +343,8 @@ impl LiveTerminal {
         self.drawing.draw(picture, drawn)
     }
 
-    /// One turn: takes the bytes that came from the host, then those that were typed at the tty, and appends to `drawn` what the tty
-    /// is to be written. What the terminal has to send is then in `out`.
+    /// One turn: takes the bytes received from the host, then those typed at the tty, and appends to `drawn` the bytes
+    /// to be written to the tty. The bytes to be sent are then in `out`.
     pub fn turn(
         &mut self,
         alloc: Global,

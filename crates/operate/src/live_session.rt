@@ -1,4 +1,4 @@
-//! `operate`: a terminal of a host, for an operator at a tty.
+//! `operate`: a terminal at a host, for an operator at a tty.
 ghost use Rattle.std.specs.Prelude.{◌≡◌, ◌≤◌, ◌||◌, IfOk, OnOk, length, take};
 ghost use Rattle.term_core.specs.State.{is_bound, phase_of};
 ghost use Rattle.job_streams.specs.Counting.{chunk_size};
@@ -6,16 +6,17 @@ ghost use Rattle.operate.specs.LiveSessions.{AfterRead, Loses, ReadsHost, ReadsK
 ghost use Rattle.host_core.specs.Serves.{GotWithin, bytes_got};
 ghost use Rattle.socket_links.specs.Sockets.{Gives};
 
-use crate::live::{Asked, LiveTerminal};
+use crate::live::{LiveTerminal, OperatorRequest};
 use codes3270::Model;
 use host_core::{LinkRead, LinkWrite};
 use job_streams::{
-    Answer, CHUNK, Fault, LiveFault, RawRead, RawWrite, Sink, Source, end_by, read_chunk,
+    Answer, CHUNK, Fault, LiveFault, RawRead, RawWrite, Sink, Source, read_chunk,
+    report_and_exit_code,
 };
 use jobs::{LiveOptions, Port, TtySize};
 use mio::net::TcpStream;
 use mio::{Events, Interest, Poll, Token};
-use socket_links::{SocketSlot, patience};
+use socket_links::{SocketSlot, poll_timeout};
 use std::alloc::Global;
 use std::io::ErrorKind;
 use std::marker;
@@ -24,21 +25,21 @@ use term_core::TermPhase;
 use tn3270e_msg::Lu;
 use tty_screen::check_room;
 
-/// The most events of one poll. A socket without an event is read too.
+/// The most events of one poll. A socket without an event is also read.
 const MOST_EVENTS: usize = 8;
 
-/// A live terminal with its connection of type `S`, if there is one, and its tty: the keys, and what is written.
+/// A live terminal with its connection of type `S`, if there is one, the source of its keys, and its tty.
 #[derive(Drop)]
 pub struct OperatorSession<S, K, T> {
     live: LiveTerminal,
     socket: SocketSlot<S>,
     keys: K,
     tty: T,
-    /// What the tty is to be written.
+    /// The bytes that must be written to the tty.
     drawn: Vec<u8>,
-    /// Whether the screen changed since it was drawn, other than by bytes that came.
+    /// Whether the screen has changed since it was drawn, for another reason than received bytes.
     stale: bool,
-    /// Whether the terminal was bound to an LU at some time.
+    /// Whether the terminal has ever been bound to an LU.
     was_bound: bool,
 }
 
@@ -54,7 +55,7 @@ fn read_socket<S: RawRead + RawWrite + Drop>(
     socket.read(came)
 }
 
-/// How many bytes a read gave.
+/// How many bytes a read returned.
 fn got_count(answer: LinkRead) -> usize
     ensures { result ≡ got_count answer }
 {
@@ -64,8 +65,8 @@ fn got_count(answer: LinkRead) -> usize
     }
 }
 
-/// Writes the terminal's output to the connection once. Answers whether a byte was taken. A read finds out whether the connection
-/// failed.
+/// Writes the terminal's output to the connection once. Answers whether a byte was taken. A failed connection is
+/// noticed by a read.
 fn send<S: RawRead + RawWrite + Drop>(live: &mut LiveTerminal, socket: &mut SocketSlot<S>) -> bool
     ensures { SendsOnce S.write_took live.old live.new socket.old socket.new result }
 {
@@ -94,7 +95,7 @@ impl<S, K, T> marker::Model for OperatorSession<S, K, T> {
     } };
 }
 
-/// Whether nothing came, nothing was typed, and the tty shows the screen.
+/// Whether nothing was received or typed, and the tty shows the current screen.
 fn is_quiet(came: &[u8], typed: &[u8], stale: bool) -> bool
     ensures { result ≡ is_quiet came.now typed.now stale }
 {
@@ -102,7 +103,7 @@ fn is_quiet(came: &[u8], typed: &[u8], stale: bool) -> bool
 }
 
 impl<S: RawRead + RawWrite + Drop, K: Source + Drop, T: Sink + Drop> OperatorSession<S, K, T> {
-    /// A terminal of a model without a connection, at a tty.
+    /// A terminal of a model without a connection, at a tty. An error if memory is refused.
     pub fn new(
         alloc: Global,
         model: Model,
@@ -120,7 +121,8 @@ impl<S: RawRead + RawWrite + Drop, K: Source + Drop, T: Sink + Drop> OperatorSes
         })
     }
 
-    /// Begins a connection, if there is none. The terminal requests this LU, if there is one.
+    /// Begins a connection, if there is none. The terminal requests this LU, if one is given. NoMemory if memory is
+    /// refused.
     pub fn connect(&mut self, socket: S, wanted: Option<Lu>) -> Result<(), Fault> {
         if let TermPhase::Idle = self.live.phase() {
             self.live.connect(wanted)?;
@@ -130,7 +132,7 @@ impl<S: RawRead + RawWrite + Drop, K: Source + Drop, T: Sink + Drop> OperatorSes
         Ok(())
     }
 
-    /// Ends the connection. If the terminal was never bound to an LU, that ends the run, by this fault.
+    /// Ends the connection. Returns this fault if the terminal has never been bound to an LU.
     fn lose(&mut self, fault: Fault) -> Result<(), Fault>
         ensures { OnOk result (Loses self.old self.new) }
     {
@@ -140,7 +142,7 @@ impl<S: RawRead + RawWrite + Drop, K: Source + Drop, T: Sink + Drop> OperatorSes
         if self.was_bound { Ok(()) } else { Err(fault) }
     }
 
-    /// Reads the connection once. Answers how many bytes came.
+    /// Reads the connection once. Answers how many bytes were received.
     fn read_host(&mut self, came: &mut [u8]) -> Result<usize, Fault>
         requires { length came.old ≡ chunk_size }
         ensures within { IfOk result (λ count. count ≤ length came.new) }
@@ -151,7 +153,7 @@ impl<S: RawRead + RawWrite + Drop, K: Source + Drop, T: Sink + Drop> OperatorSes
         Ok(got_count(answer))
     }
 
-    /// Ends the connection, if a read found its end or failed.
+    /// Ends the connection if a read found its end or failed.
     fn follow(&mut self, answer: LinkRead) -> Result<(), Fault>
         ensures { OnOk result (AfterRead answer self.old self.new) }
     {
@@ -170,7 +172,7 @@ impl<S: RawRead + RawWrite + Drop, K: Source + Drop, T: Sink + Drop> OperatorSes
         send(&mut self.live, &mut self.socket)
     }
 
-    /// Reads the tty once. Answers how many bytes were typed: a tty in raw mode gives none if no key was pressed.
+    /// Reads the tty once. Answers how many bytes were typed: 0 if no key was pressed, since the tty is in raw mode.
     fn read_keys(&mut self, typed: &mut [u8]) -> Result<usize, Fault>
         requires { length typed.old ≡ chunk_size }
         ensures within { IfOk result (λ count. count ≤ length typed.new) }
@@ -183,7 +185,7 @@ impl<S: RawRead + RawWrite + Drop, K: Source + Drop, T: Sink + Drop> OperatorSes
         }
     }
 
-    /// Writes what the tty is to be written.
+    /// Writes `drawn` to the tty.
     fn write_tty(&mut self) -> Result<(), Fault>
         ensures { OnOk result (WritesTty T.seen self.old self.new) }
     {
@@ -194,7 +196,7 @@ impl<S: RawRead + RawWrite + Drop, K: Source + Drop, T: Sink + Drop> OperatorSes
         Ok(())
     }
 
-    /// Takes the bytes that came and those that were typed, and draws the screen, unless nothing happened.
+    /// Takes the bytes received and those typed, and draws the screen, unless nothing happened.
     fn take(&mut self, alloc: Global, came: &[u8], typed: &[u8]) -> Result<(), Fault>
         ensures { OnOk result (TakesInput T.seen came.now typed.now self.old self.new) }
     {
@@ -205,7 +207,7 @@ impl<S: RawRead + RawWrite + Drop, K: Source + Drop, T: Sink + Drop> OperatorSes
         }
     }
 
-    /// Takes what was typed, and draws nothing.
+    /// Takes the typed bytes, and draws nothing.
     fn rest(&mut self, typed: &[u8]) -> Result<(), Fault>
         ensures { OnOk result (Rests typed.now self.old self.new) }
     {
@@ -213,7 +215,7 @@ impl<S: RawRead + RawWrite + Drop, K: Source + Drop, T: Sink + Drop> OperatorSes
         Ok(())
     }
 
-    /// Takes a turn of the live terminal, and writes the tty.
+    /// Takes a turn of the live terminal, and writes to the tty.
     fn work(&mut self, alloc: Global, came: &[u8], typed: &[u8]) -> Result<(), Fault>
         ensures { OnOk result (Works T.seen came.now typed.now self.old self.new) }
     {
@@ -222,9 +224,11 @@ impl<S: RawRead + RawWrite + Drop, K: Source + Drop, T: Sink + Drop> OperatorSes
         self.write_tty()
     }
 
-    /// A fault if the host refused the terminal an LU, or if the terminal closed the connection.
+    /// A fault if the host rejected the terminal's request for an LU, or if the terminal closed the connection.
     fn check_phase(&mut self) -> Result<(), Fault>
-        ensures { OnOk result (self.new ≡ record self.old { was_bound = self.old.was_bound || is_bound (phase_of self.old.live.seat.terminal.link) }) }
+        ensures { OnOk result (self.new ≡ record self.old {
+          was_bound = self.old.was_bound || is_bound (phase_of self.old.live.seat.terminal.link);
+        }) }
     {
         let phase = self.live.phase();
         self.was_bound |= phase.is_bound();
@@ -237,12 +241,13 @@ impl<S: RawRead + RawWrite + Drop, K: Source + Drop, T: Sink + Drop> OperatorSes
         }
     }
 
-    /// One turn: reads connection and tty once, has the terminal take the bytes, writes the screen to the tty if something happened,
-    /// and writes the terminal's output to the connection once. Answers whether a byte was read from the connection or written there.
+    /// One turn: reads the connection and the tty once, hands the bytes to the terminal, writes the screen to the tty
+    /// if something happened, and writes the terminal's output to the connection once. Answers whether a byte was read
+    /// from or written to the connection.
     ///
-    /// LiveFault::LuRefused if the host refused the terminal an LU; LiveFault::Closed if the terminal closed the connection;
-    /// LiveFault::HostEnded or SocketFailed if the connection ended or failed before the terminal was bound for the first time;
-    /// InputNotRead or OutputFailed if the tty fails; NoMemory if memory is refused.
+    /// LiveFault::LuRefused if the host rejected the request for an LU; LiveFault::Closed if the terminal closed the
+    /// connection; LiveFault::HostEnded or SocketFailed if the connection ended or failed before the terminal was first
+    /// bound; InputNotRead or OutputFailed if the tty fails; NoMemory if memory is refused.
     pub fn turn(&mut self, alloc: Global) -> Result<bool, Fault>
         ensures { OnOk result (TakesTurnOver S.read_gave S.write_took K.gave T.seen self.old self.new) }
     {
@@ -256,16 +261,16 @@ impl<S: RawRead + RawWrite + Drop, K: Source + Drop, T: Sink + Drop> OperatorSes
         Ok((came_count > 0) | sent)
     }
 
-    /// What the operator asked for since the last such call.
-    pub fn take_asked(&mut self) -> Asked {
+    /// What the operator has asked for since the last call of this function.
+    pub fn take_asked(&mut self) -> OperatorRequest {
         self.live.take_asked()
     }
 }
 
-// ---- over a socket and a tty
+// ---- with a socket and a tty
 
-/// A host's address, the poll that waits for a connection to it, and the connection that the operator asked for, as long as the host
-/// neither took nor refused it. Until then the session is without a connection, and the operator sees the last screen.
+/// A host's address, the poll that waits for connections to it, and the connection that is being established, if any.
+/// Until it is established, the session has no connection, and the operator sees the last screen.
 #[derive(Drop)]
 struct Dialer {
     address: SocketAddr,
@@ -273,7 +278,7 @@ struct Dialer {
     poll: Poll,
     events: Events,
     dialed: Option<TcpStream>,
-    /// Whether the host took a connection before. If it never did, a refusal ends the run.
+    /// Whether a connection was ever established. If not, a refused one ends the run.
     was_taken: bool,
 }
 
@@ -293,7 +298,7 @@ impl Dialer {
         })
     }
 
-    /// Begins a connection, unless one is under way. CannotConnect if the host refuses it at once, and never took one before.
+    /// Begins to connect, unless that is under way. CannotConnect if it fails at once and no connection ever was made.
     fn redial(&mut self, net: &impl Net) -> Result<(), Fault> {
         if self.dialed.is_some() {
             return Ok(());
@@ -302,7 +307,7 @@ impl Dialer {
             Ok(socket) => socket,
             Err(error) => return self.give_up(error.kind()),
         };
-        // As where the server accepts: if one of these calls fails, the socket is used anyway.
+        // As in the server: if one of these calls fails, the socket is used anyway.
         let _ = socket.set_nodelay(true);
         let interest = Interest::READABLE | Interest::WRITABLE;
         let _ = self
@@ -313,7 +318,7 @@ impl Dialer {
         Ok(())
     }
 
-    /// Goes on without a connection if the host took one before.
+    /// Continues without a connection if one was established before; otherwise CannotConnect.
     fn give_up(&self, kind: ErrorKind) -> Result<(), Fault> {
         if self.was_taken {
             Ok(())
@@ -322,8 +327,7 @@ impl Dialer {
         }
     }
 
-    /// The connection that is under way, once the host took it. If the host refused it, there is none, and CannotConnect if it never
-    /// took one before.
+    /// The new connection once it is established, otherwise None. CannotConnect if it is refused and none ever was.
     fn take_connected(&mut self) -> Result<Option<TcpStream>, Fault> {
         let Some(socket) = self.dialed.take() else {
             return Ok(None);
@@ -340,11 +344,11 @@ impl Dialer {
         Ok(None)
     }
 
-    /// Waits for the connection: not at all if bytes moved in the turn before, or 10 milliseconds at most.
+    /// Waits for the connection at most 10 milliseconds, or not at all if bytes moved in the turn before (`moved`).
     fn wait(&mut self, moved: bool) -> Result<(), Fault> {
-        match self.poll.poll(&mut self.events, Some(patience(moved))) {
+        match self.poll.poll(&mut self.events, Some(poll_timeout(moved))) {
             Ok(()) => Ok(()),
-            // The program was stopped and goes on.
+            // The program was stopped, and continues.
             Err(error) if error.kind() == ErrorKind::Interrupted => Ok(()),
             Err(_) => Err(Fault::SocketFailed),
         }
@@ -367,15 +371,15 @@ fn take_turns<N: Net, K: Source + Drop, T: Sink + Drop>(
         dialer.wait(moved)?;
         moved = session.turn(alloc)?;
         match session.take_asked() {
-            Asked::Nothing => {}
-            Asked::Quit => return Ok(()),
-            Asked::Connect => dialer.redial(net)?,
+            OperatorRequest::Nothing => {}
+            OperatorRequest::Quit => return Ok(()),
+            OperatorRequest::Connect => dialer.redial(net)?,
         }
     }
     Ok(())
 }
 
-/// Whether a tty has room for all screens of a model and the status row.
+/// Checks that the tty has room for all screens of a model and the status row.
 fn check_tty(model: Model, tty: Option<TtySize>) -> Result<(), Fault> {
     let Some(TtySize { rows, columns }) = tty else {
         return Err(Fault::Live(LiveFault::NotRaw));
@@ -400,15 +404,15 @@ fn operate<N: Net, K: Source + Drop, T: Sink + Drop>(
     take_turns(net, alloc, &mut dialer, &mut session)
 }
 
-/// Runs a terminal at the host on a port of 127.0.0.1, for an operator whose keys are read from a tty in raw mode, and whose screen is
-/// written there, until the operator presses Ctrl-]. A read of the keys must answer at once, as with `stty min 0 time 0`. Without a
-/// connection Enter connects again. A turn with nothing to do takes at most 10 milliseconds. Writes what ends the run to `faults` as
-/// one line.
+/// Runs a terminal at the host on a port of 127.0.0.1, until the operator presses Ctrl-]. The operator's keys are read
+/// from a tty in raw mode, and the screen is written there. A read of the keys must return at once, as with `stty min 0
+/// time 0`. Without a connection, Enter connects again. A turn with nothing to do takes at most 10 milliseconds. A
+/// fault that ends the run is written to `faults` as one line.
 ///
-/// Returns the exit status: 0 if the operator ended it; 1 if the keys can't be read; 2 if it isn't known that there is a tty in raw
-/// mode, or if it is too small; 3 if memory is refused; 4 if nothing listens on the port, if the host refuses the terminal an LU or
-/// ends the connection before the terminal was bound to one, or if the terminal closes the connection because the host breaks the
-/// protocol; 6 if the output fails.
+/// Returns the exit status: 0 if the operator ended it; 1 if the keys can't be read; 2 if there is no known tty in raw
+/// mode, or if it is too small; 3 if memory is refused; 4 if connecting fails, if the host rejects the request for an
+/// LU or ends the connection before the terminal was bound to one, or if the terminal closes the connection because the
+/// host breaks the protocol; 6 if the output fails.
 pub fn run_operate<N: Net, K: Source + Drop, T: Sink + Drop, E: Sink>(
     net: &N,
     alloc: Global,
@@ -419,6 +423,6 @@ pub fn run_operate<N: Net, K: Source + Drop, T: Sink + Drop, E: Sink>(
 ) -> u8 {
     match operate(net, alloc, options, keys, tty) {
         Ok(()) => 0,
-        Err(fault) => end_by(fault, faults),
+        Err(fault) => report_and_exit_code(fault, faults),
     }
 }

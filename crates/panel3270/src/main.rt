@@ -1,12 +1,14 @@
-//! The program panel3270: TN3270E hosts, terminals and 3270 screens on the command line. `cli` reads its words and has
-//! its help, `scripts`, `service`, `selfrun` and `operate` have its jobs; this crate passes the
-//! arguments, the standard streams and files.
+//! The program panel3270: TN3270E hosts, terminals and 3270 screens on the command line. It hands the arguments, the
+//! standard streams and files to other crates: `cli` parses the arguments and has the help; `scripts`, `service`,
+//! `selfrun` and `operate` run the jobs.
 #![tactic(auto)]
 
 ghost use Rattle.std.specs.Iterator.{IsFinite};
 
-use cli::{WordFault, refuse_words, run_help, run_version, words};
-use job_streams::{CountedReader, CountedWriter, Fault, Sink, UntilClosed, end_by, refuse_file};
+use cli::{VERSION, WordFault, refuse_words, run_help, run_version, words};
+use job_streams::{
+    CountedReader, CountedWriter, Fault, Sink, UntilClosed, refuse_file, report_and_exit_code,
+};
 use jobs::{ApplicationChoice, Job, LiveOptions, Service, WordText};
 use operate::run_operate;
 use scripts::{run_check, run_script, run_show, run_term};
@@ -18,10 +20,10 @@ use std::io::{self, ErrorKind, IsTerminal, Stdout};
 use std::process::ExitCode;
 use std::sync::Wait;
 
-/// What reports call the standard input.
+/// The name of the standard input in reports.
 const STANDARD_INPUT: &str = "standard input";
 
-/// What `serve` says if an operator has to type the panels.
+/// The message of `serve` if the panels are read from a tty, so that an operator has to type them.
 const WAITS_FOR_PANELS: &str =
     "reading panels from standard input; end with Ctrl-D, or give --panels FILE";
 
@@ -30,7 +32,7 @@ fn given_words(rt: &HostRuntime) -> io::Result<Vec<String>> {
     Ok(env::args(rt)?.skip(1).collect(rt.alloc())?)
 }
 
-/// Opens a file to be read. A directory is refused.
+/// Opens a file for reading. A directory is refused.
 fn open(rt: &HostRuntime, name: &str) -> io::Result<File> {
     let file = File::open(rt, name)?;
     if file.metadata()?.is_dir() {
@@ -42,12 +44,13 @@ fn open(rt: &HostRuntime, name: &str) -> io::Result<File> {
 /// Prints why a file can't be opened, and returns the exit status.
 fn end_without<E: Sink>(name: &str, why: ErrorKind, faults: &mut E) -> u8 {
     match why {
-        ErrorKind::OutOfMemory => end_by(Fault::NoMemory, faults),
+        ErrorKind::OutOfMemory => report_and_exit_code(Fault::NoMemory, faults),
         _ => refuse_file(name, why, faults),
     }
 }
 
-/// Serves the panels of a file, or of the standard input if there is none, a turn for each item of `turns`, and returns the exit status.
+/// Serves the panels of a file, or of the standard input if none is given, a turn for each item of `turns`, and returns
+/// the exit status.
 fn serve<T: Iterator<Item = ()>>(
     rt: &HostRuntime,
     turns: T,
@@ -73,6 +76,7 @@ fn serve<T: Iterator<Item = ()>>(
             service,
             application,
             STANDARD_INPUT,
+            VERSION,
             &mut input,
             &mut faults,
         );
@@ -85,6 +89,7 @@ fn serve<T: Iterator<Item = ()>>(
             service,
             application,
             panels.as_str(),
+            VERSION,
             &mut CountedReader::new(file),
             &mut faults,
         ),
@@ -97,7 +102,7 @@ fn open_ended(rt: &HostRuntime) -> CountedWriter<UntilClosed<Stdout>> {
     CountedWriter::new(UntilClosed::new(rt.stdout()))
 }
 
-/// Checks the panel text of a file, or of the standard input if there is none, and returns the exit status.
+/// Checks the panel text of a file, or of the standard input if none is given, and returns the exit status.
 fn check(rt: &HostRuntime, file: Option<WordText<'_>>) -> u8 {
     let alloc = rt.alloc();
     let mut out = open_ended(rt);
@@ -116,7 +121,7 @@ fn check(rt: &HostRuntime, file: Option<WordText<'_>>) -> u8 {
     }
 }
 
-/// Is an operator's terminal at this tty.
+/// Runs a terminal for the operator at this tty, and returns the exit status.
 fn operate(rt: &HostRuntime, options: &LiveOptions) -> u8 {
     let input = CountedReader::new(rt.stdin());
     let out = CountedWriter::new(rt.stdout());
@@ -124,7 +129,7 @@ fn operate(rt: &HostRuntime, options: &LiveOptions) -> u8 {
     run_operate(rt, rt.alloc(), options, input, out, &mut faults)
 }
 
-/// Does a job, and returns the exit status. `serve` takes a turn for each item of `turns`.
+/// Runs a job, and returns the exit status. `serve` takes a turn for each item of `turns`.
 fn do_job<T: Iterator<Item = ()>>(rt: &HostRuntime, turns: T, job: Job<'_>) -> u8
     requires can { T.can_next turns }
     requires ends { IsFinite (T.remaining turns) }
@@ -157,7 +162,7 @@ fn do_job<T: Iterator<Item = ()>>(rt: &HostRuntime, turns: T, job: Job<'_>) -> u
     }
 }
 
-/// Why the arguments can't be read.
+/// The fault for arguments that can't be read.
 fn unread(why: ErrorKind) -> WordFault<'static> {
     match why {
         ErrorKind::OutOfMemory => WordFault::Memory,
@@ -165,7 +170,7 @@ fn unread(why: ErrorKind) -> WordFault<'static> {
     }
 }
 
-/// Does what the words ask for, and returns the exit status. `serve` takes a turn for each item of `turns`.
+/// Runs the job that the arguments ask for, and returns the exit status. `serve` takes a turn for each item of `turns`.
 fn run<T: Iterator<Item = ()>>(rt: &HostRuntime, turns: T, given: &[String]) -> u8
     requires can { T.can_next turns }
     requires ends { IsFinite (T.remaining turns) }
@@ -178,7 +183,7 @@ fn run<T: Iterator<Item = ()>>(rt: &HostRuntime, turns: T, given: &[String]) -> 
 
 fn main(rt: HostRuntime) -> ExitCode {
     let status = match given_words(&rt) {
-        // `serve` ends by a fault alone.
+        // `serve` ends only by a fault.
         Ok(given) => run(&rt, rt.forever(), given.as_slice()),
         Err(error) => refuse_words(unread(error.kind()), &mut CountedWriter::new(rt.stderr())),
     };

@@ -11,8 +11,8 @@ use Rattle.panels.specs.Defines.{DefinesOnce}
 use Rattle.panels.specs.Draft.{draft_of}
 use Rattle.panels.specs.Faults.{IsFaulty}
 use Rattle.panels.specs.Turns.{IsClearTo, IsSooner, pass_of, turn_of}
-use Rattle.panels.specs.declared.fault.Part.{Part}
-use Rattle.panels.specs.declared.fault.Part.TheVariants as part
+use Rattle.panels.specs.declared.fault.Location.{Location}
+use Rattle.panels.specs.declared.fault.Location.TheVariants as part
 use Rattle.panels.specs.declared.fault.TreeFault.{TreeFault}
 use Rattle.panels.specs.declared.fault.TreeFault.TheVariants.{UnknownKey, Missing, BadKind, BadName, TwiceNamed, OutOfPlace, Overlap, NoCode, NoTarget, BadKey, TooMany, BadModel}
 use Rattle.panel_check.specs.declared.finding.Cause.{Cause}
@@ -104,7 +104,7 @@ first_is_fault text cause.NoKeyLeads none = absurd none
 abbrev AreNone : Members → List Cause → Type 0
 AreNone top faults = All (λ fault. IsFaultIn top fault → ⊥) faults
 
-no_keys : (top : Members) (at : Part) → (IsFaulty UnknownKey at (draft_of top) → ⊥) → (IsFaulty Missing at (draft_of top) → ⊥) → (IsFaulty BadKind at (draft_of top) → ⊥)
+no_keys : (top : Members) (at : Location) → (IsFaulty UnknownKey at (draft_of top) → ⊥) → (IsFaulty Missing at (draft_of top) → ⊥) → (IsFaulty BadKind at (draft_of top) → ⊥)
     → (more : List Cause) → AreNone top more → AreNone top (cause.Tree UnknownKey at ∷ cause.Tree Missing at ∷ cause.Tree BadKind at ∷ more)
 no_keys top at unknown missing kind more none =
     All-cons (λ f. IsFaultIn top f → ⊥) (cause.Tree UnknownKey at) (cause.Tree Missing at ∷ cause.Tree BadKind at ∷ more) unknown
@@ -113,8 +113,8 @@ no_keys top at unknown missing kind more none =
 no_more : (top : Members) → AreNone top []
 no_more top = λ k d below. absurd (omega arith)
 
-module _ (top : Members) (fault : TreeFault) (here : Part) (clear : IsClearTo (turn_of fault here) (draft_of top)) (late : 1 < pass_of fault) where
-  keys_none : (at : Part) (more : List Cause) → AreNone top more → AreNone top (cause.Tree UnknownKey at ∷ cause.Tree Missing at ∷ cause.Tree BadKind at ∷ more)
+module _ (top : Members) (fault : TreeFault) (here : Location) (clear : IsClearTo (turn_of fault here) (draft_of top)) (late : 1 < pass_of fault) where
+  keys_none : (at : Location) (more : List Cause) → AreNone top more → AreNone top (cause.Tree UnknownKey at ∷ cause.Tree Missing at ∷ cause.Tree BadKind at ∷ more)
   keys_none at = no_keys top at (clear UnknownKey at (inl late)) (clear Missing at (inl late)) (clear BadKind at (inl late))
 
   screen_none : IsSooner (turn_of BadModel (panel_part here)) (turn_of fault here)
@@ -123,14 +123,14 @@ module _ (top : Members) (fault : TreeFault) (here : Part) (clear : IsClearTo (t
       keys_none here (cause.Tree BadModel (panel_part here) ∷ keys_at (panel_part here))
       (All-cons (λ f. IsFaultIn top f → ⊥) (cause.Tree BadModel (panel_part here)) (keys_at (panel_part here)) (clear BadModel (panel_part here) sooner) (keys_none (panel_part here) [] (no_more top)))
 
-model_sooner : (here : Part) → IsSooner (turn_of BadModel (panel_part here)) (turn_of OutOfPlace here)
+model_sooner : (here : Location) → IsSooner (turn_of BadModel (panel_part here)) (turn_of OutOfPlace here)
 model_sooner part.Top = inr (refl, inr (refl, inr (refl, inr (refl, inl (omega arith)))))
 model_sooner (part.Panel p) = inr (refl, inr (refl, inr (refl, inr (refl, inl (omega arith)))))
 model_sooner (part.Keys p) = inr (refl, inr (refl, inr (refl, inr (refl, inl (omega arith)))))
 model_sooner (part.Text p i) = inr (refl, inr (refl, inl (omega arith)))
 model_sooner (part.Field p i) = inr (refl, inr (refl, inl (omega arith)))
 
-none_sooner : (top : Members) (fault : TreeFault) (here : Part) → IsClearTo (turn_of fault here) (draft_of top) → AreNone top (sources_in fault here)
+none_sooner : (top : Members) (fault : TreeFault) (here : Location) → IsClearTo (turn_of fault here) (draft_of top) → AreNone top (sources_in fault here)
 none_sooner top UnknownKey here clear = no_more top
 none_sooner top Missing here clear = no_more top
 none_sooner top BadKind here clear = no_more top
@@ -147,7 +147,7 @@ none_sooner top BadModel here clear = no_more top
 not_one : (top : Members) (faults : List Cause) → AreNone top faults → (fault : Cause) → Contains faults fault → IsFaultIn top fault → ⊥
 not_one top faults none fault (k, below, at) is = none k fault below (subst (IsFaultIn top) (sym at) is)
 
-lus_alone : (top : Members) → ((fault : TreeFault) (at : Part) → IsFaulty fault at (draft_of top) → ⊥) → (fault : PoolFault) → AreNone top (sources_of (cause.Lus fault))
+lus_alone : (top : Members) → ((fault : TreeFault) (at : Location) → IsFaulty fault at (draft_of top) → ⊥) → (fault : PoolFault) → AreNone top (sources_of (cause.Lus fault))
 lus_alone top clean pool_fault.BadCount = no_keys top part.Top (clean UnknownKey part.Top) (clean Missing part.Top) (clean BadKind part.Top) [] (no_more top)
 lus_alone top clean (pool_fault.BadName place) = no_more top
 lus_alone top clean (pool_fault.Twice place) = no_more top

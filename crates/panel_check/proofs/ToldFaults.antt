@@ -9,7 +9,7 @@ use Rattle.std.proofs.lemmas.Option.{same_Some}
 use Rattle.toml.specs.Data.{Members}
 use Rattle.toml.specs.Parse.{parse_document}
 use Rattle.tn3270e_msg.specs.Lu.{lu_of}
-use Rattle.panels.specs.declared.fault.PartFault.{PartFault}
+use Rattle.panels.specs.declared.fault.LocatedFault.{LocatedFault}
 use Rattle.panels.specs.Draft.{draft_of}
 use Rattle.panels.specs.Faults.{IsFaulty}
 use Rattle.panels.specs.Listing.{AreFaultsOf}
@@ -164,23 +164,23 @@ all_told causes findings n all (backed, each) = record {
 
 -- ---- the faults of a tree
 
-listed_too : (found : List PartFault) (at : PartFault) → Contains found at → Contains (map cause_of found) (cause_of at)
+listed_too : (found : List LocatedFault) (at : LocatedFault) → Contains found at → Contains (map cause_of found) (cause_of at)
 listed_too [] at (k, below, is) = absurd (omega (arith, below))
 listed_too (first ∷ more) at (zero, below, is) = (0, omega arith, ap cause_of is)
 listed_too (first ∷ more) at (suc k, below, is) = let (j, less, same) = listed_too more at (k, omega (arith, below), is) in (suc j, omega (arith, less), same)
 
-listed_for : (found : List PartFault) (given : Cause) → Contains (map cause_of found) given → (at : PartFault) × Contains found at × (cause_of at ≡ given)
+listed_for : (found : List LocatedFault) (given : Cause) → Contains (map cause_of found) given → (at : LocatedFault) × Contains found at × (cause_of at ≡ given)
 listed_for [] given (k, below, is) = absurd (omega (arith, below))
 listed_for (first ∷ more) given (zero, below, is) = (first, (0, omega arith, refl), is)
 listed_for (first ∷ more) given (suc k, below, is) =
     let (at, (j, less, there), same) = listed_for more given (k, omega (arith, below), is) in (at, (suc j, omega (arith, less), there), same)
 
-module _ (top : Members) (found : List PartFault) (are : AreFaultsOf (draft_of top) found) (lus : List (Option (List ℕ))) (read : lus ≡ map lu_of (draft_of top).lus)
+module _ (top : Members) (found : List LocatedFault) (are : AreFaultsOf (draft_of top) found) (lus : List (Option (List ℕ))) (read : lus ≡ map lu_of (draft_of top).lus)
     (all : List Cause) (adds : AddsLuFaults lus (map cause_of found) all) where
   is_fault_in : (given : Cause) → Contains (map cause_of found) given ⊎ ((fault : _) × (given ≡ cause.Lus fault) × IsLuFault lus fault) → IsFaultIn top given
   is_fault_in given (inl has) =
       let (at, (k, below, there), same) = listed_for found given has in
-      subst (IsFaultIn top) same (subst (λ (x : PartFault). IsFaulty x.fault x.part (draft_of top)) there (are.stand k at below))
+      subst (IsFaultIn top) same (subst (λ (x : LocatedFault). IsFaulty x.fault x.part (draft_of top)) there (are.stand k at below))
   is_fault_in given (inr (fault, same, is)) = subst (IsFaultIn top) (sym same) (subst (λ them. IsLuFault them fault) read is)
 
   is_listed : (given : Cause) → IsFaultIn top given → Contains all given

@@ -11,7 +11,7 @@ use Rattle.panel_check.specs.Report.{fault_count, is_fault}
 abbrev pub kind_text : Cause → List ℕ
 kind_text cause = if is_fault cause then [] else codes "warning: "
 
--- what follows the names of the table
+-- what is printed after the names of the table
 abbrev pub behind_place : List ℕ → List ℕ
 behind_place [] = []
 behind_place (char ∷ place) = codes ": "
@@ -21,12 +21,13 @@ finding_text finding =
     decimal finding.line ++ (codes ": " ++ (kind_text finding.cause
     ++ (string_bytes finding.place ++ (behind_place (string_bytes finding.place) ++ string_bytes finding.message))))
 
--- a line for each finding, with the name of the file
+-- a line for each finding, which begins with the name of the file
 abbrev pub findings_text : List ℕ → List Finding → List ℕ
 findings_text name [] = []
-findings_text name (finding ∷ findings) = name ++ (codes ":" ++ (finding_text finding ++ (codes "\n" ++ findings_text name findings)))
+findings_text name (finding ∷ findings) =
+    name ++ (codes ":" ++ (finding_text finding ++ (codes "\n" ++ findings_text name findings)))
 
--- ---- the last line: `ok: 4 panels, 12 fields, 3 LUs` or `2 faults`, and how many warnings there are, if any
+-- ---- the last line: `ok: 4 panels, 12 fields, 3 LUs` or `2 faults`, and the number of warnings, if there are any
 
 abbrev pub plural : ℕ → List ℕ
 plural count = if count == 1 then [] else codes "s"

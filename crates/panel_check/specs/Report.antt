@@ -5,7 +5,7 @@ use Rattle.panel_check.specs.declared.finding.Cause.TheVariants as cause
 use Rattle.panel_check.specs.declared.finding.Finding.{Finding}
 use Rattle.panel_check.specs.Verdict.{IsAccepted, IsFirstCause}
 
--- all but the warnings are faults
+-- whether a cause is a fault, and no warning
 abbrev pub is_fault : Cause → Bool
 is_fault cause.TextWraps = false
 is_fault cause.FillNotNumeric = false
@@ -18,10 +18,11 @@ fault_count findings = length (filter (λ finding. is_fault finding.cause) findi
 abbrev pub HasCause : Cause → List Finding → Type 0
 HasCause cause findings = (finding : Finding) × Contains findings finding × (finding.cause ≡ cause)
 
--- no fault is reported exactly if the readers accept the text
+-- holds if no fault is reported exactly if the readers accept the text
 abbrev pub IsFaultlessIfAccepted : List ℕ → List Finding → Type 0
 IsFaultlessIfAccepted text findings = (fault_count findings ≡ 0) ↔ IsAccepted text
 
--- if they refuse the text, the fault for which they do is reported
+-- holds if the report has the fault for which the readers refuse the text, if they do
 abbrev pub HasFirstCause : List ℕ → List Finding → Type 0
-HasFirstCause text findings = (IsAccepted text → ⊥) → (cause : Cause) × IsFirstCause text cause × HasCause cause findings
+HasFirstCause text findings = (IsAccepted text → ⊥) → (cause : Cause) × IsFirstCause text cause
+    × HasCause cause findings

@@ -1,4 +1,4 @@
-//! The faults of a tree: those of its tables, and those of the names of its LUs.
+//! The faults of a TOML tree: those of its tables, and those of its LUs' names.
 ghost use Rattle.std.specs.Prelude.{◌≡◌, ◌↔◌, ◌<◌, ◌≤◌, codes, length, map, IfOk, IfSome, OnOk, IsTrue, Some, Contains};
 ghost use Rattle.toml.specs.View.{table_view};
 ghost use Rattle.tn3270e_msg.specs.Lu.{lu_of};
@@ -13,15 +13,15 @@ ghost use Rattle.lu_pool.specs.Pool.{IsCount};
 use crate::finding::Cause;
 use crate::survey::values_at;
 use lu_pool::PoolFault;
-use panels::PartFault;
+use panels::LocatedFault;
 use std::alloc::{AllocError, Global};
 use tn3270e_msg::Lu;
 use toml::Table;
 
 const MOST_LUS: usize = 64;
 
-/// Each of these faults.
-fn causes_of(alloc: Global, faults: &[PartFault]) -> Result<Vec<Cause>, AllocError>
+/// The causes for these faults of tables.
+fn causes_of(alloc: Global, faults: &[LocatedFault]) -> Result<Vec<Cause>, AllocError>
     ensures { IfOk result (λ causes. causes.items ≡ map cause_of faults.now) }
 {
     let mut causes = Vec::new(alloc);
@@ -31,7 +31,7 @@ fn causes_of(alloc: Global, faults: &[PartFault]) -> Result<Vec<Cause>, AllocErr
     Ok(causes)
 }
 
-/// The names of the LUs, each as it is read.
+/// The LU that each string in `lus` names; `None` for a string that is no LU's name.
 fn lus_in(alloc: Global, top: &Table) -> Result<Vec<Option<Lu>>, AllocError>
     ensures { IfOk result (λ lus. lus.items ≡ map lu_of (texts_in (items_under (codes "lus") (table_view top.now)))) }
 {
@@ -53,7 +53,7 @@ fn is_read_as(read: Option<Lu>, lu: Lu) -> bool
     }
 }
 
-/// Whether a name before a place is read as this LU.
+/// Whether a name before the one at an index is that of this LU.
 fn is_read_before(lus: &[Option<Lu>], place: usize, lu: Lu) -> bool
     requires { place ≤ length lus.now }
     ensures { IsTrue result ↔ IsReadBefore lus.now place lu }
@@ -66,7 +66,7 @@ fn is_read_before(lus: &[Option<Lu>], place: usize, lu: Lu) -> bool
     false
 }
 
-/// The fault of the name at a place, if it has one.
+/// The fault of the name at an index, if it has one.
 fn lu_fault_at(lus: &[Option<Lu>], place: usize) -> Option<PoolFault>
     requires { place < length lus.now }
     ensures fault { IfSome result (HasFault lus.now) }
@@ -79,7 +79,7 @@ fn lu_fault_at(lus: &[Option<Lu>], place: usize) -> Option<PoolFault>
     }
 }
 
-/// Adds the fault of the name at a place, if it has one.
+/// Adds the fault of the name at an index, if it has one.
 fn add_name_fault(
     causes: &mut Vec<Cause>,
     lus: &[Option<Lu>],
@@ -94,7 +94,7 @@ fn add_name_fault(
     Ok(())
 }
 
-/// Adds the faults of the names of LUs whose count is right.
+/// Adds the faults of the LUs' names. There must be 1 to 64 of them.
 fn add_name_faults(causes: &mut Vec<Cause>, lus: &[Option<Lu>]) -> Result<(), AllocError>
     requires { IsCount (length lus.now) }
     ensures { OnOk result (AddsLuFaults lus.now causes.old.items causes.new.items) }
@@ -105,7 +105,7 @@ fn add_name_faults(causes: &mut Vec<Cause>, lus: &[Option<Lu>]) -> Result<(), Al
     Ok(())
 }
 
-/// Adds the faults of the LUs: of how many they are, or else of their names.
+/// Adds the faults of the LUs: their number, or else the faults of their names.
 fn add_lu_faults(causes: &mut Vec<Cause>, lus: &[Option<Lu>]) -> Result<(), AllocError>
     ensures { OnOk result (AddsLuFaults lus.now causes.old.items causes.new.items) }
 {
@@ -117,7 +117,7 @@ fn add_lu_faults(causes: &mut Vec<Cause>, lus: &[Option<Lu>]) -> Result<(), Allo
     Ok(())
 }
 
-/// The faults of a tree.
+/// All faults of a TOML tree: of its tables, and of its LUs.
 pub(crate) fn causes_in(alloc: Global, top: &Table) -> Result<Vec<Cause>, AllocError>
     ensures { IfOk result (λ causes.
         (cause : Cause) → Contains causes.items cause ↔ IsFaultIn (table_view top.now) cause) }

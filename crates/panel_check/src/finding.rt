@@ -1,31 +1,31 @@
-//! What is found in a panel text.
+//! Findings: the faults and warnings that a report has.
 ghost use Rattle.std.specs.Prelude.{◌≡◌};
 ghost use Rattle.panel_check.specs.Pages.{behind_place, kind_text};
 ghost use Rattle.panel_check.specs.Report.{is_fault};
 
 use lu_pool::PoolFault;
-use panels::{Part, TreeFault};
+use panels::{Location, TreeFault};
 use std::fmt;
 
-/// What is found. All but the warnings are faults.
+/// The kind of a finding. `TextWraps`, `FillNotNumeric` and `NoKeyLeads` are warnings, all others are faults.
 #[derive(Clone, Copy, Debug, PartialEq, Eq)]
 pub enum Cause {
     /// The text isn't TOML.
     NotToml,
-    /// A table has a fault. One fault may have several findings, as one of keys has one for each key that is wrong.
-    Tree(TreeFault, Part),
-    /// The names of the LUs have a fault.
+    /// A table has a fault. One fault may have several findings: one of keys has one for each key that is wrong.
+    Tree(TreeFault, Location),
+    /// The list of the LUs has a fault.
     Lus(PoolFault),
-    /// A text goes on in the next row.
+    /// A text is longer than the rest of its row, and goes on in the next row.
     TextWraps,
-    /// A numeric field is filled with what a terminal wouldn't take in it.
+    /// A numeric field has a fill with characters that a terminal doesn't accept in it.
     FillNotNumeric,
-    /// No keys lead from the first panel to this one, or to one in whose place it is shown.
+    /// No keys lead from the first panel to this one, or to a panel that is shown as this one in some sessions.
     NoKeyLeads,
 }
 
 impl Cause {
-    /// Whether the panel reader refuses the text for it.
+    /// Whether it is a fault, for which the panel reader or the LU pool refuses the text, and no warning.
     pub fn is_fault(&self) -> bool
         ensures { result ≡ is_fault self.now }
     {
@@ -39,22 +39,24 @@ impl Cause {
 /// A fault of a panel text, or a warning. Prints as `33: panel MENU, field option: unknown key 'requird'`.
 #[derive(Debug, Drop)]
 pub struct Finding {
+    /// What it is that was found.
     pub cause: Cause,
-    /// From 1 on.
+    /// The line of the text, from 1 on.
     pub line: usize,
-    /// The names of the table; empty if it is the text's own.
+    /// The names of the table, as `panel MENU, field option`; empty for the text's own table.
     pub place: String,
+    /// What is wrong, in words.
     pub message: String,
 }
 
-/// What begins a finding that is only a warning.
+/// The word before a warning; empty for a fault.
 fn kind_text(cause: Cause) -> &'static str
     ensures { result.now ≡ kind_text cause }
 {
     if cause.is_fault() { "" } else { "warning: " }
 }
 
-/// What follows the names of a table.
+/// What is printed after the names of a table.
 fn behind_place(place: &str) -> &'static str
     ensures { result.now ≡ behind_place place.now }
 {

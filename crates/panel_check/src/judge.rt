@@ -1,4 +1,4 @@
-//! What the readers of a host answer.
+//! Whether a host accepts a panel text.
 ghost use Rattle.std.specs.Prelude.{ℕ, List, IfOk};
 ghost use Rattle.lu_pool.specs.Reading.{IsFirstFault};
 ghost use Rattle.panels.specs.Defines.{IsReadFrom};
@@ -11,7 +11,7 @@ use lu_pool::{Pool, PoolFault};
 use panels::{PanelFault, PanelSet};
 use std::alloc::{AllocError, Global};
 
-/// How much a text has.
+/// The numbers of panels, of fields of all panels, and of LUs in a text.
 #[derive(Clone, Copy, Debug, PartialEq, Eq)]
 pub struct Sizes {
     pub panels: usize,
@@ -19,7 +19,7 @@ pub struct Sizes {
     pub lus: usize,
 }
 
-/// How much a text has.
+/// The numbers of panels, fields and LUs.
 fn sizes_of(set: &PanelSet) -> Sizes {
     let mut fields = 0usize;
     for index in 0..set.len() {
@@ -34,7 +34,7 @@ fn sizes_of(set: &PanelSet) -> Sizes {
     }
 }
 
-/// The answer to a text that the panel reader refuses for this fault.
+/// The answer for a text that the panel reader refuses for this fault: `None`; Err if memory was refused.
 fn refused_by_panels(fault: PanelFault) -> Result<Option<Sizes>, AllocError>
     ensures { (text : List ℕ) → IsReason text fault → IsFirstOf text fault → IfOk result (IsVerdict text) }
 {
@@ -45,9 +45,10 @@ fn refused_by_panels(fault: PanelFault) -> Result<Option<Sizes>, AllocError>
     }
 }
 
-/// The answer to a text whose LUs the pool refuses for this fault.
+/// The answer for a text whose LUs the pool refuses for this fault: `None`; Err if memory was refused.
 fn refused_by_pool(fault: PoolFault) -> Result<Option<Sizes>, AllocError>
-    ensures { (text : List ℕ) (panels : Panels) → IsReadFrom text panels → IsFirstFault (lus_of panels) fault → IfOk result (IsVerdict text) }
+    ensures { (text : List ℕ) (panels : Panels) → IsReadFrom text panels → IsFirstFault (lus_of panels) fault
+        → IfOk result (IsVerdict text) }
 {
     match fault {
         PoolFault::Memory => Err(AllocError),
@@ -57,7 +58,7 @@ fn refused_by_pool(fault: PoolFault) -> Result<Option<Sizes>, AllocError>
     }
 }
 
-/// How much a panel text has that the panel reader, and then the pool, accept; `None` if they refuse it.
+/// The sizes of a panel text that the panel reader accepts and whose LUs the pool accepts; `None` if one refuses it.
 pub(crate) fn judge(alloc: Global, text: &str) -> Result<Option<Sizes>, AllocError>
     ensures { IfOk result (IsVerdict text.now) }
 {

@@ -1,12 +1,12 @@
-//! Where the texts and fields of panels are laid out: what a report says of their places, and warns of.
-use crate::survey::Survey;
+//! Where texts and fields are on the screens of their panels: remarks on their places, and warnings.
+use crate::survey::Index;
 use crate::words::Words;
 use codes3270::{Model, Size};
-use panels::Part;
+use panels::Location;
 use std::alloc::AllocError;
 
-/// The row and the column of a text or a field, and how many characters it has; and the rows and columns of its panel's screen in
-/// which it may stand: the last row is for messages.
+/// The row, the column and the length of a text or a field; and how many rows and columns its panel's screen has for
+/// items, which is all rows but the last.
 #[derive(Clone, Copy)]
 struct Layout {
     row: i64,
@@ -16,7 +16,7 @@ struct Layout {
     columns: i64,
 }
 
-/// The size of the screen of a model.
+/// The size of a model's screen; `None` if there is no such model.
 fn size_of(model: i64) -> Option<Size> {
     match model {
         2 => Some(Size::base()),
@@ -28,12 +28,12 @@ fn size_of(model: i64) -> Option<Size> {
 }
 
 impl Layout {
-    /// That of a text or a field; `None` if a key of it is absent, or there is no such model.
-    fn of(survey: &Survey, part: Part) -> Option<Layout> {
-        let (Part::Text(panel, _) | Part::Field(panel, _)) = part else {
+    /// The layout of a text or a field; `None` if one of its keys is absent, or there is no such model.
+    fn of(survey: &Index, part: Location) -> Option<Layout> {
+        let (Location::Text(panel, _) | Location::Field(panel, _)) = part else {
             return None;
         };
-        let size = match survey.table(Part::Panel(panel))?.get("model") {
+        let size = match survey.table(Location::Panel(panel))?.get("model") {
             Some(model) => size_of(model.as_integer()?)?,
             None => Size::base(),
         };
@@ -50,8 +50,8 @@ impl Layout {
         })
     }
 
-    /// That of a text or a field that is on its panel's screen.
-    fn on_screen(survey: &Survey, part: Part) -> Option<Layout> {
+    /// The layout of a text or a field that lies above the last row of its panel's screen.
+    fn on_screen(survey: &Index, part: Location) -> Option<Layout> {
         let layout = Layout::of(survey, part)?;
         let is_there = (1..=layout.rows).contains(&layout.row)
             && (1..=layout.columns).contains(&layout.column)
@@ -61,13 +61,13 @@ impl Layout {
         is_there.then_some(layout)
     }
 
-    /// The address of its first character.
+    /// The buffer address of its first character.
     fn first(self) -> i64 {
         let before = self.row.saturating_sub(1).saturating_mul(self.columns);
         before.saturating_add(self.column).saturating_sub(1)
     }
 
-    /// The address behind its last character.
+    /// The buffer address after its last character.
     fn end(self) -> i64 {
         self.first().saturating_add(self.length)
     }
@@ -78,7 +78,7 @@ impl Layout {
 }
 
 impl<'s, 'a> Words<'s, 'a> {
-    /// Says why a text or a field isn't in its place.
+    /// Says why a text or a field is out of place.
     pub(crate) fn misplaced(&mut self) -> Result<(), AllocError> {
         let Some(layout) = Layout::of(self.survey, self.part) else {
             return Ok(());
@@ -121,13 +121,13 @@ impl<'s, 'a> Words<'s, 'a> {
     }
 
     /// The first text or field of the same panel that shares a cell with this one.
-    fn first_met(&self) -> Option<Part> {
+    fn first_met(&self) -> Option<Location> {
         let layout = Layout::of(self.survey, self.part)?;
         self.survey.parts.iter().copied().find(|other| {
             let is_near = match (*other, self.part) {
                 (
-                    Part::Text(panel, _) | Part::Field(panel, _),
-                    Part::Text(own, _) | Part::Field(own, _),
+                    Location::Text(panel, _) | Location::Field(panel, _),
+                    Location::Text(own, _) | Location::Field(own, _),
                 ) => panel == own,
                 _ => false,
             };
@@ -138,7 +138,7 @@ impl<'s, 'a> Words<'s, 'a> {
         })
     }
 
-    /// Says with which earlier item of its panel a text or a field shares a cell.
+    /// Says with which earlier item of its panel a text or a field shares a cell, and that item's place.
     pub(crate) fn overlap(&mut self) -> Result<(), AllocError> {
         let Some(other) = self.first_met() else {
             return Ok(());
@@ -148,11 +148,11 @@ impl<'s, 'a> Words<'s, 'a> {
         self.say("", message)
     }
 
-    /// Warns of texts that go on in the next row.
+    /// Warns of each text that goes on in the next row.
     pub(crate) fn wraps(&mut self) -> Result<(), AllocError> {
         for item in &self.survey.parts {
             self.part = *item;
-            if let Part::Text(_, _) = self.part
+            if let Location::Text(_, _) = self.part
                 && let Some(layout) = Layout::on_screen(self.survey, self.part)
             {
                 let Layout {
@@ -173,7 +173,7 @@ impl<'s, 'a> Words<'s, 'a> {
         Ok(())
     }
 
-    /// Whether the part is numeric, and filled with what a terminal doesn't take in it.
+    /// Whether the part is numeric and its fill has characters that a terminal doesn't accept in a numeric field.
     fn has_strange_fill(&self) -> bool {
         let numeric = self
             .survey
@@ -186,7 +186,7 @@ impl<'s, 'a> Words<'s, 'a> {
                 .all(|letter| matches!(letter, '0'..='9' | '.' | '-'))
     }
 
-    /// Warns of numeric fields that are filled with what a terminal doesn't take there.
+    /// Warns of each numeric field whose fill has characters that a terminal doesn't accept there.
     pub(crate) fn strange_fills(&mut self) -> Result<(), AllocError> {
         let words = "a terminal takes only 0-9, . and - in a numeric field, and 'fill' has others";
         for item in &self.survey.parts {

@@ -1,4 +1,5 @@
-//! Checks a panel text: all its faults at once, with lines, names and keys, and warnings (our profile).
+//! Checks a panel text (our profile): reports all its faults at once, with lines, names and keys, and warnings. A panel
+//! text goes in, a [`Report`] comes out, and [`Report::page`] prints it.
 //!
 //! ```rust
 //! // [[panel.field]]
@@ -11,10 +12,11 @@
 //! let page = report.page(alloc, "panels.toml")?;
 //! ```
 //!
-//! `panels::faults` lists the faults of a text's tables; this crate finds words for them, and looks for their lines in the text
-//! itself. `specs/Causes` and `Report` say what a report promises: it has each fault of the text unless that may merely follow from
-//! another, and no other; it has no fault exactly if `PanelSet::read` and `Pool::read` accept the text, and has the fault for which
-//! they refuse it otherwise. `Pages` says what a report prints. That its lines, its words and its warnings are right is only tested.
+//! `panels::faults` lists the faults of a text's tables; this crate finds words for them, and their lines in the text.
+//! `panels` reads a text for a host. `specs/Causes` and `Report` say what a report promises: it has
+//! each fault of the text, unless the fault may merely follow from another one, and no other; it has no fault exactly
+//! if `PanelSet::read` and `Pool::read` accept the text, and else it has the fault for which they refuse it. `Pages`
+//! says what a report prints. That lines, words and warnings are right is only tested.
 #![tactic(auto)]
 
 mod causes;

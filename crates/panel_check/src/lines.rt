@@ -1,40 +1,40 @@
-//! The lines of a panel text's tables and keys. The kit's `toml` tells no lines of what it reads, so the text is walked once more, by
-//! the readers of `toml_parser` that `toml` itself is made of. Lines count from 1.
+//! The lines of a panel text's tables and keys. `toml` reports no lines of what it reads, so this walks over the text
+//! once more, with the readers of `toml_parser`, of which `toml` is made. Lines count from 1.
 //!
-//! A path leads to what has a line, as `.panel#1.field#0.row`: `.` is before a key, `#` before the number of a table in an array,
-//! and `'` before that of a string.
+//! A path names what has a line, as `.panel#1.field#0.row`: `.` is before a key, `#` before the index of a table in an
+//! array, and `'` before the index of a string.
 use std::alloc::{AllocError, Global};
 use std::collections::BTreeMap;
 use toml_parser::text::{skip_blank, skip_ws};
 use toml_parser::{Key, ParseError, dotted_key, quoted, starts_string, unquoted};
 
-/// An array or a table that isn't at its end.
+/// An array or a table whose end hasn't been reached.
 #[derive(Drop)]
 struct Open {
     path: String,
     is_array: bool,
 }
 
-/// The lines of a text, as far as it is walked over.
+/// The lines of a text, up to where the walk is.
 #[derive(Drop)]
 pub(crate) struct Lines {
     alloc: Global,
     /// The line of each path.
     noted: BTreeMap<String, usize>,
-    /// For the path of an array and `#` or `'`: how many tables or strings it has so far.
+    /// For an array's path and `#` or `'`: how many tables or strings the array has up to here.
     counts: BTreeMap<String, usize>,
-    /// The table of the last header, and what is open in it.
+    /// The table of the last header, and the arrays and tables that are open in it.
     open: Vec<Open>,
-    /// The line of the walk.
+    /// The line that the walk has reached.
     line: usize,
 }
 
-/// The path of a table's key.
+/// The path of a key in the table with this path.
 fn under(alloc: Global, table: &str, key: &str) -> Result<String, AllocError> {
     format!(in alloc; "{table}.{key}")
 }
 
-/// What is before the number of this value in its array. Like the panel reader, this counts tables and strings apart.
+/// The mark before the index of this value in its array. Like the panel reader, this counts tables and strings apart.
 fn mark_of(value: &str) -> char {
     if value.starts_with('{') {
         '#'
@@ -46,7 +46,7 @@ fn mark_of(value: &str) -> char {
 }
 
 impl Lines {
-    /// The lines of a text, up to where it is no TOML.
+    /// The lines of a text, up to the first place at which it isn't TOML.
     pub(crate) fn of_text(alloc: Global, text: &str) -> Result<Lines, AllocError> {
         let mut lines = Lines {
             alloc,
@@ -61,7 +61,7 @@ impl Lines {
         }
     }
 
-    /// The line of a table's key; the table's own if it has no such key, and 1 if there is no such table.
+    /// The line of a table's key; the table's own line if it has no such key, and 1 if there is no such table.
     pub(crate) fn of_key(&self, table: &str, key: &str) -> Result<usize, AllocError> {
         let path = under(self.alloc, table, key)?;
         let own = self.noted.get(table).copied().unwrap_or(1);
@@ -84,7 +84,7 @@ impl Lines {
         Ok(())
     }
 
-    /// Counts the lines between two places.
+    /// Counts the line ends between two places of the text.
     fn pass(&mut self, from: &str, to: &str) {
         let count = from.len().saturating_sub(to.len());
         let passed = from.as_bytes().get(..count).unwrap_or(&[]);
@@ -92,7 +92,7 @@ impl Lines {
         self.line = self.line.saturating_add(ends);
     }
 
-    /// Walks over a header, a comma, the end of an array or a table, or what a value begins with; and over a whole one that is neither.
+    /// Walks over a header, a comma, the end of an array or a table, the beginning of one, or any other value.
     fn step<'t>(&mut self, text: &'t str) -> Result<&'t str, ParseError> {
         if let Some(after) = text.strip_prefix(',') {
             return Ok(after);
@@ -130,7 +130,7 @@ impl Lines {
         Ok(())
     }
 
-    /// Notes each part of a key, and answers the path to which it leads. That of a header leads through an array by its last table.
+    /// Notes the line of each part of a key, and returns the key's path. In a header, an array means its last table.
     fn along(&mut self, table: String, key: &Key, in_header: bool) -> Result<String, AllocError> {
         let mut path = table;
         for part in &key.path {
@@ -145,7 +145,7 @@ impl Lines {
         Ok(path)
     }
 
-    /// The path of the last table in an array; a path itself that is of no array.
+    /// The path of the last table in the array with this path; the path itself if it is of no array.
     fn last_element(&self, path: String) -> Result<String, AllocError> {
         let tables = format!(in self.alloc; "{path}#")?;
         let Some(count) = self.counts.get(tables.as_str()).copied() else {
@@ -155,7 +155,7 @@ impl Lines {
         format!(in self.alloc; "{tables}{last}")
     }
 
-    /// Notes the next value of an array, and answers its path.
+    /// Notes the line of the next value of an array, and returns the value's path.
     fn next_element(&mut self, array: String, mark: char) -> Result<String, AllocError> {
         let kind = format!(in self.alloc; "{array}{mark}")?;
         let count = self.counts.get(kind.as_str()).copied().unwrap_or(0);
@@ -165,7 +165,7 @@ impl Lines {
         Ok(path)
     }
 
-    /// Walks over a header behind its first bracket.
+    /// Walks over a header, from after its first bracket on.
     fn header<'t>(&mut self, text: &'t str) -> Result<&'t str, ParseError> {
         let element = text.strip_prefix('[');
         let (key, after) = dotted_key(self.alloc, skip_ws(element.unwrap_or(text)))?;

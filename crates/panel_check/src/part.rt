@@ -1,4 +1,4 @@
-//! The panel text in an input.
+//! The panel text in an input that may also have a script after it.
 ghost use Rattle.std.specs.Prelude.{◌≡◌, true};
 ghost use Rattle.std.specs.Str.{IsCharBoundary};
 ghost use Rattle.panel_check.specs.PanelText.{is_at_mark, mark_place, panel_text};
@@ -10,7 +10,7 @@ fn is_at_mark(text: &[u8]) -> bool
     text == b"%%".as_slice() || text.starts_with(b"%%\n".as_slice())
 }
 
-/// The index of the first line `%%`; the text's length if there is no such line.
+/// The index, in bytes, of the first line `%%`; the text's length if there is no such line.
 fn mark_place(text: &[u8]) -> usize
     ensures place { result ≡ mark_place true text.now }
     ensures boundary { IsCharBoundary text.now result }

@@ -11,17 +11,18 @@ use crate::part::panel_part;
 use crate::telling::{Told, tell_text};
 use std::alloc::{AllocError, Global};
 
-/// What is found in a panel text, in the order of its lines.
+/// The findings in a panel text, in the order of its lines.
 #[derive(Debug, Drop)]
 pub struct Report {
+    /// The faults and warnings.
     pub findings: Vec<Finding>,
-    /// How much the text has, if it has no fault.
+    /// How many panels, fields and LUs the text has; `None` if it has a fault.
     pub sizes: Option<Sizes>,
     /// Whether there were words for each fault that doesn't merely follow from another.
-    pub agrees: bool,
+    pub has_words: bool,
 }
 
-/// How many faults there are.
+/// The number of findings that are faults.
 fn count_faults(findings: &[Finding]) -> usize
     ensures { result ≡ fault_count findings.now }
 {
@@ -31,9 +32,9 @@ fn count_faults(findings: &[Finding]) -> usize
         .count()
 }
 
-/// The report on a panel text: everything up to a line `%%`. It has each fault of the text, but for what may merely follow from
-/// another, and no other. If `PanelSet::read` and `Pool::read` accept the text, it has only warnings; if they refuse it, the fault
-/// for which they do is among its faults.
+/// The report on a panel text, which is everything before the first line `%%`. It has each fault of the text, unless
+/// the fault may merely follow from another one, and no other. If `PanelSet::read` and `Pool::read` accept the text, it
+/// has only warnings; if they refuse it, the fault for which they do is in the report.
 ///
 /// Err only if memory is refused.
 pub fn check(alloc: Global, text: &str) -> Result<Report, AllocError>
@@ -44,12 +45,15 @@ pub fn check(alloc: Global, text: &str) -> Result<Report, AllocError>
     // For the contract.
     panels::laws::a_text_defines_its_panels_once();
     let text = panel_part(text);
-    let Told { findings, agrees } = tell_text(alloc, text)?;
+    let Told {
+        findings,
+        has_words,
+    } = tell_text(alloc, text)?;
     let sizes = judge(alloc, text)?;
     Ok(Report {
         findings,
         sizes,
-        agrees,
+        has_words,
     })
 }
 
@@ -59,7 +63,7 @@ fn plural(count: usize) -> &'static str
     if count == 1 { "" } else { "s" }
 }
 
-/// Adds a count of things.
+/// Adds a number and a noun, in the plural unless the number is 1.
 fn put_count(page: &mut String, count: usize, thing: &str) -> Result<(), AllocError>
     ensures { OnOk result (string_bytes page.new ≡ string_bytes page.old ++ count_text count thing.now) }
 {
@@ -67,7 +71,7 @@ fn put_count(page: &mut String, count: usize, thing: &str) -> Result<(), AllocEr
     write!(page, "{count} {thing}{ending}")
 }
 
-/// Adds how much a text has.
+/// Adds the numbers of panels, fields and LUs.
 fn put_sizes(page: &mut String, sizes: Sizes) -> Result<(), AllocError>
     ensures { OnOk result (string_bytes page.new ≡ string_bytes page.old ++ sizes_text sizes) }
 {
@@ -79,7 +83,7 @@ fn put_sizes(page: &mut String, sizes: Sizes) -> Result<(), AllocError>
     put_count(page, sizes.lus, "LU")
 }
 
-/// Adds how much a text has, or how many faults.
+/// Adds the sizes of a text without fault, or the number of faults.
 fn put_outcome(page: &mut String, sizes: Option<Sizes>, faults: usize) -> Result<(), AllocError>
     ensures { OnOk result (string_bytes page.new ≡ string_bytes page.old ++ outcome_text sizes faults) }
 {
@@ -89,7 +93,7 @@ fn put_outcome(page: &mut String, sizes: Option<Sizes>, faults: usize) -> Result
     }
 }
 
-/// Adds how many warnings there are, if any.
+/// Adds the number of warnings, if there are any.
 fn put_warnings(page: &mut String, count: usize) -> Result<(), AllocError>
     ensures { OnOk result (string_bytes page.new ≡ string_bytes page.old ++ warnings_text count) }
 {
@@ -100,7 +104,7 @@ fn put_warnings(page: &mut String, count: usize) -> Result<(), AllocError>
     put_count(page, count, "warning")
 }
 
-/// Adds a line for each finding, with the name of the file.
+/// Adds a line for each finding, which begins with the name of the file.
 fn put_findings(page: &mut String, name: &str, findings: &[Finding]) -> Result<(), AllocError>
     ensures { OnOk result (string_bytes page.new ≡ string_bytes page.old ++ findings_text name.now findings.now) }
 {
@@ -111,14 +115,14 @@ fn put_findings(page: &mut String, name: &str, findings: &[Finding]) -> Result<(
 }
 
 impl Report {
-    /// How many faults there are.
+    /// The number of findings that are faults.
     pub fn faults(&self) -> usize
         ensures { result ≡ fault_count self.now.findings.items }
     {
         count_faults(&self.findings)
     }
 
-    /// Adds the last line: how much the text has, or how many faults.
+    /// Adds the last line: the sizes or the number of faults, and the number of warnings.
     fn put_summary(&self, page: &mut String) -> Result<(), AllocError>
         ensures { OnOk result (string_bytes page.new ≡ string_bytes page.old ++ summary_text self.now) }
     {
@@ -128,7 +132,7 @@ impl Report {
         page.push('\n')
     }
 
-    /// The report as text: a line for each finding, with the name of the file, and one that sums up.
+    /// The report as text: a line for each finding, which begins with the file's `name`, and a line with the totals.
     ///
     /// Err only if memory is refused.
     pub fn page(&self, alloc: Global, name: &str) -> Result<String, AllocError>

@@ -1,4 +1,4 @@
-//! What a panel text has: its tables, their names as messages have them, and their lines.
+//! The tables of a panel text, their names as messages print them, and their lines.
 ghost use Rattle.std.specs.Prelude.{◌≡◌, option_map};
 ghost use Rattle.toml.specs.Data.{get_member};
 ghost use Rattle.toml.specs.View.{items_view, table_view, view};
@@ -6,7 +6,7 @@ ghost use Rattle.panels.specs.Tree.{items_under};
 
 use crate::lines::Lines;
 use crate::wording::put_cut;
-use panels::Part;
+use panels::Location;
 use std::alloc::{AllocError, Global};
 use toml::{Table, Value};
 
@@ -16,7 +16,7 @@ fn value_at<'a>(table: &'a Table, key: &str) -> Option<&'a Value>
     table.get(key)
 }
 
-/// What the array at a key has; nothing if there is none.
+/// The values of the array at a key; none if there is no array.
 pub(crate) fn values_at<'a>(table: &'a Table, key: &str) -> &'a [Value]
     ensures { items_view result.now ≡ items_under key.now (table_view table.now) }
 {
@@ -51,7 +51,7 @@ fn tables_at<'a>(alloc: Global, table: &'a Table, key: &str) -> Result<Vec<&'a T
     Ok(tables)
 }
 
-/// A panel, its texts and its fields.
+/// The tables of a panel, of its texts and of its fields.
 #[derive(Drop)]
 struct PanelTables<'a> {
     table: &'a Table,
@@ -59,18 +59,18 @@ struct PanelTables<'a> {
     fields: Vec<&'a Table>,
 }
 
-/// A panel text. Values that aren't tables are left out.
+/// The tables of a panel text. Values in arrays of tables that aren't tables are left out.
 #[derive(Drop)]
-pub(crate) struct Survey<'a> {
+pub(crate) struct Index<'a> {
     pub alloc: Global,
     pub lines: Lines,
     top: &'a Table,
     panels: Vec<PanelTables<'a>>,
-    /// Panel by panel the panel itself, its texts and its fields.
-    pub parts: Vec<Part>,
+    /// For each panel the panel itself, then its texts, then its fields.
+    pub parts: Vec<Location>,
 }
 
-/// Adds what a table is called: by its name, or its number from 1 on.
+/// Adds how messages name a table: by its name, or by its number from 1 on.
 fn put_named(
     place: &mut String,
     kind: &str,
@@ -85,10 +85,10 @@ fn put_named(
     put_cut(place, name)
 }
 
-impl<'a> Survey<'a> {
-    /// What a text has whose tree is this.
-    pub(crate) fn of(alloc: Global, text: &str, top: &'a Table) -> Result<Survey<'a>, AllocError> {
-        let mut survey = Survey {
+impl<'a> Index<'a> {
+    /// The tables of a text, whose TOML tree is `top`.
+    pub(crate) fn of(alloc: Global, text: &str, top: &'a Table) -> Result<Index<'a>, AllocError> {
+        let mut survey = Index {
             alloc,
             lines: Lines::of_text(alloc, text)?,
             top,
@@ -105,12 +105,12 @@ impl<'a> Survey<'a> {
         let panel = self.panels.len();
         let texts = tables_at(self.alloc, table, "text")?;
         let fields = tables_at(self.alloc, table, "field")?;
-        self.parts.push(Part::Panel(panel))?;
+        self.parts.push(Location::Panel(panel))?;
         for text in 0..texts.len() {
-            self.parts.push(Part::Text(panel, text))?;
+            self.parts.push(Location::Text(panel, text))?;
         }
         for field in 0..fields.len() {
-            self.parts.push(Part::Field(panel, field))?;
+            self.parts.push(Location::Field(panel, field))?;
         }
         self.panels.push(PanelTables {
             table,
@@ -120,83 +120,85 @@ impl<'a> Survey<'a> {
         Ok(())
     }
 
-    /// The table of a part.
-    pub(crate) fn table(&self, part: Part) -> Option<&'a Table> {
+    /// The table of a part, if there is one.
+    pub(crate) fn table(&self, part: Location) -> Option<&'a Table> {
         match part {
-            Part::Top => Some(self.top),
-            Part::Panel(panel) => Some(self.panels.get(panel)?.table),
-            Part::Text(panel, text) => self.panels.get(panel)?.texts.get(text).copied(),
-            Part::Field(panel, field) => self.panels.get(panel)?.fields.get(field).copied(),
-            Part::Keys(panel) => self.panels.get(panel)?.table.get("keys")?.as_table(),
+            Location::Top => Some(self.top),
+            Location::Panel(panel) => Some(self.panels.get(panel)?.table),
+            Location::Text(panel, text) => self.panels.get(panel)?.texts.get(text).copied(),
+            Location::Field(panel, field) => self.panels.get(panel)?.fields.get(field).copied(),
+            Location::Keys(panel) => self.panels.get(panel)?.table.get("keys")?.as_table(),
         }
     }
 
-    pub(crate) fn text(&self, part: Part, key: &str) -> Option<&'a str> {
+    pub(crate) fn text(&self, part: Location, key: &str) -> Option<&'a str> {
         self.table(part)?.get(key)?.as_str()
     }
 
-    pub(crate) fn integer(&self, part: Part, key: &str) -> Option<i64> {
+    pub(crate) fn integer(&self, part: Location, key: &str) -> Option<i64> {
         self.table(part)?.get(key)?.as_integer()
     }
 
-    /// The name of a panel or a field; empty if it has none, as the panel reader takes it.
-    pub(crate) fn name(&self, part: Part) -> &'a str {
+    /// The name of a panel or a field; empty if it has none, as in the panel reader.
+    pub(crate) fn name(&self, part: Location) -> &'a str {
         self.text(part, "name").unwrap_or("")
     }
 
-    /// The strings of an array of a part.
-    pub(crate) fn texts(&self, part: Part, key: &str) -> Result<Vec<&'a str>, AllocError> {
+    /// The strings in an array of a part's table; none if there is no such array.
+    pub(crate) fn texts(&self, part: Location, key: &str) -> Result<Vec<&'a str>, AllocError> {
         match self.table(part) {
             Some(table) => texts_at(self.alloc, table, key),
             None => Ok(Vec::new(self.alloc)),
         }
     }
 
-    /// How many tables an array of a part has.
-    pub(crate) fn count(&self, part: Part, key: &str) -> Result<usize, AllocError> {
+    /// The number of tables in an array of a part's table.
+    pub(crate) fn count(&self, part: Location, key: &str) -> Result<usize, AllocError> {
         match self.table(part) {
             Some(table) => Ok(tables_at(self.alloc, table, key)?.len()),
             None => Ok(0),
         }
     }
 
-    /// The names of a part, as `panel MENU, field option`; none of the text's own table.
-    pub(crate) fn place(&self, part: Part) -> Result<String, AllocError> {
+    /// How messages name a part, as `panel MENU, field option`; empty for the text's own table.
+    pub(crate) fn place(&self, part: Location) -> Result<String, AllocError> {
         let mut place = String::new(self.alloc);
-        if let Part::Panel(panel)
-        | Part::Text(panel, _)
-        | Part::Field(panel, _)
-        | Part::Keys(panel) = part
+        if let Location::Panel(panel)
+        | Location::Text(panel, _)
+        | Location::Field(panel, _)
+        | Location::Keys(panel) = part
         {
-            let name = self.text(Part::Panel(panel), "name");
+            let name = self.text(Location::Panel(panel), "name");
             put_named(&mut place, "panel", name, panel)?;
         }
         match (part, self.text(part, "text"), self.text(part, "show")) {
-            (Part::Text(_, _), Some(text), _) => {
+            (Location::Text(_, _), Some(text), _) => {
                 place.push_str(", text '")?;
                 put_cut(&mut place, text)?;
                 place.push('\'')?;
             }
-            (Part::Text(_, index), None, Some(name)) => {
+            (Location::Text(_, index), None, Some(name)) => {
                 put_named(&mut place, ", show", Some(name), index)?;
             }
-            (Part::Text(_, index), None, None) => put_named(&mut place, ", text", None, index)?,
-            (Part::Field(_, index), _, _) => {
+            (Location::Text(_, index), None, None) => put_named(&mut place, ", text", None, index)?,
+            (Location::Field(_, index), _, _) => {
                 put_named(&mut place, ", field", self.text(part, "name"), index)?;
             }
-            (Part::Top | Part::Panel(_) | Part::Keys(_), _, _) => {}
+            (Location::Top | Location::Panel(_) | Location::Keys(_), _, _) => {}
         }
         Ok(place)
     }
 
-    /// The line of a key of a part; the part's own if it has no such key.
-    pub(crate) fn line(&self, part: Part, key: &str) -> Result<usize, AllocError> {
+    /// The line of a key in a part's table; that of the part if it has no such key.
+    pub(crate) fn line(&self, part: Location, key: &str) -> Result<usize, AllocError> {
         let path = match part {
-            Part::Top => String::new(self.alloc),
-            Part::Panel(panel) => format!(in self.alloc; ".panel#{panel}")?,
-            Part::Text(panel, text) => format!(in self.alloc; ".panel#{panel}.text#{text}")?,
-            Part::Field(panel, field) => format!(in self.alloc; ".panel#{panel}.field#{field}")?,
-            Part::Keys(panel) => format!(in self.alloc; ".panel#{panel}.keys")?,
+            Location::Top => String::new(self.alloc),
+            Location::Panel(panel) => format!(in self.alloc; ".panel#{panel}")?,
+            Location::Text(panel, text) => format!(in self.alloc; ".panel#{panel}.text#{text}")?,
+            Location::Field(panel, field) => format!(in self.alloc;
+                ".panel#{panel}.field#{field}"
+            )?,
+            Location::Keys(panel) => format!(in self.alloc; ".panel#{panel}.keys")?,
         };
         self.lines.of_key(path.as_str(), key)
     }

@@ -1,15 +1,15 @@
-//! The names that must be of a panel or a field, and the panels that no keys lead to.
-use crate::survey::Survey;
+//! Names that must be those of a panel or a field, and panels that no keys lead to.
+use crate::survey::Index;
 use crate::wording::{Nearest, quote};
 use crate::words::Words;
-use panels::Part;
+use panels::Location;
 use std::alloc::AllocError;
 
-/// Panels or fields whose names may be named.
+/// The panels or fields that a name may be of.
 #[derive(Clone, Copy)]
 enum Named {
     Panels,
-    /// Those of model 2, which can be shown in each session.
+    /// The panels of model 2, which any session can show.
     BasePanels,
     Fields,
     FieldsOf(usize),
@@ -26,41 +26,41 @@ impl Named {
     }
 
     /// Whether a part is one of them.
-    fn has(self, survey: &Survey, part: Part) -> bool {
+    fn has(self, survey: &Index, part: Location) -> bool {
         match (self, part) {
-            (Named::Panels, Part::Panel(_)) | (Named::Fields, Part::Field(_, _)) => true,
-            (Named::BasePanels, Part::Panel(_)) => is_base(survey, part),
-            (Named::FieldsOf(panel), Part::Field(other, _)) => panel == other,
+            (Named::Panels, Location::Panel(_)) | (Named::Fields, Location::Field(_, _)) => true,
+            (Named::BasePanels, Location::Panel(_)) => is_base(survey, part),
+            (Named::FieldsOf(panel), Location::Field(other, _)) => panel == other,
             _ => false,
         }
     }
 
-    /// The first with a name.
-    fn find(self, survey: &Survey, name: &str) -> Option<Part> {
+    /// The first of them that has the name.
+    fn find(self, survey: &Index, name: &str) -> Option<Location> {
         let mut parts = survey.parts.iter().copied();
         parts.find(|part| self.has(survey, *part) && survey.name(*part) == name)
     }
 }
 
-/// Whether a panel is of model 2. The panel reader takes it for one if `model` is no integer.
-fn is_base(survey: &Survey, panel: Part) -> bool {
+/// Whether a panel is of model 2. Like the panel reader, this takes a `model` that is no integer for 2.
+fn is_base(survey: &Index, panel: Location) -> bool {
     survey.integer(panel, "model").unwrap_or(2) == 2
 }
 
 impl<'s, 'a> Words<'s, 'a> {
-    /// Says which names in a table that must be of a panel or a field are of none.
+    /// Says which names in the part's table are of no panel or field although they must be.
     pub(crate) fn no_target(&mut self) -> Result<(), AllocError> {
         match self.part {
-            Part::Top => self.lost("start", Named::Panels),
-            Part::Panel(panel) => {
+            Location::Top => self.lost("start", Named::Panels),
+            Location::Panel(panel) => {
                 self.lost("cursor", Named::FieldsOf(panel))?;
                 if is_base(self.survey, self.part) {
                     return Ok(());
                 }
                 self.lost("otherwise", Named::BasePanels)
             }
-            Part::Text(_, _) | Part::Field(_, _) => self.lost("show", Named::Fields),
-            Part::Keys(_) => {
+            Location::Text(_, _) | Location::Field(_, _) => self.lost("show", Named::Fields),
+            Location::Keys(_) => {
                 if let Some(keys) = self.survey.table(self.part) {
                     for key in keys.keys() {
                         self.lost(key.as_str(), Named::Panels)?;
@@ -71,7 +71,7 @@ impl<'s, 'a> Words<'s, 'a> {
         }
     }
 
-    /// Says that the name at a key is of none of these, if it is of none.
+    /// Says that the name at a key is of none of these panels or fields, if that is so.
     fn lost(&mut self, key: &str, named: Named) -> Result<(), AllocError> {
         let Some(name) = self.text(key) else {
             return Ok(());
@@ -98,10 +98,10 @@ impl<'s, 'a> Words<'s, 'a> {
         self.say(key, message)
     }
 
-    /// Adds the panel of these that has a name to those that are reached, once.
+    /// Adds the first of these panels with a name to those that are reached, unless it is there.
     fn reach(
         &self,
-        found: &mut Vec<Part>,
+        found: &mut Vec<Location>,
         named: Named,
         name: Option<&str>,
     ) -> Result<(), AllocError> {
@@ -116,16 +116,21 @@ impl<'s, 'a> Words<'s, 'a> {
         Ok(())
     }
 
-    /// The panels to which keys lead from the first one, and those that are shown in their place, each once; none if there is no first.
-    fn reached(&self) -> Result<Vec<Part>, AllocError> {
+    /// The panels that keys lead to from the first one, and those that are shown instead of them in some sessions, each
+    /// once; none if there is no first panel.
+    fn reached(&self) -> Result<Vec<Location>, AllocError> {
         let survey = self.survey;
         let mut found = Vec::new(self.alloc);
-        self.reach(&mut found, Named::Panels, survey.text(Part::Top, "start"))?;
+        self.reach(
+            &mut found,
+            Named::Panels,
+            survey.text(Location::Top, "start"),
+        )?;
         for place in 0..survey.parts.len() {
-            let Some(Part::Panel(panel)) = found.get(place).copied() else {
+            let Some(Location::Panel(panel)) = found.get(place).copied() else {
                 break;
             };
-            let part = Part::Panel(panel);
+            let part = Location::Panel(panel);
             if !is_base(survey, part) {
                 self.reach(
                     &mut found,
@@ -133,7 +138,7 @@ impl<'s, 'a> Words<'s, 'a> {
                     survey.text(part, "otherwise"),
                 )?;
             }
-            if let Some(keys) = survey.table(Part::Keys(panel)) {
+            if let Some(keys) = survey.table(Location::Keys(panel)) {
                 for value in keys.values() {
                     self.reach(&mut found, Named::Panels, value.as_str())?;
                 }
@@ -142,7 +147,7 @@ impl<'s, 'a> Words<'s, 'a> {
         Ok(found)
     }
 
-    /// Warns of the panels that no keys lead to, unless an application may show them.
+    /// Warns of each panel that no keys lead to, unless an application may show it.
     pub(crate) fn unreached(&mut self) -> Result<(), AllocError> {
         let found = self.reached()?;
         for panel in &found {
@@ -152,7 +157,7 @@ impl<'s, 'a> Words<'s, 'a> {
         }
         for panel in &self.survey.parts {
             self.part = *panel;
-            if let Part::Panel(_) = self.part
+            if let Location::Panel(_) = self.part
                 && !found.is_empty()
                 && !found.contains(panel)
             {

@@ -1,4 +1,4 @@
-//! What a report tells of a text: findings for each of its faults, and warnings, in the order of the text's lines.
+//! The findings of a report: each fault of a text, and warnings, in the order of the text's lines.
 ghost use Rattle.std.specs.Prelude.{◌≡◌, ◌≤◌, false, [], ◌∷◌, None, Some, IfOk, OnOk, IsTrue, Contains, length};
 ghost use Rattle.toml.specs.Parse.{parse_document};
 ghost use Rattle.toml.specs.View.{table_view};
@@ -10,21 +10,21 @@ ghost use Rattle.panel_check.specs.declared.finding.Cause.TheVariants as cause;
 
 use crate::causes::causes_in;
 use crate::finding::{Cause, Finding};
-use crate::survey::Survey;
+use crate::survey::Index;
 use crate::words::{Remark, remarks_on};
 use lu_pool::PoolFault;
 use panels::TreeFault::*;
-use panels::{PanelFault, Part};
+use panels::{Location, PanelFault};
 use std::alloc::{AllocError, Global};
 use toml::Table;
 use toml::de::Error;
 
-/// What a report tells of a text.
+/// What a report says of a text.
 #[derive(Drop)]
 pub(crate) struct Told {
     pub findings: Vec<Finding>,
     /// Whether there were words for each fault that doesn't merely follow from another.
-    pub agrees: bool,
+    pub has_words: bool,
 }
 
 /// Whether a fault is among these.
@@ -45,8 +45,8 @@ fn is_same(one: &Cause, other: Cause) -> bool
     *one == other
 }
 
-/// Whether the keys of a table, or the types of their values, are wrong.
-fn has_wrong_keys(causes: &[Cause], part: Part) -> bool
+/// Whether a table has wrong keys, or values of wrong types.
+fn has_wrong_keys(causes: &[Cause], part: Location) -> bool
     ensures { IsTrue result → HasOneOf (Contains causes.now) (keys_at part) }
 {
     has(causes, Cause::Tree(UnknownKey, part))
@@ -54,43 +54,43 @@ fn has_wrong_keys(causes: &[Cause], part: Part) -> bool
         || has(causes, Cause::Tree(BadKind, part))
 }
 
-/// The panel that has an item.
-fn panel_part(part: Part) -> Part
+/// The panel of a text or a field; any other part itself.
+fn panel_part(part: Location) -> Location
     ensures { result ≡ panel_part part }
 {
     match part {
-        Part::Text(panel, _) | Part::Field(panel, _) => Part::Panel(panel),
-        Part::Top | Part::Panel(_) | Part::Keys(_) => part,
+        Location::Text(panel, _) | Location::Field(panel, _) => Location::Panel(panel),
+        Location::Top | Location::Panel(_) | Location::Keys(_) => part,
     }
 }
 
-/// Whether the screen of a panel isn't known.
-fn lacks_screen(causes: &[Cause], panel: Part) -> bool
+/// Whether the size of a panel's screen isn't known.
+fn lacks_screen(causes: &[Cause], panel: Location) -> bool
     ensures { IsTrue result → HasOneOf (Contains causes.now) (cause.Tree tree.BadModel panel ∷ keys_at panel) }
 {
     has(causes, Cause::Tree(BadModel, panel)) || has_wrong_keys(causes, panel)
 }
 
-/// Whether the place of an item may be absent, or its screen not known.
-fn lacks_place(causes: &[Cause], part: Part) -> bool
+/// Whether an item may lack its row, column or length, or the size of its screen isn't known.
+fn lacks_place(causes: &[Cause], part: Location) -> bool
     ensures { IsTrue result → HasOneOf (Contains causes.now) (sources_of (cause.Tree tree.OutOfPlace part)) }
 {
     has_wrong_keys(causes, part) || lacks_screen(causes, panel_part(part))
 }
 
-/// Whether a fault may merely follow from another.
+/// Whether a fault may merely follow from another one of these.
 fn may_follow(causes: &[Cause], cause: Cause) -> bool
     ensures { IsTrue result → HasOneOf (Contains causes.now) (sources_of cause) }
 {
     match cause {
         Cause::Tree(BadName | TwiceNamed | NoTarget, part) => has_wrong_keys(causes, part),
         Cause::Tree(OutOfPlace | Overlap, part) => lacks_place(causes, part),
-        Cause::Lus(PoolFault::BadCount) => has_wrong_keys(causes, Part::Top),
+        Cause::Lus(PoolFault::BadCount) => has_wrong_keys(causes, Location::Top),
         _ => false,
     }
 }
 
-/// A finding that says no more than the readers do.
+/// A finding with the message that the panel reader or the LU pool prints for the fault, at line 1.
 fn plain(alloc: Global, cause: Cause) -> Result<Finding, AllocError>
     ensures { IfOk result (λ finding. finding.cause ≡ cause) }
 {
@@ -110,8 +110,8 @@ fn plain(alloc: Global, cause: Cause) -> Result<Finding, AllocError>
     })
 }
 
-/// The finding for a remark.
-fn finding(survey: &Survey, cause: Cause, remark: &Remark) -> Result<Finding, AllocError>
+/// The finding for a remark on a cause.
+fn finding(survey: &Index, cause: Cause, remark: &Remark) -> Result<Finding, AllocError>
     ensures { IfOk result (λ finding. finding.cause ≡ cause) }
 {
     Ok(Finding {
@@ -125,7 +125,7 @@ fn finding(survey: &Survey, cause: Cause, remark: &Remark) -> Result<Finding, Al
 /// Adds a finding for each remark.
 fn add_all(
     findings: &mut Vec<Finding>,
-    survey: &Survey,
+    survey: &Index,
     cause: Cause,
     remarks: &[Remark],
 ) -> Result<(), AllocError>
@@ -138,7 +138,7 @@ fn add_all(
     Ok(())
 }
 
-/// Tells of a fault for which there are no words, unless it may merely follow from another. Answers whether it may.
+/// Adds a finding for a fault without a remark, unless it may merely follow from another; returns whether it may.
 fn tell_plainly(
     findings: &mut Vec<Finding>,
     alloc: Global,
@@ -154,10 +154,10 @@ fn tell_plainly(
     Ok(false)
 }
 
-/// Tells of a fault. Answers whether there were words for it if there had to be.
+/// Adds the findings for a fault. False if there was no remark on it although it can't merely follow from another.
 fn tell(
     findings: &mut Vec<Finding>,
-    survey: &Survey,
+    survey: &Index,
     causes: &[Cause],
     cause: Cause,
 ) -> Result<bool, AllocError>
@@ -171,21 +171,24 @@ fn tell(
     Ok(true)
 }
 
-/// Tells of each fault.
-fn tell_each(survey: &Survey, causes: &[Cause]) -> Result<Told, AllocError>
+/// Adds the findings for each of the faults.
+fn tell_each(survey: &Index, causes: &[Cause]) -> Result<Told, AllocError>
     ensures { IfOk result (λ told. TellsFaults (Contains causes.now) told.findings.items) }
 {
     let mut findings = Vec::new(survey.alloc);
-    let mut agrees = true;
+    let mut has_words = true;
     for cause in causes {
         let had_words = tell(&mut findings, survey, causes, *cause)?;
-        agrees &= had_words;
+        has_words &= had_words;
     }
-    Ok(Told { findings, agrees })
+    Ok(Told {
+        findings,
+        has_words,
+    })
 }
 
-/// Adds the warnings of a kind.
-fn warn_of(findings: &mut Vec<Finding>, survey: &Survey, cause: Cause) -> Result<(), AllocError>
+/// Adds the warnings with this cause.
+fn warn_of(findings: &mut Vec<Finding>, survey: &Index, cause: Cause) -> Result<(), AllocError>
     requires { is_fault cause ≡ false }
     ensures { OnOk result (TellsAsMuch findings.old.items findings.new.items) }
 {
@@ -194,8 +197,8 @@ fn warn_of(findings: &mut Vec<Finding>, survey: &Survey, cause: Cause) -> Result
     Ok(())
 }
 
-/// Adds the warnings.
-fn warn(findings: &mut Vec<Finding>, survey: &Survey) -> Result<(), AllocError>
+/// Adds all warnings.
+fn warn(findings: &mut Vec<Finding>, survey: &Index) -> Result<(), AllocError>
     ensures { OnOk result (TellsAsMuch findings.old.items findings.new.items) }
 {
     warn_of(findings, survey, Cause::TextWraps)?;
@@ -204,30 +207,34 @@ fn warn(findings: &mut Vec<Finding>, survey: &Survey) -> Result<(), AllocError>
     Ok(())
 }
 
-/// What a report tells of a text with this tree.
+/// The findings in a text whose TOML tree is `top`, in the order of its lines.
 fn tell_tree(alloc: Global, text: &str, top: &Table) -> Result<Told, AllocError>
     ensures { parse_document text.now ≡ Some (table_view top.now)
         → IfOk result (λ told. TellsFaults (IsFaultOf text.now) told.findings.items) }
 {
-    let survey = Survey::of(alloc, text, top)?;
+    let survey = Index::of(alloc, text, top)?;
     let causes = causes_in(alloc, top)?;
     let Told {
         mut findings,
-        agrees,
+        has_words,
     } = tell_each(&survey, &causes)?;
     warn(&mut findings, &survey)?;
     findings.sort_by_key(|finding| finding.line)?;
-    Ok(Told { findings, agrees })
+    Ok(Told {
+        findings,
+        has_words,
+    })
 }
 
-/// That a text isn't TOML.
+/// The finding for a text that isn't TOML, with the line of the error.
 fn no_toml(alloc: Global, text: &str, error: &Error) -> Result<Finding, AllocError>
     ensures { IfOk result (λ finding. finding.cause ≡ cause.NotToml) }
 {
-    let Some(span) = error.span() else {
-        return Err(AllocError);
+    let start = match error.span() {
+        Some(span) => span.start,
+        None => 0,
     };
-    let before = text.as_bytes().get(..span.start).unwrap_or(&[]);
+    let before = text.as_bytes().get(..start).unwrap_or(&[]);
     let ends = before.iter().filter(|byte| **byte == b'\n').count();
     Ok(Finding {
         cause: Cause::NotToml,
@@ -237,7 +244,7 @@ fn no_toml(alloc: Global, text: &str, error: &Error) -> Result<Finding, AllocErr
     })
 }
 
-/// One finding alone.
+/// A single finding.
 fn only(alloc: Global, finding: Finding) -> Result<Told, AllocError>
     ensures { IfOk result (λ told. told.findings.items ≡ finding ∷ []) }
 {
@@ -245,11 +252,11 @@ fn only(alloc: Global, finding: Finding) -> Result<Told, AllocError>
     findings.push(finding)?;
     Ok(Told {
         findings,
-        agrees: true,
+        has_words: true,
     })
 }
 
-/// What a report tells of a text that isn't TOML.
+/// The findings in a text that isn't TOML.
 fn tell_no_toml(alloc: Global, text: &str, error: &Error) -> Result<Told, AllocError>
     ensures { parse_document text.now ≡ None
         → IfOk result (λ told. TellsFaults (IsFaultOf text.now) told.findings.items) }
@@ -259,7 +266,7 @@ fn tell_no_toml(alloc: Global, text: &str, error: &Error) -> Result<Told, AllocE
     Ok(told)
 }
 
-/// What a report tells of a text, in the order of its lines.
+/// The findings in a text, in the order of its lines.
 pub(crate) fn tell_text(alloc: Global, text: &str) -> Result<Told, AllocError>
     ensures { IfOk result (λ told. TellsFaults (IsFaultOf text.now) told.findings.items) }
 {

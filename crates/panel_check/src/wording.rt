@@ -1,18 +1,18 @@
-//! Words of messages: names as they are printed, and the known name that was probably meant.
+//! How messages print names, and the known name that was probably meant.
 use std::alloc::{AllocError, Global};
 use strsim::osa_distance;
 
 /// The most characters of a text that a message prints.
 const MOST_PRINTED: usize = 40;
 
-/// The most known words that are compared with one that isn't.
+/// The most known words with which an unknown one is compared.
 const MOST_COMPARED: usize = 500;
 
 fn is_control(letter: char) -> bool {
     letter < ' ' || ('\u{7f}'..='\u{9f}').contains(&letter)
 }
 
-/// Adds a text on one line: without control characters, and cut if it is long.
+/// Adds a text on one line: each control character as `?`, and only the first 40 characters, with `..` after them.
 pub(crate) fn put_cut(message: &mut String, text: &str) -> Result<(), AllocError> {
     for (place, letter) in text.chars().enumerate() {
         if place == MOST_PRINTED {
@@ -23,7 +23,7 @@ pub(crate) fn put_cut(message: &mut String, text: &str) -> Result<(), AllocError
     Ok(())
 }
 
-/// A text on one line between quotes.
+/// A text between quotes, printed on one line as `put_cut` does.
 pub(crate) fn quote(alloc: Global, text: &str) -> Result<String, AllocError> {
     let mut quoted = String::new(alloc);
     quoted.push('\'')?;
@@ -32,22 +32,22 @@ pub(crate) fn quote(alloc: Global, text: &str) -> Result<String, AllocError> {
     Ok(quoted)
 }
 
-/// The known word that is most like a word, if one is near.
+/// A search for the known word that is most similar to a given one.
 #[derive(Drop)]
 pub struct Nearest<'a> {
     alloc: Global,
     word: &'a str,
     found: Option<&'a str>,
-    /// No word that is further away is near.
+    /// The most edits by which a similar word may differ.
     most: usize,
-    /// How many known words may still be compared.
+    /// How many more known words may be compared.
     left: usize,
 }
 
 impl<'a> Nearest<'a> {
-    /// A search for the known word that is most like this one. None is compared yet.
+    /// A search for the known word that is most similar to `word`; `offer` gives it the known words.
     pub fn to(alloc: Global, word: &'a str) -> Nearest<'a> {
-        // One edit in three letters; a long word is none of ours.
+        // One edit in three letters. A word of more than 40 bytes is similar to none.
         let most = if word.len() <= MOST_PRINTED {
             word.len() / 3 + 1
         } else {
@@ -62,7 +62,8 @@ impl<'a> Nearest<'a> {
         }
     }
 
-    /// Compares a known word.
+    /// Compares a known word with the given one. Only the first 500 that have at most 40 bytes are compared. Err only
+    /// if memory is refused.
     pub fn offer(&mut self, known: &'a str) -> Result<(), AllocError> {
         if self.most == 0 || self.left == 0 || MOST_PRINTED < known.len() {
             return Ok(());
@@ -76,12 +77,12 @@ impl<'a> Nearest<'a> {
         Ok(())
     }
 
-    /// The known word that is most like the word, of those that were compared, if one is near.
+    /// The most similar of the words that were offered, if one is similar enough.
     pub fn found(&self) -> Option<&'a str> {
         self.found
     }
 
-    /// A message, and behind it ` (did you mean 'KNOWN'?)` if a word is near.
+    /// The message, followed by ` (did you mean 'KNOWN'?)` if there is a similar word.
     pub(crate) fn behind(&self, mut message: String) -> Result<String, AllocError> {
         if let Some(known) = self.found {
             message.push_str(" (did you mean '")?;

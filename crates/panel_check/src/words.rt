@@ -1,37 +1,37 @@
-//! What a report says of each fault, and by each warning. It finds nothing to say of a fault that merely follows from another: the
-//! key is absent of which it is, or the panel's model.
+//! The messages of a report for each fault and each warning. There is no message for a fault that merely follows from
+//! another: its key, or the panel's model, is absent.
 use crate::finding::Cause;
-use crate::survey::Survey;
+use crate::survey::Index;
 use crate::wording::{Nearest, quote};
 use codes3270::from_latin1;
 use lu_pool::PoolFault;
 use panels::TreeFault::*;
 use panels::rules::{KeyKind, KeyRule, field_rules, knows_key, panel_rules, text_rules, top_rules};
-use panels::{Part, TreeFault};
+use panels::{Location, TreeFault};
 use std::alloc::{AllocError, Global};
 use tn3270e_msg::Lu;
 use toml::Table;
 
-/// What a line of a report says, and of which part.
+/// A message of a report, with the part and the line that it is on.
 #[derive(Drop)]
 pub(crate) struct Remark {
-    pub part: Part,
+    pub part: Location,
     pub line: usize,
     pub message: String,
 }
 
-/// What is said so far, and the part of which more is said.
+/// The remarks so far, and the part that further ones are on.
 #[derive(Drop)]
 pub(crate) struct Words<'s, 'a> {
-    pub survey: &'s Survey<'a>,
+    pub survey: &'s Index<'a>,
     pub alloc: Global,
-    pub part: Part,
+    pub part: Location,
     said: Vec<Remark>,
 }
 
 type Done = Result<(), AllocError>;
 
-/// The names of the keys of a terminal.
+/// The names of a terminal's keys in a panel text.
 static KEY_NAMES: [&str; 29] = [
     "enter", "clear", "pa1", "pa2", "pa3", "pf1", "pf2", "pf3", "pf4", "pf5", "pf6", "pf7", "pf8",
     "pf9", "pf10", "pf11", "pf12", "pf13", "pf14", "pf15", "pf16", "pf17", "pf18", "pf19", "pf20",
@@ -50,12 +50,12 @@ fn kind_name(kind: KeyKind) -> &'static str {
     }
 }
 
-/// What a report says of a fault of a part, or by a warning.
-pub(crate) fn remarks_on(survey: &Survey, cause: Cause) -> Result<Vec<Remark>, AllocError> {
+/// The remarks on a fault, or those of a warning.
+pub(crate) fn remarks_on(survey: &Index, cause: Cause) -> Result<Vec<Remark>, AllocError> {
     let mut words = Words {
         survey,
         alloc: survey.alloc,
-        part: Part::Top,
+        part: Location::Top,
         said: Vec::new(survey.alloc),
     };
     match cause {
@@ -75,7 +75,7 @@ pub(crate) fn remarks_on(survey: &Survey, cause: Cause) -> Result<Vec<Remark>, A
 }
 
 impl<'s, 'a> Words<'s, 'a> {
-    /// Says something of the part, at the line of one of its keys; at its own if it has no such key.
+    /// Adds a remark on the part, at the line of one of its keys; at the part's own line if it has no such key.
     pub(crate) fn say(&mut self, key: &str, message: String) -> Done {
         let (part, line) = (self.part, self.survey.line(self.part, key)?);
         self.said.push(Remark {
@@ -97,15 +97,15 @@ impl<'s, 'a> Words<'s, 'a> {
                 Some(table) => self.keys(table),
                 None => Ok(()),
             },
-            (TooMany, Part::Top) => self.excess("panel", 64),
+            (TooMany, Location::Top) => self.excess("panel", 64),
             (TooMany, _) => {
                 self.excess("text", 256)?;
                 self.excess("field", 128)
             }
-            (BadName, Part::Panel(_)) => self.bad_name("A-Z and 0-9"),
+            (BadName, Location::Panel(_)) => self.bad_name("A-Z and 0-9"),
             (BadName, _) => self.bad_name("a-z, 0-9 and _"),
             (BadKey, _) => self.bad_keys(),
-            (TwiceNamed, Part::Keys(panel)) => self.asked_twice(panel),
+            (TwiceNamed, Location::Keys(panel)) => self.asked_twice(panel),
             (TwiceNamed, _) => self.named_twice(),
             (BadModel, _) => self.bad_model(),
             (OutOfPlace, _) => self.misplaced(),
@@ -118,14 +118,14 @@ impl<'s, 'a> Words<'s, 'a> {
         }
     }
 
-    /// Says all that is wrong with the keys of a table and their values.
+    /// Says which keys of a table are wrong or absent, and which of its values have wrong types.
     fn keys(&mut self, table: &Table) -> Done {
         match self.part {
-            Part::Top => self.by_rules(table, top_rules()),
-            Part::Panel(_) => self.by_rules(table, panel_rules(table)),
-            Part::Text(_, _) => self.by_rules(table, text_rules(table)),
-            Part::Field(_, _) => self.by_rules(table, field_rules()),
-            Part::Keys(_) => self.key_values(table),
+            Location::Top => self.by_rules(table, top_rules()),
+            Location::Panel(_) => self.by_rules(table, panel_rules(table)),
+            Location::Text(_, _) => self.by_rules(table, text_rules(table)),
+            Location::Field(_, _) => self.by_rules(table, field_rules()),
+            Location::Keys(_) => self.key_values(table),
         }
     }
 
@@ -147,10 +147,10 @@ impl<'s, 'a> Words<'s, 'a> {
     fn unknown(&mut self, key: &str, rules: &[KeyRule]) -> Done {
         let name = quote(self.alloc, key)?;
         let message = match (self.part, key) {
-            (Part::Text(_, _), "show" | "length") => {
+            (Location::Text(_, _), "show" | "length") => {
                 format!(in self.alloc; "key {name} can't be used with 'text'")?
             }
-            (Part::Panel(_), "otherwise") => {
+            (Location::Panel(_), "otherwise") => {
                 format!(in self.alloc; "key {name} can be used only with 'model' 3, 4 or 5")?
             }
             _ => {
@@ -164,16 +164,16 @@ impl<'s, 'a> Words<'s, 'a> {
         self.say(key, message)
     }
 
-    /// Says that a needed key is absent, or has no table in an array that must have some.
+    /// Says that a key is absent that must be there, or that its array of tables is empty.
     fn missing(&mut self, table: &Table, key: &str) -> Done {
         let message = match (self.part, key) {
             _ if table.contains_key(key) => format!(in self.alloc; "array '{key}' is empty")?,
-            (Part::Text(_, _), "show") => {
+            (Location::Text(_, _), "show") => {
                 format!(in self.alloc; "missing key 'text', or 'show' with 'length'")?
             }
-            // Said with `show`.
-            (Part::Text(_, _), "length") if !table.contains_key("show") => return Ok(()),
-            (Part::Panel(_), "otherwise") => format!(in self.alloc;
+            // The remark on `show` says this, too.
+            (Location::Text(_, _), "length") if !table.contains_key("show") => return Ok(()),
+            (Location::Panel(_), "otherwise") => format!(in self.alloc;
                 "missing key 'otherwise': the panel of model 2 for terminals of other models"
             )?,
             _ => format!(in self.alloc; "missing key '{key}'")?,
@@ -181,7 +181,7 @@ impl<'s, 'a> Words<'s, 'a> {
         self.say(key, message)
     }
 
-    /// Says that the value of a key is of another type than its rule says, if it is.
+    /// Says that the value of a key has another type than the rule says, if it has.
     fn misfit(&mut self, table: &Table, rule: &KeyRule) -> Done {
         let (key, wanted) = (rule.key(), kind_name(rule.kind()));
         let Some(value) = table.get(key) else {
@@ -198,7 +198,7 @@ impl<'s, 'a> Words<'s, 'a> {
         self.say(key, message)
     }
 
-    /// Says which values in a panel's table of keys are no texts.
+    /// Says which values in a panel's table of keys aren't strings.
     fn key_values(&mut self, keys: &Table) -> Done {
         for (key, value) in keys {
             if !value.is_str() {
@@ -212,7 +212,7 @@ impl<'s, 'a> Words<'s, 'a> {
         Ok(())
     }
 
-    /// Says that an array has more tables than it may have, if it has.
+    /// Says that an array has more than `most` tables, if it has.
     fn excess(&mut self, key: &str, most: usize) -> Done {
         let count = self.survey.count(self.part, key)?;
         if count <= most {
@@ -237,11 +237,11 @@ impl<'s, 'a> Words<'s, 'a> {
         let Some(name) = self.text("name") else {
             return Ok(());
         };
-        let is_panel = matches!(self.part, Part::Panel(_));
+        let is_panel = matches!(self.part, Location::Panel(_));
         for part in &self.survey.parts {
             if self.survey.name(*part) == name
-                && matches!(*part, Part::Panel(_)) == is_panel
-                && !matches!(*part, Part::Text(_, _))
+                && matches!(*part, Location::Panel(_)) == is_panel
+                && !matches!(*part, Location::Text(_, _))
             {
                 let line = self.survey.line(*part, "name")?;
                 let name = quote(self.alloc, name)?;
@@ -252,17 +252,17 @@ impl<'s, 'a> Words<'s, 'a> {
         Ok(())
     }
 
-    /// Says which names in a panel's `keys` and `asks` are of no key that may be there.
+    /// Says which names in a panel's `keys` and `asks` aren't those of keys that may be there.
     fn bad_keys(&mut self) -> Done {
         if let Some(keys) = self.survey.table(self.part) {
             for key in keys.keys() {
                 self.no_key(key.as_str(), key.as_str())?;
             }
         }
-        let Part::Keys(panel) = self.part else {
+        let Location::Keys(panel) = self.part else {
             return Ok(());
         };
-        self.part = Part::Panel(panel);
+        self.part = Location::Panel(panel);
         for name in self.survey.texts(self.part, "asks")? {
             if name == "clear" {
                 let words = "'clear' leaves no fields to ask about";
@@ -273,7 +273,7 @@ impl<'s, 'a> Words<'s, 'a> {
         Ok(())
     }
 
-    /// Says, at a key of a table, that a name is of no key of a terminal, if it is of none.
+    /// Says, at the line of a key of the table, that a name isn't that of a terminal's key, if it isn't.
     fn no_key(&mut self, key: &str, name: &str) -> Done {
         if KEY_NAMES.iter().any(|known| *known == name) {
             return Ok(());
@@ -287,10 +287,10 @@ impl<'s, 'a> Words<'s, 'a> {
         self.say(key, message)
     }
 
-    /// Says which keys a panel asks about twice, or has in `keys`, too.
+    /// Says which keys a panel's `asks` have twice, or have although its `keys` have them.
     fn asked_twice(&mut self, panel: usize) -> Done {
         let mut seen = Vec::new(self.alloc);
-        self.part = Part::Panel(panel);
+        self.part = Location::Panel(panel);
         for name in self.survey.texts(self.part, "asks")? {
             let quoted = quote(self.alloc, name)?;
             if seen.contains(&name) {
@@ -298,7 +298,7 @@ impl<'s, 'a> Words<'s, 'a> {
                 self.say("asks", message)?;
             }
             seen.push(name)?;
-            if self.survey.text(Part::Keys(panel), name).is_some() {
+            if self.survey.text(Location::Keys(panel), name).is_some() {
                 let message = format!(in self.alloc;
                     "key {quoted} leads to a panel in 'keys', too"
                 )?;
@@ -316,7 +316,7 @@ impl<'s, 'a> Words<'s, 'a> {
         self.say("model", message)
     }
 
-    /// Says which character of a text is the first that has no code, if one has none.
+    /// Says which character of a text is the first without a code in code page 037, if one has none.
     fn no_code(&mut self, key: &str) -> Done {
         let text = self.text(key).unwrap_or("");
         let Some(character) = text.chars().find(|letter| from_latin1(*letter).is_none()) else {
@@ -331,20 +331,23 @@ impl<'s, 'a> Words<'s, 'a> {
         self.say(key, message)
     }
 
-    /// Says how many LUs there are, if there is a list of them.
+    /// Says how many LUs there are, if `lus` is an array.
     fn lu_count(&mut self) -> Done {
-        let lus = self.survey.table(Part::Top).and_then(|top| top.get("lus"));
+        let lus = self
+            .survey
+            .table(Location::Top)
+            .and_then(|top| top.get("lus"));
         if !lus.is_some_and(|value| value.is_array()) {
             return Ok(());
         }
-        let count = self.survey.texts(Part::Top, "lus")?.len();
+        let count = self.survey.texts(Location::Top, "lus")?.len();
         let message = format!(in self.alloc; "{count} LUs: there must be 1 to 64")?;
         self.say("lus", message)
     }
 
-    /// Says what is wrong with the name of an LU: it is of none, or of one that is listed before.
+    /// Says what is wrong with an LU's name: it is no LU's name, or an earlier one is that of the same LU.
     fn lu(&mut self, place: usize) -> Done {
-        let lus = self.survey.texts(Part::Top, "lus")?;
+        let lus = self.survey.texts(Location::Top, "lus")?;
         let Some(name) = lus.get(place).copied() else {
             return Ok(());
         };
@@ -356,7 +359,7 @@ impl<'s, 'a> Words<'s, 'a> {
         let message = match (lu, first) {
             (Some(_), Some(first)) => {
                 let key = format!(in self.alloc; "lus'{first}")?;
-                let line = self.survey.line(Part::Top, key.as_str())?;
+                let line = self.survey.line(Location::Top, key.as_str())?;
                 format!(in self.alloc; "LU {quoted} is already listed in line {line}")?
             }
             _ => format!(in self.alloc;

@@ -8,8 +8,8 @@ use Rattle.panels.specs.declared.extent.Extent.{Extent}
 use Rattle.panels.specs.declared.fault.TreeFault.TheVariants as fault
 use Rattle.panels.specs.declared.panel.Field.{Field as FieldItem}
 use Rattle.panels.specs.declared.panel.TextItem.{TextItem}
-use Rattle.panels.specs.declared.fault.Part.{Part}
-use Rattle.panels.specs.declared.fault.Part.TheVariants.{Text, Field}
+use Rattle.panels.specs.declared.fault.Location.{Location}
+use Rattle.panels.specs.declared.fault.Location.TheVariants.{Text, Field}
 use Rattle.panels.specs.Draft.{DraftItem, DraftPanel, DraftText, draft_shape}
 use Rattle.panels.specs.Items.{HasCell, IsExtentOf, is_on_screen}
 use Rattle.panels.specs.Faults.{IsItemBefore, Overlaps, item_at, shape_at}
@@ -28,7 +28,7 @@ cell_of_item shape item extent cell is has =
     (subst (λ l. (pos extent.first ≤ℤ (pos cell +ℤ pos 1)) × ((pos cell +ℤ pos 1) ≤ℤ (pos extent.first +ℤ l))) is.1 (sides extent.first extent.length cell has.0 has.1))
 
 -- a shared cell would be a fault of the later item
-items_of : (draft : DraftText) (shape : Shape) (item other : DraftItem) (part earlier : Part) (one later : Extent) → IsFaultless draft → shape_at part draft.panels ≡ shape
+items_of : (draft : DraftText) (shape : Shape) (item other : DraftItem) (part earlier : Location) (one later : Extent) → IsFaultless draft → shape_at part draft.panels ≡ shape
     → shape_at earlier draft.panels ≡ shape → item_at part draft.panels ≡ Some item → item_at earlier draft.panels ≡ Some other → IsItemBefore earlier part
     → IsExtentOf shape other one → IsExtentOf shape item later → ShareNoCell one later
 items_of draft shape item other part earlier one later clean at other_at there other_there before one_is later_is = λ cell has later_has.

@@ -15,8 +15,8 @@ use Rattle.panels.specs.declared.panel.Content.{Content}
 use Rattle.panels.specs.declared.panel.Content.TheVariants.{Literal, Show}
 use Rattle.panels.specs.declared.panel.Field.{Field as FieldItem}
 use Rattle.panels.specs.declared.panel.TextItem.{TextItem}
-use Rattle.panels.specs.declared.fault.Part.{Part}
-use Rattle.panels.specs.declared.fault.Part.TheVariants.{Panel, Field}
+use Rattle.panels.specs.declared.fault.Location.{Location}
+use Rattle.panels.specs.declared.fault.Location.TheVariants.{Panel, Field}
 use Rattle.panels.specs.Characters.{codes_of}
 use Rattle.panels.specs.Defines.{Defines, DefinesOnce, IsContentOf, IsCursorBy, IsEachOf, IsFieldNamed, IsFieldOf, IsOtherwiseBy, IsPanelNamed, IsPanelOf, IsTargetBy, IsTextOf, fields_before, text_at_key}
 use Rattle.panels.specs.Draft.{DraftItem, DraftPanel, DraftText, draft_of, draft_shape, otherwise_of}
@@ -47,7 +47,7 @@ one_each IsOf drafts xs ys are also one =
 
 -- ---- names
 
-twice : (draft : DraftText) (name : List ℕ) (earlier later : Part) → IsFaultless draft → IsNamedBefore earlier later → name_at earlier draft.panels ≡ Some name
+twice : (draft : DraftText) (name : List ℕ) (earlier later : Location) → IsFaultless draft → IsNamedBefore earlier later → name_at earlier draft.panels ≡ Some name
     → name_at later draft.panels ≡ Some name → ⊥
 twice draft name earlier later clean before is also = no_fault draft later fault.TwiceNamed clean (named_is_part later draft.panels name also)
     (twice_named later draft.panels (earlier, name, before, is, also))

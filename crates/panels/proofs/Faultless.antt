@@ -6,8 +6,8 @@ use Rattle.std.proofs.lemmas.Bool.{cases_Bool}
 use Rattle.std.proofs.lemmas.Option.{slice_get-get_or, slice_get_within}
 use Rattle.panels.specs.declared.fault.TreeFault.{TreeFault}
 use Rattle.panels.specs.declared.fault.TreeFault.TheVariants as fault
-use Rattle.panels.specs.declared.fault.Part.{Part}
-use Rattle.panels.specs.declared.fault.Part.TheVariants.{Top, Panel, Text, Field, Keys}
+use Rattle.panels.specs.declared.fault.Location.{Location}
+use Rattle.panels.specs.declared.fault.Location.TheVariants.{Top, Panel, Text, Field, Keys}
 use Rattle.codes3270.specs.Size.{model_2}
 use Rattle.panels.specs.Draft.{DraftItem, DraftPanel, DraftText, draft_shape}
 use Rattle.panels.specs.Items.{is_on_screen, is_in_place}
@@ -15,11 +15,11 @@ use Rattle.panels.specs.Faults.{item_at, shape_at, is_part, name_at, HasFault}
 use Rattle.panels.specs.Passes.{IsFaultless}
 use Rattle.panels.specs.Defines.{IsEachOf}
 
-pub no_fault : (draft : DraftText) (part : Part) (f : TreeFault) → IsFaultless draft → IsTrue (is_part part draft.panels) → HasFault f part draft → ⊥
+pub no_fault : (draft : DraftText) (part : Location) (f : TreeFault) → IsFaultless draft → IsTrue (is_part part draft.panels) → HasFault f part draft → ⊥
 no_fault draft part f clean there has = clean f part (there, has)
 
 -- what has an item, or a name, is a part
-pub item_is_part : (part : Part) (panels : List DraftPanel) (item : DraftItem) → item_at part panels ≡ Some item → IsTrue (is_part part panels)
+pub item_is_part : (part : Location) (panels : List DraftPanel) (item : DraftItem) → item_at part panels ≡ Some item → IsTrue (is_part part panels)
 item_is_part Top panels item there = refl
 item_is_part (Panel p) panels item there = cc
 item_is_part (Text p i) panels item there = ap is_some there
@@ -30,7 +30,7 @@ mapped : {X Y : Type 0} (f : X → Y) (o : Option X) (y : Y) → option_map f o 
 mapped f None y is = cc
 mapped f (Some x) y is = refl
 
-pub named_is_part : (part : Part) (panels : List DraftPanel) (name : List ℕ) → name_at part panels ≡ Some name → IsTrue (is_part part panels)
+pub named_is_part : (part : Location) (panels : List DraftPanel) (name : List ℕ) → name_at part panels ≡ Some name → IsTrue (is_part part panels)
 named_is_part Top panels name is = refl
 named_is_part (Panel p) panels name is = mapped (λ panel. panel.name) (slice_get panels p) name is
 named_is_part (Text p i) panels name is = cc
@@ -41,7 +41,7 @@ misplaced : (b c : Bool) → b ≡ false → not (b && c) ≡ true
 misplaced b c is = rw is refl
 
 -- an item lies on the screen of its panel
-pub on_screen : (draft : DraftText) (part : Part) (item : DraftItem) → IsFaultless draft → item_at part draft.panels ≡ Some item
+pub on_screen : (draft : DraftText) (part : Location) (item : DraftItem) → IsFaultless draft → item_at part draft.panels ≡ Some item
     → is_on_screen (shape_at part draft.panels) item ≡ true
 on_screen draft part item clean there =
     let shape = shape_at part draft.panels in

@@ -6,8 +6,8 @@ use Rattle.std.specs.Map.{update}
 use Rattle.std.proofs.lemmas.Bool.{cases_Bool, false≢true}
 use Rattle.std.proofs.lemmas.Option.{same_Some, slice_get_within}
 use Rattle.std.proofs.lemmas.Slice.Eq.{bytes_eq-Decides}
-use Rattle.panels.specs.declared.fault.Part.{Part}
-use Rattle.panels.specs.declared.fault.Part.TheVariants.{Top, Panel, Text, Field, Keys}
+use Rattle.panels.specs.declared.fault.Location.{Location}
+use Rattle.panels.specs.declared.fault.Location.TheVariants.{Top, Panel, Text, Field, Keys}
 use Rattle.panels.specs.Draft.{DraftItem, DraftPanel}
 use Rattle.panels.specs.Faults.{IsNamedBefore, name_at}
 use Rattle.panels.specs.Index.{NameIndex, part_named, noted, HasFirstOf, IsIndexTo}
@@ -25,7 +25,7 @@ or_some None p is = absurd (false≢true is)
 or_some (Some x) p is = refl
 
 -- a name that is there is noted already
-pub noted_present : (old : List ℕ → Option Part) (name : List ℕ) (part : Part) (other : List ℕ) → IsSome (old name) → old other ≡ noted old name part other
+pub noted_present : (old : List ℕ → Option Location) (name : List ℕ) (part : Location) (other : List ℕ) → IsSome (old name) → old other ≡ noted old name part other
 noted_present old name part other is =
     elim (cases_Bool (bytes_eq name other)) [
       | inl yes' ↦
@@ -35,7 +35,7 @@ noted_present old name part other is =
     ]
 
 -- the map with the name set is the index with it noted
-pub noted_absent : (old new : List ℕ → Option Part) (name : List ℕ) (part : Part) (other : List ℕ) → ((cs : List ℕ) → new cs ≡ update bytes_eq old name (Some part) cs)
+pub noted_absent : (old new : List ℕ → Option Location) (name : List ℕ) (part : Location) (other : List ℕ) → ((cs : List ℕ) → new cs ≡ update bytes_eq old name (Some part) cs)
     → old name ≡ None → new other ≡ noted old name part other
 noted_absent old new name part other set none =
     elim (cases_Bool (bytes_eq name other)) [
@@ -47,13 +47,13 @@ noted_absent old new name part other set none =
     ]
 
 -- the next part is the only one that comes between
-abbrev pub Follows : Part → Part → Type 0
-Follows now next = ((part : Part) → IsNamedBefore part next → IsNamedBefore part now ⊎ (part ≡ now)) × ((part : Part) → IsNamedBefore part now → IsNamedBefore part next) × IsNamedBefore now next
+abbrev pub Follows : Location → Location → Type 0
+Follows now next = ((part : Location) → IsNamedBefore part next → IsNamedBefore part now ⊎ (part ≡ now)) × ((part : Location) → IsNamedBefore part now → IsNamedBefore part next) × IsNamedBefore now next
 
-same_first : (old new : NameIndex) (name : List ℕ) (part : Part) → part_named new name ≡ part_named old name → HasFirstOf old name part → HasFirstOf new name part
+same_first : (old new : NameIndex) (name : List ℕ) (part : Location) → part_named new name ≡ part_named old name → HasFirstOf old name part → HasFirstOf new name part
 same_first old new name part same (first, is, where') = (first, same ∙ is, where')
 
-named_of : (o : Option Part) (b : Bool) (now part : Part) → option_or o (cond b (Some now) None) ≡ Some part → (o ≡ Some part) ⊎ ((b ≡ true) × (now ≡ part))
+named_of : (o : Option Location) (b : Bool) (now part : Location) → option_or o (cond b (Some now) None) ≡ Some part → (o ≡ Some part) ⊎ ((b ≡ true) × (now ≡ part))
 named_of (Some x) b now part is = inl is
 named_of None true now part is = inr (refl, same_Some _ _ is)
 named_of None false now part is = cc
@@ -61,15 +61,15 @@ named_of None false now part is = cc
 bytes_eq_itself : (name : List ℕ) → bytes_eq name name ≡ true
 bytes_eq_itself name = (bytes_eq-Decides name name).1 refl
 
-first_here : (o : Option Part) (now : Part) → ((x : Part) → o ≡ Some x → IsNamedBefore x now) → (first : Part) × (option_or o (Some now) ≡ Some first) × ((first ≡ now) ⊎ IsNamedBefore first now)
+first_here : (o : Option Location) (now : Location) → ((x : Location) → o ≡ Some x → IsNamedBefore x now) → (first : Location) × (option_or o (Some now) ≡ Some first) × ((first ≡ now) ⊎ IsNamedBefore first now)
 first_here None now before = (now, refl, inl refl)
 first_here (Some x) now before = (x, refl, inr (before x refl))
 
-or_kept : (o : Option Part) (p : Option Part) (x : Part) → o ≡ Some x → option_or o p ≡ Some x
+or_kept : (o : Option Location) (p : Option Location) (x : Location) → o ≡ Some x → option_or o p ≡ Some x
 or_kept None p x is = cc
 or_kept (Some y) p x is = is
 
-step_named : (panels : List DraftPanel) (now next : Part) (old new : NameIndex) (n : List ℕ) → Follows now next → name_at now panels ≡ Some n
+step_named : (panels : List DraftPanel) (now next : Location) (old new : NameIndex) (n : List ℕ) → Follows now next → name_at now panels ≡ Some n
     → ((other : List ℕ) → part_named new other ≡ noted (part_named old) n now other) → IsIndexTo panels now old → IsIndexTo panels next new
 step_named panels now next old new n follows name_is after index = record {
   named = λ name part is.
@@ -97,14 +97,14 @@ step_named panels now next old new n follows name_is after index = record {
 pub below_or_at : (i n : ℕ) → i < n + 1 → (i < n) ⊎ (i ≡ n)
 below_or_at i n below = grind arith
 
-panel_split : (p : ℕ) (part : Part) → IsNamedBefore part (Panel (p + 1)) → IsNamedBefore part (Panel p) ⊎ (part ≡ Panel p)
+panel_split : (p : ℕ) (part : Location) → IsNamedBefore part (Panel (p + 1)) → IsNamedBefore part (Panel p) ⊎ (part ≡ Panel p)
 panel_split p Top before = absurd before
 panel_split p (Panel q) before = elim (below_or_at q p before) [ inl less ↦ inl less | inr same ↦ inr (ap Panel same) ]
 panel_split p (Text q i) before = absurd before
 panel_split p (Field q i) before = absurd before
 panel_split p (Keys q) before = absurd before
 
-panel_grows : (p : ℕ) (part : Part) → IsNamedBefore part (Panel p) → IsNamedBefore part (Panel (p + 1))
+panel_grows : (p : ℕ) (part : Location) → IsNamedBefore part (Panel p) → IsNamedBefore part (Panel (p + 1))
 panel_grows p Top before = absurd before
 panel_grows p (Panel q) before = omega arith
 panel_grows p (Text q i) before = absurd before
@@ -117,7 +117,7 @@ panel_step panels p old new draft there after index =
     let last : p < p + 1 = omega arith in
     step_named panels (Panel p) (Panel (p + 1)) old new draft.name (panel_split p, panel_grows p, last) (ap (option_map (λ (panel : DraftPanel). panel.name)) there) after index
 
-field_split : (p i : ℕ) (part : Part) → IsNamedBefore part (Field p (i + 1)) → IsNamedBefore part (Field p i) ⊎ (part ≡ Field p i)
+field_split : (p i : ℕ) (part : Location) → IsNamedBefore part (Field p (i + 1)) → IsNamedBefore part (Field p i) ⊎ (part ≡ Field p i)
 field_split p i Top before = absurd before
 field_split p i (Panel q) before = absurd before
 field_split p i (Text q j) before = absurd before
@@ -131,7 +131,7 @@ field_split p i (Field q j) before =
       ]
     ]
 
-field_grows : (p i : ℕ) (part : Part) → IsNamedBefore part (Field p i) → IsNamedBefore part (Field p (i + 1))
+field_grows : (p i : ℕ) (part : Location) → IsNamedBefore part (Field p i) → IsNamedBefore part (Field p (i + 1))
 field_grows p i Top before = absurd before
 field_grows p i (Panel q) before = absurd before
 field_grows p i (Text q j) before = absurd before
@@ -157,7 +157,7 @@ field_step panels p i old new draft item there inside after index =
 abbrev NoFieldFrom : List DraftPanel → ℕ → ℕ → Type 0
 NoFieldFrom panels p n = (j : ℕ) (name : List ℕ) → name_at (Field p j) panels ≡ Some name → j < n
 
-over_split : (panels : List DraftPanel) (p n : ℕ) (name : List ℕ) (part : Part) → NoFieldFrom panels p n → name_at part panels ≡ Some name → IsNamedBefore part (Field (p + 1) 0) → IsNamedBefore part (Field p n)
+over_split : (panels : List DraftPanel) (p n : ℕ) (name : List ℕ) (part : Location) → NoFieldFrom panels p n → name_at part panels ≡ Some name → IsNamedBefore part (Field (p + 1) 0) → IsNamedBefore part (Field p n)
 over_split panels p n name Top all has before = absurd before
 over_split panels p n name (Panel q) all has before = absurd before
 over_split panels p n name (Text q j) all has before = absurd before
@@ -171,7 +171,7 @@ over_split panels p n name (Field q j) all has before =
       | inr at_p ↦ absurd (let none : j < 0 = at_p.1 in omega arith)
     ]
 
-over_grows : (p n : ℕ) (part : Part) → IsNamedBefore part (Field p n) → IsNamedBefore part (Field (p + 1) 0)
+over_grows : (p n : ℕ) (part : Location) → IsNamedBefore part (Field p n) → IsNamedBefore part (Field (p + 1) 0)
 over_grows p n Top before = absurd before
 over_grows p n (Panel q) before = absurd before
 over_grows p n (Text q j) before = absurd before
@@ -208,14 +208,14 @@ pub panel_over : (panels : List DraftPanel) (draft : DraftPanel) (p : ℕ) (inde
     → IsIndexTo panels (Field p (length draft.fields)) index → IsIndexTo panels (Field (p + 1) 0) index
 panel_over panels draft p index there is = fields_over panels p _ index (λ j name has. field_below (slice_get panels p) draft j name there has) is
 
-nothing_before_panel : (part : Part) → IsNamedBefore part (Panel 0) → ⊥
+nothing_before_panel : (part : Location) → IsNamedBefore part (Panel 0) → ⊥
 nothing_before_panel Top before = before
 nothing_before_panel (Panel q) before = omega arith
 nothing_before_panel (Text q i) before = before
 nothing_before_panel (Field q i) before = before
 nothing_before_panel (Keys q) before = before
 
-nothing_before_field : (part : Part) → IsNamedBefore part (Field 0 0) → ⊥
+nothing_before_field : (part : Location) → IsNamedBefore part (Field 0 0) → ⊥
 nothing_before_field Top before = before
 nothing_before_field (Panel q) before = before
 nothing_before_field (Text q i) before = before

@@ -9,7 +9,7 @@ use Rattle.std.proofs.lemmas.List.{length-map}
 use Rattle.std.proofs.lemmas.Option.{slice_get-map, slice_get_within, get_or_from_slice_get, slice_get-get_or}
 use Rattle.codes3270.specs.Size.{Shape}
 use Rattle.panels.specs.declared.panel.Field.{Field as FieldItem}
-use Rattle.panels.specs.declared.fault.Part.TheVariants.{Text, Field}
+use Rattle.panels.specs.declared.fault.Location.TheVariants.{Text, Field}
 use Rattle.panels.specs.Keys.{key_names}
 use Rattle.panels.specs.Limits.{most_panels, most_fields}
 use Rattle.panels.specs.Draft.{DraftItem, DraftPanel, DraftText, draft_shape, otherwise_of}

@@ -8,15 +8,15 @@ use Rattle.std.proofs.lemmas.List.{drop_more, take_rest}
 use Rattle.std.proofs.lemmas.Option.{none-some, same_Some, slice_get_within}
 use Rattle.panels.specs.declared.fault.TreeFault.{TreeFault}
 use Rattle.panels.specs.declared.fault.TreeFault.TheVariants.{BadName, NoTarget}
-use Rattle.panels.specs.declared.fault.Part.{Part}
-use Rattle.panels.specs.declared.fault.Part.TheVariants.{Top, Panel, Text, Field, Keys}
+use Rattle.panels.specs.declared.fault.Location.{Location}
+use Rattle.panels.specs.declared.fault.Location.TheVariants.{Top, Panel, Text, Field, Keys}
 use Rattle.panels.specs.Draft.{DraftItem, DraftPanel, DraftText}
 use Rattle.panels.specs.Faults.{HasFault, HasLostCursor, HasLostOtherwise, asks_twice, has_bad_name, IsNamedBefore, IsNamedTwice, IsTwiceNamed, NamesPanel, NamesField, name_at}
 use Rattle.panels.specs.Index.{NameIndex, part_named, IsLater, IsIndexTo}
 use Rattle.panels.specs.Items.{is_name}
 use Rattle.panels.specs.Walk.{is_letter_of}
 
-pub before_itself : (part : Part) → IsNamedBefore part part → ⊥
+pub before_itself : (part : Location) → IsNamedBefore part part → ⊥
 before_itself Top before = before
 before_itself (Panel p) before = omega arith
 before_itself (Text p i) before = before
@@ -36,7 +36,7 @@ fields_through p i q j r k first second =
       ]
     ]
 
-pub before_through : (a b c : Part) → IsNamedBefore a b → IsNamedBefore b c → IsNamedBefore a c
+pub before_through : (a b c : Location) → IsNamedBefore a b → IsNamedBefore b c → IsNamedBefore a c
 before_through Top b c first second = absurd first
 before_through (Text p i) b c first second = absurd first
 before_through (Keys p) b c first second = absurd first
@@ -59,17 +59,17 @@ before_through (Field p i) (Field q j) (Text r k) first second = absurd second
 before_through (Field p i) (Field q j) (Keys r) first second = absurd second
 before_through (Field p i) (Field q j) (Field r k) first second = fields_through p i q j r k first second
 
-not_itself : (first part : Part) → IsNamedBefore first part → first ≢ part
+not_itself : (first part : Location) → IsNamedBefore first part → first ≢ part
 not_itself first part before same = before_itself part (subst (λ p. IsNamedBefore p part) same before)
 
-or_before : (a b c : Part) → (a ≡ b) ⊎ IsNamedBefore a b → IsNamedBefore b c → IsNamedBefore a c
+or_before : (a b c : Location) → (a ≡ b) ⊎ IsNamedBefore a b → IsNamedBefore b c → IsNamedBefore a c
 or_before a b c rel second =
     elim rel [
       | inl same ↦ subst (λ p. IsNamedBefore p c) (sym same) second
       | inr before ↦ before_through a b c before second
     ]
 
-twice_later : (panels : List DraftPanel) (part end : Part) (index : NameIndex) (o : Option (List ℕ)) → name_at part panels ≡ o → IsIndexTo panels end index
+twice_later : (panels : List DraftPanel) (part end : Location) (index : NameIndex) (o : Option (List ℕ)) → name_at part panels ≡ o → IsIndexTo panels end index
     → ((name : List ℕ) → name_at part panels ≡ Some name → IsNamedBefore part end) → IsLater index o part → IsNamedTwice part panels
 twice_later panels part end index None own is ends later = absurd later
 twice_later panels part end index (Some name) own is ends (first, found, differs) =
@@ -80,7 +80,7 @@ twice_later panels part end index (Some name) own is ends (first, found, differs
       | inr before ↦ (first, name, subst (λ p. IsNamedBefore p part) same before, (is.named name first found).0, own)
     ]
 
-later_twice : (panels : List DraftPanel) (part end : Part) (index : NameIndex) → IsIndexTo panels end index
+later_twice : (panels : List DraftPanel) (part end : Location) (index : NameIndex) → IsIndexTo panels end index
     → ((name : List ℕ) → name_at part panels ≡ Some name → IsNamedBefore part end) → IsNamedTwice part panels → IsLater index (name_at part panels) part
 later_twice panels part end index is ends (earlier, name, before, has, own) =
     let known = is.first name earlier has (before_through earlier part end before (ends name own)) in
@@ -105,27 +105,27 @@ field_ends panels p i name has =
     let (panel, there) = panel_of_field (slice_get panels p) i name has in
     inl (slice_get_within panels p panel there)
 
-is_twice : (panels : List DraftPanel) (part end : Part) (index : NameIndex) → IsIndexTo panels end index → ((name : List ℕ) → name_at part panels ≡ Some name → IsNamedBefore part end)
+is_twice : (panels : List DraftPanel) (part end : Location) (index : NameIndex) → IsIndexTo panels end index → ((name : List ℕ) → name_at part panels ≡ Some name → IsNamedBefore part end)
     → (IsLater index (name_at part panels) part → IsNamedTwice part panels) × (IsNamedTwice part panels → IsLater index (name_at part panels) part)
 is_twice panels part end index is ends = (twice_later panels part end index _ refl is ends, later_twice panels part end index is ends)
 
 -- a part that has a name is named twice so
-pub twice_named : (part : Part) (panels : List DraftPanel) → IsNamedTwice part panels → IsTwiceNamed part panels
+pub twice_named : (part : Location) (panels : List DraftPanel) → IsNamedTwice part panels → IsTwiceNamed part panels
 twice_named Top panels is = is
 twice_named (Panel p) panels is = is
 twice_named (Text p i) panels is = is
 twice_named (Field p i) panels is = is
 twice_named (Keys p) panels (earlier, name, before, has, own) = absurd (none-some name own)
 
-abbrev pub IsTwiceBy : List DraftPanel → NameIndex → Part → Type 0
+abbrev pub IsTwiceBy : List DraftPanel → NameIndex → Location → Type 0
 IsTwiceBy panels index part =
     (IsLater index (name_at part panels) part → IsTwiceNamed part panels) × (IsTwiceNamed part panels → IsLater index (name_at part panels) part)
 
-pub panel_is_twice : (panels : List DraftPanel) (part : Part) (p : ℕ) (index : NameIndex) → part ≡ Panel p → IsIndexTo panels (Panel (length panels)) index → IsTwiceBy panels index part
+pub panel_is_twice : (panels : List DraftPanel) (part : Location) (p : ℕ) (index : NameIndex) → part ≡ Panel p → IsIndexTo panels (Panel (length panels)) index → IsTwiceBy panels index part
 panel_is_twice panels part p index same is =
     subst (IsTwiceBy panels index) (sym same) (is_twice panels (Panel p) (Panel (length panels)) index is (λ name has. panel_ends panels p name has))
 
-pub field_is_twice : (panels : List DraftPanel) (part : Part) (p i : ℕ) (index : NameIndex) → part ≡ Field p i → IsIndexTo panels (Field (length panels) 0) index → IsTwiceBy panels index part
+pub field_is_twice : (panels : List DraftPanel) (part : Location) (p i : ℕ) (index : NameIndex) → part ≡ Field p i → IsIndexTo panels (Field (length panels) 0) index → IsTwiceBy panels index part
 field_is_twice panels part p i index same is =
     subst (IsTwiceBy panels index) (sym same) (is_twice panels (Field p i) (Field (length panels) 0) index is (λ name has. field_ends panels p i name has))
 
@@ -141,15 +141,15 @@ no_field panels index name is none (p, i, has) =
     absurd (none-some known.0 (sym none ∙ known.1))
 
 -- one that it has is of that part, and this is a panel, or a field
-pub panel_found : (panels : List DraftPanel) (index : NameIndex) (name : List ℕ) (part : Part) (p : ℕ) → IsIndexTo panels (Panel (length panels)) index → part_named index name ≡ Some part
+pub panel_found : (panels : List DraftPanel) (index : NameIndex) (name : List ℕ) (part : Location) (p : ℕ) → IsIndexTo panels (Panel (length panels)) index → part_named index name ≡ Some part
     → part ≡ Panel p → name_at (Panel p) panels ≡ Some name
 panel_found panels index name part p is found same = subst (λ q. name_at q panels ≡ Some name) same (is.named name part found).0
 
-pub field_found : (panels : List DraftPanel) (index : NameIndex) (name : List ℕ) (part : Part) (p i : ℕ) → IsIndexTo panels (Field (length panels) 0) index → part_named index name ≡ Some part
+pub field_found : (panels : List DraftPanel) (index : NameIndex) (name : List ℕ) (part : Location) (p i : ℕ) → IsIndexTo panels (Field (length panels) 0) index → part_named index name ≡ Some part
     → part ≡ Field p i → name_at (Field p i) panels ≡ Some name
 field_found panels index name part p i is found same = subst (λ q. name_at q panels ≡ Some name) same (is.named name part found).0
 
-pub finds_panel : (panels : List DraftPanel) (index : NameIndex) (name : List ℕ) (part : Part) → IsIndexTo panels (Panel (length panels)) index → part_named index name ≡ Some part
+pub finds_panel : (panels : List DraftPanel) (index : NameIndex) (name : List ℕ) (part : Location) → IsIndexTo panels (Panel (length panels)) index → part_named index name ≡ Some part
     → ((p : ℕ) → part ≡ Panel p → ⊥) → ⊥
 finds_panel panels index name Top is found other = (is.named name Top found).1
 finds_panel panels index name (Panel p) is found other = other p refl
@@ -157,7 +157,7 @@ finds_panel panels index name (Text p i) is found other = (is.named name (Text p
 finds_panel panels index name (Field p i) is found other = (is.named name (Field p i) found).1
 finds_panel panels index name (Keys p) is found other = (is.named name (Keys p) found).1
 
-pub finds_field : (panels : List DraftPanel) (index : NameIndex) (name : List ℕ) (part : Part) → IsIndexTo panels (Field (length panels) 0) index → part_named index name ≡ Some part
+pub finds_field : (panels : List DraftPanel) (index : NameIndex) (name : List ℕ) (part : Location) → IsIndexTo panels (Field (length panels) 0) index → part_named index name ≡ Some part
     → ((p i : ℕ) → part ≡ Field p i → ⊥) → ⊥
 finds_field panels index name Top is found other = (is.named name Top found).1
 finds_field panels index name (Panel p) is found other = (is.named name (Panel p) found).1
@@ -191,7 +191,7 @@ lost_cursor true cursor name Has is tells = (
 lost_cursor false cursor name Has is tells = (λ lost. (name, is, λ has. false≢true (tells.1 has)), λ found. refl)
 
 -- a panel with a cursor that is there lacks a target if what is shown in its place isn't
-pub lost_otherwise : (draft : DraftText) (fault : TreeFault) (part : Part) (p : ℕ) (panel : DraftPanel) (r : Bool) → fault ≡ NoTarget → part ≡ Panel p
+pub lost_otherwise : (draft : DraftText) (fault : TreeFault) (part : Location) (p : ℕ) (panel : DraftPanel) (r : Bool) → fault ≡ NoTarget → part ≡ Panel p
     → slice_get draft.panels p ≡ Some panel → ¬ HasLostCursor panel → (IsTrue r → HasLostOtherwise panel draft.panels) × (HasLostOtherwise panel draft.panels → IsTrue r)
     → (IsTrue r → HasFault fault part draft) × (HasFault fault part draft → IsTrue r)
 lost_otherwise draft fault part p panel r of_fault of_part there kept tells =
@@ -207,14 +207,14 @@ lost_otherwise draft fault part p panel r of_fault of_part there kept tells =
     ))
 
 -- what the code tells of the name of any part is what is said of panels and fields
-bad_names : (part : Part) (panels : List DraftPanel) → option_map_or (λ name. not (is_name (is_letter_of part) name)) (name_at part panels) false ≡ has_bad_name part panels
+bad_names : (part : Location) (panels : List DraftPanel) → option_map_or (λ name. not (is_name (is_letter_of part) name)) (name_at part panels) false ≡ has_bad_name part panels
 bad_names Top panels = refl
 bad_names (Panel p) panels = refl
 bad_names (Text p i) panels = refl
 bad_names (Field p i) panels = refl
 bad_names (Keys p) panels = refl
 
-pub bad_name : (draft : DraftText) (fault : TreeFault) (part : Part) (r : Bool) → fault ≡ BadName
+pub bad_name : (draft : DraftText) (fault : TreeFault) (part : Location) (r : Bool) → fault ≡ BadName
     → r ≡ option_map_or (λ name. not (is_name (is_letter_of part) name)) (name_at part draft.panels) false
     → (IsTrue r → HasFault fault part draft) × (HasFault fault part draft → IsTrue r)
 bad_name draft fault part r of_fault tells =

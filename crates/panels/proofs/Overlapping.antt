@@ -7,8 +7,8 @@ use Rattle.std.proofs.lemmas.Bool.Decides.{nat_tests}
 use Rattle.std.proofs.lemmas.Option.{same_Some, slice_get_within}
 use Rattle.codes3270.specs.Size.{Shape}
 use Rattle.panels.specs.declared.extent.Extent.{Extent}
-use Rattle.panels.specs.declared.fault.Part.{Part}
-use Rattle.panels.specs.declared.fault.Part.TheVariants.{Top, Panel, Text, Field, Keys}
+use Rattle.panels.specs.declared.fault.Location.{Location}
+use Rattle.panels.specs.declared.fault.Location.TheVariants.{Top, Panel, Text, Field, Keys}
 use Rattle.panels.specs.Draft.{DraftItem, DraftPanel}
 use Rattle.panels.specs.Items.{IsExtentOf, is_on_screen, HasCell}
 use Rattle.panels.specs.Faults.{IsOverlapping, Overlaps, item_at, shape_at}
@@ -76,13 +76,13 @@ pub one_more : (Is : ℕ → Type 0) (n : ℕ) → ((j : ℕ) → j < n → Is j
 one_more Is n all here j below = elim (below_or_at j n below) [ inl less ↦ all j less | inr same ↦ subst Is (sym same) here ]
 
 -- an item of an array that shares a cell, on a screen
-abbrev pub MeetsOne : Shape → List DraftPanel → DraftItem → Part → ℕ → Type 0
+abbrev pub MeetsOne : Shape → List DraftPanel → DraftItem → Location → ℕ → Type 0
 MeetsOne shape panels item array count = (j : ℕ) × (other : DraftItem) × (j < count) × (item_at (nth array j) panels ≡ Some other) × Overlaps shape item other
 
 abbrev pub Tells : Bool → Type 0 → Type 0
 Tells r P = (r ≡ true → P) × (P → r ≡ true)
 
-same_item : (panels : List DraftPanel) (part : Part) (item other : DraftItem) → item_at part panels ≡ Some item → item_at part panels ≡ Some other → item ≡ other
+same_item : (panels : List DraftPanel) (part : Location) (item other : DraftItem) → item_at part panels ≡ Some item → item_at part panels ≡ Some other → item ≡ other
 same_item panels part item other is also = same_Some item other (sym is ∙ also)
 
 text_overlaps : (panels : List DraftPanel) (p i : ℕ) (item : DraftItem) → item_at (Text p i) panels ≡ Some item → MeetsOne (shape_at (Text p i) panels) panels item (Text p i) i → IsOverlapping (Text p i) panels
@@ -137,19 +137,19 @@ field_tells panels p i n item r all is none tells = (
 )
 
 -- the same of a part that is known to be a text, or a field, and of its panel's screen
-pub text_part_tells : (panels : List DraftPanel) (part : Part) (shape : Shape) (p i : ℕ) (item : DraftItem) (r : Bool) → part ≡ Text p i → shape ≡ shape_at part panels
+pub text_part_tells : (panels : List DraftPanel) (part : Location) (shape : Shape) (p i : ℕ) (item : DraftItem) (r : Bool) → part ≡ Text p i → shape ≡ shape_at part panels
     → Some item ≡ item_at part panels → Tells r (MeetsOne shape panels item (Text p i) i) → Tells r (IsOverlapping part panels)
 text_part_tells panels part shape p i item r same at is tells =
     subst (λ q. shape ≡ shape_at q panels → Some item ≡ item_at q panels → Tells r (IsOverlapping q panels)) (sym same)
     (λ at is. text_tells panels p i item r (sym is) (subst (λ s. Tells r (MeetsOne s panels item (Text p i) i)) at tells)) at is
 
-pub field_part_meets : (panels : List DraftPanel) (part : Part) (shape : Shape) (p i n : ℕ) (item : DraftItem) → part ≡ Field p i → shape ≡ shape_at part panels
+pub field_part_meets : (panels : List DraftPanel) (part : Location) (shape : Shape) (p i n : ℕ) (item : DraftItem) → part ≡ Field p i → shape ≡ shape_at part panels
     → Some item ≡ item_at part panels → MeetsOne shape panels item (Text p 0) n → IsOverlapping part panels
 field_part_meets panels part shape p i n item same at is one =
     subst (λ q. shape ≡ shape_at q panels → Some item ≡ item_at q panels → IsOverlapping q panels) (sym same)
     (λ at is. field_meets_text panels p i n item (sym is) (subst (λ s. MeetsOne s panels item (Text p 0) n) at one)) at is
 
-pub field_part_tells : (panels : List DraftPanel) (part : Part) (shape : Shape) (p i n : ℕ) (item : DraftItem) (r : Bool) → part ≡ Field p i → shape ≡ shape_at part panels
+pub field_part_tells : (panels : List DraftPanel) (part : Location) (shape : Shape) (p i n : ℕ) (item : DraftItem) (r : Bool) → part ≡ Field p i → shape ≡ shape_at part panels
     → n ≡ texts_at p panels → Some item ≡ item_at part panels → ¬ MeetsOne shape panels item (Text p 0) n → Tells r (MeetsOne shape panels item (Field p i) i)
     → Tells r (IsOverlapping part panels)
 field_part_tells panels part shape p i n item r same at all is none tells =

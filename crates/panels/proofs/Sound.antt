@@ -6,7 +6,7 @@ use Rattle.std.proofs.lemmas.Bool.{false≢true, false_from_ne_true}
 use Rattle.std.proofs.lemmas.Bool.Decides.{nat_tests}
 use Rattle.std.proofs.lemmas.Option.{same_Some}
 use Rattle.panels.specs.declared.fault.TreeFault.TheVariants as fault
-use Rattle.panels.specs.declared.fault.Part.TheVariants.{Top, Panel, Text, Keys}
+use Rattle.panels.specs.declared.fault.Location.TheVariants.{Top, Panel, Text, Keys}
 use Rattle.panels.specs.Limits.{most_panels, most_fields}
 use Rattle.panels.specs.Size.{is_model_number}
 use Rattle.panels.specs.Draft.{DraftItem, DraftPanel, DraftText, otherwise_of}

@@ -9,8 +9,8 @@ use Rattle.std.proofs.lemmas.List.Quantifiers.{all_pairs_push}
 use Rattle.std.proofs.lemmas.Option.{none-some, same_Some, slice_get-get_or, slice_get_cases}
 use Rattle.panels.specs.declared.fault.TreeFault.{TreeFault}
 use Rattle.panels.specs.declared.fault.TreeFault.TheVariants.{UnknownKey, Missing, BadKind, BadName, TwiceNamed, OutOfPlace, Overlap, NoCode, NoTarget, BadKey, TooMany, BadModel}
-use Rattle.panels.specs.declared.fault.Part.{Part}
-use Rattle.panels.specs.declared.fault.Part.TheVariants.{Top, Panel, Text, Field, Keys}
+use Rattle.panels.specs.declared.fault.Location.{Location}
+use Rattle.panels.specs.declared.fault.Location.TheVariants.{Top, Panel, Text, Field, Keys}
 use Rattle.panels.specs.declared.fault.At.{At}
 use Rattle.panels.specs.Draft.{DraftPanel, DraftText}
 use Rattle.panels.specs.Faults.{HasFault, IsFaulty, place_of, faults_of, is_part, item_at}
@@ -18,7 +18,7 @@ use Rattle.panels.specs.Passes.{IsFirst, IsFaultless}
 use Rattle.panels.specs.Turns.{pass_of, panel_turn, kind_turn, item_turn, fault_turn, turn_of, IsSooner, IsFirstFault}
 use Rattle.panels.specs.Listing.{AreFaultsOf, IsBefore}
 use Rattle.panels.specs.Walk.{turn_at, turn_in, turn_behind, AreFoundTo, IsAdded}
-use Rattle.panels.specs.declared.fault.PartFault.{PartFault}
+use Rattle.panels.specs.declared.fault.LocatedFault.{LocatedFault}
 use Rattle.panels.proofs.Faultless.{there_in}
 
 -- ---- turns, as numbers
@@ -133,21 +133,21 @@ next_pass a b c d e a' n soon =
     ]
 
 -- the part that has a turn
-abbrev part_from : ℕ → ℕ → ℕ → Part
+abbrev part_from : ℕ → ℕ → ℕ → Location
 part_from zero kind item = Top
 part_from (suc p) zero item = Panel p
 part_from (suc p) (suc zero) item = Text p item
 part_from (suc p) (suc (suc zero)) item = Field p item
 part_from (suc p) (suc (suc (suc kind))) item = Keys p
 
-has_turn : (part : Part) → part_from (panel_turn part) (kind_turn part) (item_turn part) ≡ part
+has_turn : (part : Location) → part_from (panel_turn part) (kind_turn part) (item_turn part) ≡ part
 has_turn Top = refl
 has_turn (Panel p) = refl
 has_turn (Text p i) = refl
 has_turn (Field p i) = refl
 has_turn (Keys p) = refl
 
-same_part : (part other : Part) → panel_turn part ≡ panel_turn other → kind_turn part ≡ kind_turn other → item_turn part ≡ item_turn other → part ≡ other
+same_part : (part other : Location) → panel_turn part ≡ panel_turn other → kind_turn part ≡ kind_turn other → item_turn part ≡ item_turn other → part ≡ other
 same_part part other panel kind item =
     sym (has_turn part) ∙ (ap (λ n. part_from n (kind_turn part) (item_turn part)) panel ∙ (ap (λ n. part_from (panel_turn other) n (item_turn part)) kind ∙ (ap (λ n. part_from (panel_turn other) (kind_turn other) n) item ∙ has_turn other)))
 
@@ -194,15 +194,15 @@ turn_few Overlap = omega arith
 turn_few NoTarget = omega arith
 
 -- the turns of a pass in a table are before the one behind it
-in_part : (pass : ℕ) (fault : TreeFault) (part other : Part) → pass_of fault ≡ pass → part ≡ other → IsSooner (turn_of fault part) (turn_behind pass other)
+in_part : (pass : ℕ) (fault : TreeFault) (part other : Location) → pass_of fault ≡ pass → part ≡ other → IsSooner (turn_of fault part) (turn_behind pass other)
 in_part pass fault part other at_pass same =
     let few : fault_turn fault < length (faults_of pass) = subst (λ n. fault_turn fault < length (faults_of n)) at_pass (turn_few fault) in
     subst (λ q. IsSooner (turn_of fault part) (turn_behind pass q)) same (inr (at_pass, inr (refl, inr (refl, inr (refl, inl few)))))
 
 -- ---- what is found
 
-advance : (turn next : List ℕ) (draft : DraftText) (found : List PartFault) → IsSooner turn next
-    → ((fault : TreeFault) (part : Part) → IsSooner (turn_of fault part) next → IsFaulty fault part draft → IsSooner (turn_of fault part) turn)
+advance : (turn next : List ℕ) (draft : DraftText) (found : List LocatedFault) → IsSooner turn next
+    → ((fault : TreeFault) (part : Location) → IsSooner (turn_of fault part) next → IsFaulty fault part draft → IsSooner (turn_of fault part) turn)
     → AreFoundTo turn draft found → AreFoundTo next draft found
 advance turn next draft found before all s = record {
   stand = s.stand;
@@ -213,10 +213,10 @@ advance turn next draft found before all s = record {
   in_order = s.in_order;
 }
 
-behind : (pass : ℕ) (part other : Part) (fault : TreeFault) → IsSooner (turn_of fault other) (turn_at pass part) → IsSooner (turn_of fault other) (turn_behind pass part)
+behind : (pass : ℕ) (part other : Location) (fault : TreeFault) → IsSooner (turn_of fault other) (turn_at pass part) → IsSooner (turn_of fault other) (turn_behind pass part)
 behind pass part other fault soon = behind_start (turn_of fault other) pass (panel_turn part) (kind_turn part) (item_turn part) (length (faults_of pass)) soon
 
-text_found_suc : (pass p i : ℕ) (draft : DraftText) (found : List PartFault) → AreFoundTo (turn_behind pass (Text p i)) draft found → AreFoundTo (turn_at pass (Text p (suc i))) draft found
+text_found_suc : (pass p i : ℕ) (draft : DraftText) (found : List LocatedFault) → AreFoundTo (turn_behind pass (Text p i)) draft found → AreFoundTo (turn_at pass (Text p (suc i))) draft found
 text_found_suc pass p i draft found =
     let less : i < suc i = omega arith in
     advance (turn_behind pass (Text p i)) (turn_at pass (Text p (suc i))) draft found (inr (refl, inr (refl, inr (refl, inl less))))
@@ -226,10 +226,10 @@ text_found_suc pass p i draft found =
       | inr (at_pass, at_panel, at_kind, at_item) ↦ in_part pass fault part (Text p i) at_pass (same_part part (Text p i) at_panel at_kind at_item)
     ])
 
-pub text_found : (pass p i : ℕ) (draft : DraftText) (found : List PartFault) → AreFoundTo (turn_behind pass (Text p i)) draft found → AreFoundTo (turn_at pass (Text p (i + 1))) draft found
+pub text_found : (pass p i : ℕ) (draft : DraftText) (found : List LocatedFault) → AreFoundTo (turn_behind pass (Text p i)) draft found → AreFoundTo (turn_at pass (Text p (i + 1))) draft found
 text_found pass p i draft found s = subst (λ n. AreFoundTo (turn_at pass (Text p n)) draft found) (sym (add-one i)) (text_found_suc pass p i draft found s)
 
-field_found_suc : (pass p i : ℕ) (draft : DraftText) (found : List PartFault) → AreFoundTo (turn_behind pass (Field p i)) draft found → AreFoundTo (turn_at pass (Field p (suc i))) draft found
+field_found_suc : (pass p i : ℕ) (draft : DraftText) (found : List LocatedFault) → AreFoundTo (turn_behind pass (Field p i)) draft found → AreFoundTo (turn_at pass (Field p (suc i))) draft found
 field_found_suc pass p i draft found =
     let less : i < suc i = omega arith in
     advance (turn_behind pass (Field p i)) (turn_at pass (Field p (suc i))) draft found (inr (refl, inr (refl, inr (refl, inl less))))
@@ -239,18 +239,18 @@ field_found_suc pass p i draft found =
       | inr (at_pass, at_panel, at_kind, at_item) ↦ in_part pass fault part (Field p i) at_pass (same_part part (Field p i) at_panel at_kind at_item)
     ])
 
-pub field_found : (pass p i : ℕ) (draft : DraftText) (found : List PartFault) → AreFoundTo (turn_behind pass (Field p i)) draft found → AreFoundTo (turn_at pass (Field p (i + 1))) draft found
+pub field_found : (pass p i : ℕ) (draft : DraftText) (found : List LocatedFault) → AreFoundTo (turn_behind pass (Field p i)) draft found → AreFoundTo (turn_at pass (Field p (i + 1))) draft found
 field_found pass p i draft found s = subst (λ n. AreFoundTo (turn_at pass (Field p n)) draft found) (sym (add-one i)) (field_found_suc pass p i draft found s)
 
 -- the part whose turn it is
-from_turns : (part : Part) (panel kind : ℕ) → panel_turn part ≡ panel → kind_turn part ≡ kind → part ≡ part_from panel kind (item_turn part)
+from_turns : (part : Location) (panel kind : ℕ) → panel_turn part ≡ panel → kind_turn part ≡ kind → part ≡ part_from panel kind (item_turn part)
 from_turns part panel kind at_panel at_kind =
     sym (has_turn part) ∙ (ap (λ n. part_from n (kind_turn part) (item_turn part)) at_panel ∙ ap (λ n. part_from panel n (item_turn part)) at_kind)
 
-is_top : (part : Part) → panel_turn part ≡ 0 → part ≡ Top
+is_top : (part : Location) → panel_turn part ≡ 0 → part ≡ Top
 is_top part at_panel = from_turns part 0 (kind_turn part) at_panel refl
 
-is_keys : (part : Part) (p : ℕ) → panel_turn part ≡ suc p → 3 ≤ kind_turn part → part ≡ Keys p
+is_keys : (part : Location) (p : ℕ) → panel_turn part ≡ suc p → 3 ≤ kind_turn part → part ≡ Keys p
 is_keys Top p at_panel past = absurd (omega arith)
 is_keys (Panel q) p at_panel past = absurd (omega arith)
 is_keys (Text q i) p at_panel past = absurd (omega arith)
@@ -259,7 +259,7 @@ is_keys (Keys q) p at_panel past =
     let same : q ≡ p = omega arith in
     ap Keys same
 
-pub top_found : (pass : ℕ) (draft : DraftText) (found : List PartFault) → AreFoundTo (turn_behind pass Top) draft found → AreFoundTo (turn_at pass (Panel 0)) draft found
+pub top_found : (pass : ℕ) (draft : DraftText) (found : List LocatedFault) → AreFoundTo (turn_behind pass Top) draft found → AreFoundTo (turn_at pass (Panel 0)) draft found
 top_found pass draft found =
     let less : 0 < 1 = omega arith in
     advance (turn_behind pass Top) (turn_at pass (Panel 0)) draft found (inr (refl, inl less))
@@ -269,7 +269,7 @@ top_found pass draft found =
       | inr (at_pass, at_panel, past) ↦ in_part pass fault part Top at_pass (is_top part at_panel)
     ])
 
-pub panel_found : (pass p : ℕ) (draft : DraftText) (found : List PartFault) → AreFoundTo (turn_behind pass (Panel p)) draft found → AreFoundTo (turn_at pass (Text p 0)) draft found
+pub panel_found : (pass p : ℕ) (draft : DraftText) (found : List LocatedFault) → AreFoundTo (turn_behind pass (Panel p)) draft found → AreFoundTo (turn_at pass (Text p 0)) draft found
 panel_found pass p draft found =
     let less : 0 < 1 = omega arith in
     advance (turn_behind pass (Panel p)) (turn_at pass (Text p 0)) draft found (inr (refl, inr (refl, inl less)))
@@ -280,7 +280,7 @@ panel_found pass p draft found =
     ])
 
 -- no part of a kind is in the text from a number on
-abbrev EndsAt : (ℕ → Part) → ℕ → DraftText → Type 0
+abbrev EndsAt : (ℕ → Location) → ℕ → DraftText → Type 0
 EndsAt part n draft = (i : ℕ) → n ≤ i → ¬ IsTrue (is_part (part i) draft.panels)
 
 below_end : {X : Type 0} (xs : List X) (i : ℕ) → IsSome (slice_get xs i) → i < length xs
@@ -294,7 +294,7 @@ some_part : {X Y : Type 0} (f : X → Option Y) (o : Option X) → IsSome (optio
 some_part f None is = absurd (false≢true is)
 some_part f (Some x) is = refl
 
-pub texts_found : (pass p n : ℕ) (draft : DraftText) (found : List PartFault) → EndsAt (Text p) n draft → AreFoundTo (turn_at pass (Text p n)) draft found → AreFoundTo (turn_at pass (Field p 0)) draft found
+pub texts_found : (pass p n : ℕ) (draft : DraftText) (found : List LocatedFault) → EndsAt (Text p) n draft → AreFoundTo (turn_at pass (Text p n)) draft found → AreFoundTo (turn_at pass (Field p 0)) draft found
 texts_found pass p n draft found ends =
     let less : 1 < 2 = omega arith in
     advance (turn_at pass (Text p n)) (turn_at pass (Field p 0)) draft found (inr (refl, inr (refl, inl less)))
@@ -315,7 +315,7 @@ no_field_from draft panel p n there all i past stands =
     let below = below_end panel.fields i (subst (λ o. IsSome (option_and_then (λ panel. slice_get panel.fields i) o)) there stands) in
     omega arith
 
-pub fields_found : (pass p n : ℕ) (draft : DraftText) (found : List PartFault) → EndsAt (Field p) n draft → AreFoundTo (turn_at pass (Field p n)) draft found → AreFoundTo (turn_at pass (Keys p)) draft found
+pub fields_found : (pass p n : ℕ) (draft : DraftText) (found : List LocatedFault) → EndsAt (Field p) n draft → AreFoundTo (turn_at pass (Field p n)) draft found → AreFoundTo (turn_at pass (Keys p)) draft found
 fields_found pass p n draft found ends =
     let less : 2 < 3 = omega arith in
     advance (turn_at pass (Field p n)) (turn_at pass (Keys p)) draft found (inr (refl, inr (refl, inl less)))
@@ -326,7 +326,7 @@ fields_found pass p n draft found ends =
           absurd (ends (item_turn part) past (subst (λ q. IsTrue (is_part q draft.panels)) (from_turns part (suc p) 2 at_panel at_kind) faulty.0))
     ])
 
-keys_found_suc : (pass p : ℕ) (draft : DraftText) (found : List PartFault) → AreFoundTo (turn_behind pass (Keys p)) draft found → AreFoundTo (turn_at pass (Panel (suc p))) draft found
+keys_found_suc : (pass p : ℕ) (draft : DraftText) (found : List LocatedFault) → AreFoundTo (turn_behind pass (Keys p)) draft found → AreFoundTo (turn_at pass (Panel (suc p))) draft found
 keys_found_suc pass p draft found =
     let less : suc p < suc (suc p) = omega arith in
     advance (turn_behind pass (Keys p)) (turn_at pass (Panel (suc p))) draft found (inr (refl, inl less))
@@ -336,11 +336,11 @@ keys_found_suc pass p draft found =
       | inr (at_pass, at_panel, past) ↦ in_part pass fault part (Keys p) at_pass (is_keys part p at_panel past)
     ])
 
-pub keys_found : (pass p : ℕ) (draft : DraftText) (found : List PartFault) → AreFoundTo (turn_behind pass (Keys p)) draft found → AreFoundTo (turn_at pass (Panel (p + 1))) draft found
+pub keys_found : (pass p : ℕ) (draft : DraftText) (found : List LocatedFault) → AreFoundTo (turn_behind pass (Keys p)) draft found → AreFoundTo (turn_at pass (Panel (p + 1))) draft found
 keys_found pass p draft found s = subst (λ n. AreFoundTo (turn_at pass (Panel n)) draft found) (sym (add-one p)) (keys_found_suc pass p draft found s)
 
 -- a part is the top, or of a panel that there is
-panel_of_part : (part : Part) (panels : List DraftPanel) → IsTrue (is_part part panels) → panel_turn part ≤ length panels
+panel_of_part : (part : Location) (panels : List DraftPanel) → IsTrue (is_part part panels) → panel_turn part ≤ length panels
 panel_of_part Top panels there = omega arith
 panel_of_part (Panel p) panels there =
     let below = below_end panels p there in
@@ -355,7 +355,7 @@ panel_of_part (Keys p) panels there =
     let below = below_end panels p there in
     omega arith
 
-panels_found_suc : (pass n : ℕ) (draft : DraftText) (found : List PartFault) → n ≡ length draft.panels → AreFoundTo (turn_at pass (Panel n)) draft found → AreFoundTo (turn_at (suc pass) Top) draft found
+panels_found_suc : (pass n : ℕ) (draft : DraftText) (found : List LocatedFault) → n ≡ length draft.panels → AreFoundTo (turn_at pass (Panel n)) draft found → AreFoundTo (turn_at (suc pass) Top) draft found
 panels_found_suc pass n draft found all =
     let less : pass < suc pass = omega arith in
     advance (turn_at pass (Panel n)) (turn_at (suc pass) Top) draft found (inl less)
@@ -367,7 +367,7 @@ panels_found_suc pass n draft found all =
           absurd (omega arith)
     ])
 
-pub panels_found : (pass n : ℕ) (draft : DraftText) (found : List PartFault) → n ≡ length draft.panels → AreFoundTo (turn_at pass (Panel n)) draft found → AreFoundTo (turn_at (pass + 1) Top) draft found
+pub panels_found : (pass n : ℕ) (draft : DraftText) (found : List LocatedFault) → n ≡ length draft.panels → AreFoundTo (turn_at pass (Panel n)) draft found → AreFoundTo (turn_at (pass + 1) Top) draft found
 panels_found pass n draft found all s = subst (λ m. AreFoundTo (turn_at m Top) draft found) (sym (add-one pass)) (panels_found_suc pass n draft found all s)
 
 -- there are six passes
@@ -399,7 +399,7 @@ pass_below NoCode = omega arith
 pass_below Overlap = omega arith
 pass_below NoTarget = omega arith
 
-first_clear : (fault : TreeFault) (part : Part) → IsSooner (turn_of fault part) (turn_at 1 Top) → ⊥
+first_clear : (fault : TreeFault) (part : Location) → IsSooner (turn_of fault part) (turn_at 1 Top) → ⊥
 first_clear fault part soon =
     let some = pass_some fault in
     elim soon [
@@ -424,7 +424,7 @@ none_found draft = record {
   in_order = λ i j d less below. absurd (omega arith);
 }
 
-pub all_found : (draft : DraftText) (found : List PartFault) → AreFoundTo (turn_at 7 Top) draft found → AreFaultsOf draft found
+pub all_found : (draft : DraftText) (found : List LocatedFault) → AreFoundTo (turn_at 7 Top) draft found → AreFaultsOf draft found
 all_found draft found s = record {
   stand = s.stand;
   each = λ fault part faulty. s.each fault part (inl (pass_below fault)) faulty;
@@ -510,13 +510,13 @@ its_turn NoTarget = refl
 
 -- ---- the next fault of a pass's list
 
-turn_is : (pass k : ℕ) (fault : TreeFault) (part : Part) → pass_of fault ≡ pass → fault_turn fault ≡ k → turn_of fault part ≡ turn_in pass part k
+turn_is : (pass k : ℕ) (fault : TreeFault) (part : Location) → pass_of fault ≡ pass → fault_turn fault ≡ k → turn_of fault part ≡ turn_in pass part k
 turn_is pass k fault part at_pass at_turn =
     ap (λ n. n ∷ panel_turn part ∷ kind_turn part ∷ item_turn part ∷ fault_turn fault ∷ []) at_pass
     ∙ ap (λ n. pass ∷ panel_turn part ∷ kind_turn part ∷ item_turn part ∷ n ∷ []) at_turn
 
 -- what is sooner than the next number was sooner, or is this fault of this table
-at_number : (pass k : ℕ) (fault other : TreeFault) (part elsewhere : Part) → slice_get (faults_of pass) k ≡ Some fault
+at_number : (pass k : ℕ) (fault other : TreeFault) (part elsewhere : Location) → slice_get (faults_of pass) k ≡ Some fault
     → IsSooner (turn_of other elsewhere) (turn_in pass part (suc k)) → IsSooner (turn_of other elsewhere) (turn_in pass part k) ⊎ ((other ≡ fault) × (elsewhere ≡ part))
 at_number pass k fault other part elsewhere listed soon =
     elim (next_fault _ _ _ _ _ _ _ _ _ _ soon) [
@@ -530,10 +530,10 @@ at_number pass k fault other part elsewhere listed soon =
       ]
     ]
 
-abbrev this : TreeFault → Part → PartFault
+abbrev this : TreeFault → Location → LocatedFault
 this fault part = record { fault = fault; part = part }
 
-fault_added : (pass k : ℕ) (fault : TreeFault) (part : Part) (draft : DraftText) (old : List PartFault) → slice_get (faults_of pass) k ≡ Some fault → IsFaulty fault part draft
+fault_added : (pass k : ℕ) (fault : TreeFault) (part : Location) (draft : DraftText) (old : List LocatedFault) → slice_get (faults_of pass) k ≡ Some fault → IsFaulty fault part draft
     → AreFoundTo (turn_in pass part k) draft old → AreFoundTo (turn_in pass part (suc k)) draft (old ++ this fault part ∷ [])
 fault_added pass k fault part draft old listed faulty s =
     let (at_pass, at_turn) = in_turn pass k fault listed in
@@ -541,14 +541,14 @@ fault_added pass k fault part draft old listed faulty s =
     let less : k < suc k = omega arith in
     let next : IsSooner (turn_in pass part k) (turn_in pass part (suc k)) = inr (refl, inr (refl, inr (refl, inr (refl, inl less)))) in
     record {
-      stand = All-push (λ (at : PartFault). IsFaulty at.fault at.part draft) old (this fault part) s.stand faulty;
+      stand = All-push (λ (at : LocatedFault). IsFaulty at.fault at.part draft) old (this fault part) s.stand faulty;
       each = λ other elsewhere soon stands.
           elim (at_number pass k fault other part elsewhere listed soon) [
             | inl sooner ↦ Contains-append_left old (this fault part ∷ []) (this other elsewhere) (s.each other elsewhere sooner stands)
             | inr (same, there) ↦
                 subst (λ x. Contains (old ++ this fault part ∷ []) x) (ap (λ f. this f part) (sym same) ∙ ap (this other) (sym there)) (Contains-push old (this fault part))
           ];
-      sooner = All-push (λ (at : PartFault). IsSooner (turn_of at.fault at.part) (turn_in pass part (suc k))) old (this fault part)
+      sooner = All-push (λ (at : LocatedFault). IsSooner (turn_of at.fault at.part) (turn_in pass part (suc k))) old (this fault part)
           (λ j d below.
           let at = get_or old j d in
           sooner_through (turn_of at.fault at.part) (turn_in pass part k) (turn_in pass part (suc k)) (s.sooner j d below) next)
@@ -558,7 +558,7 @@ fault_added pass k fault part draft old listed faulty s =
           subst (λ turn. IsSooner (turn_of at.fault at.part) turn) (sym its) (s.sooner j d below));
     }
 
-fault_passed : (pass k : ℕ) (fault : TreeFault) (part : Part) (draft : DraftText) (old : List PartFault) → slice_get (faults_of pass) k ≡ Some fault → ¬ HasFault fault part draft
+fault_passed : (pass k : ℕ) (fault : TreeFault) (part : Location) (draft : DraftText) (old : List LocatedFault) → slice_get (faults_of pass) k ≡ Some fault → ¬ HasFault fault part draft
     → AreFoundTo (turn_in pass part k) draft old → AreFoundTo (turn_in pass part (suc k)) draft old
 fault_passed pass k fault part draft old listed clean s =
     let less : k < suc k = omega arith in
@@ -571,7 +571,7 @@ fault_passed pass k fault part draft old listed clean s =
     ])
     s
 
-pub fault_next : (pass k : ℕ) (fault : TreeFault) (part : Part) (draft : DraftText) (old new : List PartFault) → slice_get (faults_of pass) k ≡ Some fault → IsTrue (is_part part draft.panels)
+pub fault_next : (pass k : ℕ) (fault : TreeFault) (part : Location) (draft : DraftText) (old new : List LocatedFault) → slice_get (faults_of pass) k ≡ Some fault → IsTrue (is_part part draft.panels)
     → IsAdded fault part draft old new → AreFoundTo (turn_in pass part k) draft old → AreFoundTo (turn_in pass part (k + 1)) draft new
 fault_next pass k fault part draft old new listed there added s =
     subst (λ n. AreFoundTo (turn_in pass part n) draft new) (sym (add-one k))
@@ -582,7 +582,7 @@ fault_next pass k fault part draft old new listed there added s =
 
 -- ---- the first of all faults
 
-pub first_of : (draft : DraftText) (first : PartFault) (more : List PartFault) → AreFaultsOf draft (first ∷ more) → IsFirstFault first.fault (place_of first.part) draft
+pub first_of : (draft : DraftText) (first : LocatedFault) (more : List LocatedFault) → AreFaultsOf draft (first ∷ more) → IsFirstFault first.fault (place_of first.part) draft
 first_of draft first more all = record {
   part = first.part;
   at_place = refl;
@@ -590,10 +590,10 @@ first_of draft first more all = record {
   sooner = λ fault part soon faulty. later (this fault part) soon (all.each fault part faulty);
 }
   where
-    later : (at : PartFault) → IsBefore at first → Contains (first ∷ more) at → ⊥
-    later at soon (zero, below, is) = not_sooner (turn_of first.fault first.part) (subst (λ (x : PartFault). IsBefore x first) (sym is) soon)
+    later : (at : LocatedFault) → IsBefore at first → Contains (first ∷ more) at → ⊥
+    later at soon (zero, below, is) = not_sooner (turn_of first.fault first.part) (subst (λ (x : LocatedFault). IsBefore x first) (sym is) soon)
     later at soon (suc k, below, is) =
-        let behind_it : IsBefore first at = subst (λ (x : PartFault). IsBefore first x) is (all.in_order 0 (suc k) at (omega arith) below) in
+        let behind_it : IsBefore first at = subst (λ (x : LocatedFault). IsBefore first x) is (all.in_order 0 (suc k) at (omega arith) below) in
         not_sooner (turn_of first.fault first.part) (sooner_through (turn_of first.fault first.part) (turn_of at.fault at.part) (turn_of first.fault first.part) behind_it soon)
 
 pub faultless_of : (draft : DraftText) → AreFaultsOf draft [] → IsFaultless draft
@@ -605,10 +605,10 @@ field_there panels draft p i there below =
     ap (λ o. is_some (option_and_then (λ (panel : DraftPanel). slice_get panel.fields i) o)) there ∙ ap is_some at_i
 
 -- the first of the list, if it has one
-pub refused : (draft : DraftText) (found : List PartFault) (first : PartFault) → AreFaultsOf draft found → slice_get found 0 ≡ Some first → IsFirstFault first.fault (place_of first.part) draft
+pub refused : (draft : DraftText) (found : List LocatedFault) (first : LocatedFault) → AreFaultsOf draft found → slice_get found 0 ≡ Some first → IsFirstFault first.fault (place_of first.part) draft
 refused draft [] first all is = absurd (none-some first is)
-refused draft (at ∷ more) first all is = subst (λ (x : PartFault). IsFirstFault x.fault (place_of x.part) draft) (same_Some at first is) (first_of draft at more all)
+refused draft (at ∷ more) first all is = subst (λ (x : LocatedFault). IsFirstFault x.fault (place_of x.part) draft) (same_Some at first is) (first_of draft at more all)
 
-pub accepted : (draft : DraftText) (found : List PartFault) → AreFaultsOf draft found → slice_get found 0 ≡ None → IsFaultless draft
+pub accepted : (draft : DraftText) (found : List LocatedFault) → AreFaultsOf draft found → slice_get found 0 ≡ None → IsFaultless draft
 accepted draft [] all none = faultless_of draft all
 accepted draft (at ∷ more) all none = absurd (none-some at (sym none))

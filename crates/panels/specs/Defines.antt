@@ -1,4 +1,4 @@
--- The panels that a draft defines (our profile).
+-- Which panels a draft defines (our profile).
 use Rattle.std.specs.Prelude.{◌≡◌, ℕ, zero, suc, ◌+◌, List, [], ◌∷◌, length, Option, Some, None, map, option_and_then, slice_get, bytes_eq, chars, if◌then◌else◌}
 use Rattle.std.specs.List.{list_any}
 use Rattle.std.specs.Option.{option_map_or}
@@ -6,7 +6,7 @@ use Rattle.codes3270.specs.declared.attention.Aid.{Aid}
 use Rattle.codes3270.specs.Size.{Shape}
 use Rattle.toml.specs.Data.{Members}
 use Rattle.toml.specs.Parse.{parse_document}
-use Rattle.panels.specs.declared.fault.Part.TheVariants as part
+use Rattle.panels.specs.declared.fault.Location.TheVariants as part
 use Rattle.panels.specs.declared.panel.Content.{Content}
 use Rattle.panels.specs.declared.panel.Content.TheVariants.{Literal, Show}
 use Rattle.panels.specs.declared.panel.TextItem.{TextItem}
@@ -20,62 +20,66 @@ use Rattle.panels.specs.Keys.{key_names, name_of_key, IsKey}
 use Rattle.panels.specs.Panel.{PanelParts, target_of, Panels}
 use Rattle.panels.specs.Passes.{IsFaultless}
 
--- the number of fields in the panels before one; a field's number over the whole text counts them
+-- the number of fields in the panels before the one at an index; this one's fields are numbered from it on
 abbrev pub fields_before : ℕ → List DraftPanel → ℕ
 fields_before zero panels = 0
-fields_before (suc p) panels = fields_before p panels + option_map_or (λ panel. length panel.fields) (slice_get panels p) 0
+fields_before (suc p) panels =
+    fields_before p panels + option_map_or (λ panel. length panel.fields) (slice_get panels p) 0
 
--- the panel at an index has the name
+-- holds if the panel at an index has the name
 abbrev pub IsPanelNamed : List DraftPanel → List ℕ → ℕ → Type 0
 IsPanelNamed panels name p = name_at (part.Panel p) panels ≡ Some name
 
--- the field with a number, over the whole text, has the name
+-- holds if the field with a number, from 0 over the whole text, has the name
 abbrev pub IsFieldNamed : List DraftPanel → List ℕ → ℕ → Type 0
-IsFieldNamed panels name number = (p : ℕ) × (i : ℕ) × (name_at (part.Field p i) panels ≡ Some name) × (number ≡ fields_before p panels + i)
+IsFieldNamed panels name number = (p : ℕ) × (i : ℕ) × (name_at (part.Field p i) panels ≡ Some name)
+    × (number ≡ fields_before p panels + i)
 
--- a text item shows its own text, or the value of the field that it names
+-- holds if the content is that of a text item: its own text, or the value of the field that it names
 abbrev pub IsContentOf : List DraftPanel → DraftItem → Content → Type 0
 IsContentOf panels item (Literal shown) = (text : List ℕ) × (item.text ≡ Some text) × (shown ≡ codes_of (chars text))
 IsContentOf panels item (Show number) = (item.text ≡ None) × IsFieldNamed panels item.show number
 
-pub record IsTextOf (shape : Shape) (panels : List DraftPanel) (item : DraftItem) (text : TextItem) : Type 0 where
-  pub extent : IsExtentOf shape item text.extent
+pub record IsTextOf (size : Shape) (panels : List DraftPanel) (item : DraftItem) (text : TextItem) : Type 0 where
+  pub extent : IsExtentOf size item text.extent
   pub bright : text.bright ≡ item.bright
   pub content : IsContentOf panels item text.content
 
-pub record IsFieldOf (shape : Shape) (n : ℕ) (item : DraftItem) (field : Field) : Type 0 where
+pub record IsFieldOf (size : Shape) (n : ℕ) (item : DraftItem) (field : Field) : Type 0 where
   pub number : field.number ≡ n
   pub name : field.name ≡ item.name
-  pub extent : IsExtentOf shape item field.extent
+  pub extent : IsExtentOf size item field.extent
   pub numeric : field.numeric ≡ item.numeric
   pub hidden : field.hidden ≡ item.hidden
   pub required : field.required ≡ item.required
   pub marked : field.marked ≡ item.marked
   pub fill : field.fill ≡ codes_of (chars item.fill)
 
--- the things are those of the drafts, one for one
+-- holds if there are as many things as drafts, and each is that of the draft at its index
 pub record IsEachOf {X Y : Type 0} (IsOf : ℕ → X → Y → Type 0) (drafts : List X) (things : List Y) : Type 0 where
   pub size : length things ≡ length drafts
-  pub are : (i : ℕ) (draft : X) (thing : Y) → slice_get drafts i ≡ Some draft → slice_get things i ≡ Some thing → IsOf i draft thing
+  pub are : (i : ℕ) (draft : X) (thing : Y) → slice_get drafts i ≡ Some draft → slice_get things i ≡ Some thing
+      → IsOf i draft thing
 
--- where the cursor is: at the first cell of the field that `cursor` names; without it, of the first field; without fields, at 0
+-- the cursor's address: the first cell of the field that `cursor` names, else of the first field; 0 without fields
 abbrev pub IsCursorBy : Option (List ℕ) → List Field → ℕ → Type 0
 IsCursorBy (Some name) fields cursor =
     (i : ℕ) × (field : Field) × (slice_get fields i ≡ Some field) × (field.name ≡ name) × (cursor ≡ field.extent.first)
 IsCursorBy None [] cursor = cursor ≡ 0
 IsCursorBy None (first ∷ more) cursor = cursor ≡ first.extent.first
 
--- where a key leads: to the panel that the panel's keys name for it, where they name one
+-- the text at the first of these keys that has the name
 abbrev pub text_at_key : List ℕ → List (List ℕ × List ℕ) → Option (List ℕ)
 text_at_key name [] = None
 text_at_key name (key ∷ keys) = if bytes_eq key.0 name then Some key.1 else text_at_key name keys
 
+-- holds if the target is the index of the panel with this name, or None if there is no name
 abbrev pub IsTargetBy : List DraftPanel → Option (List ℕ) → Option ℕ → Type 0
 IsTargetBy panels None target = target ≡ None
 IsTargetBy panels (Some name) None = ⊥
 IsTargetBy panels (Some name) (Some p) = IsPanelNamed panels name p
 
--- which panel is shown in its place: the one of model 2 with a name, where there must be one
+-- holds if `otherwise` is the index of a panel of model 2 with the name, or None if there is no name
 abbrev pub IsOtherwiseBy : List DraftPanel → Option (List ℕ) → Option ℕ → Type 0
 IsOtherwiseBy panels None otherwise = otherwise ≡ None
 IsOtherwiseBy panels (Some name) None = ⊥
@@ -90,18 +94,20 @@ pub record IsPanelOf (panels : List DraftPanel) (p : ℕ) (draft : DraftPanel) (
   pub cursor : IsCursorBy draft.cursor panel.fields panel.cursor
   pub places : length panel.targets ≡ length key_names
   pub asked : panel.asked ≡ map (λ name. list_any (bytes_eq name) draft.asks) key_names
-  pub targets : (aid : Aid) → IsKey aid → IsTargetBy panels (option_and_then (λ name. text_at_key name draft.keys) (name_of_key aid)) (target_of panel aid)
+  pub targets : (aid : Aid) → IsKey aid → IsTargetBy panels
+      (option_and_then (λ name. text_at_key name draft.keys) (name_of_key aid)) (target_of panel aid)
 
--- a draft defines the panels; the first to be shown is the one that `start` names
+-- holds if the panels are those of the draft; the first to be shown is the one that `start` names
 pub record Defines (draft : DraftText) (set : Panels) : Type 0 where
   pub start : IsPanelNamed draft.panels draft.start set.start
   pub lus : set.lus ≡ draft.lus
   pub panels : IsEachOf (IsPanelOf draft.panels) draft.panels set.panels
 
--- the text is that of a draft without a fault, which defines the panels
+-- holds if the text is TOML, its draft is faultless, and the draft defines the panels
 abbrev pub IsReadFrom : List ℕ → Panels → Type 0
-IsReadFrom text set = (top : Members) × (parse_document text ≡ Some top) × IsFaultless (draft_of top) × Defines (draft_of top) set
+IsReadFrom text set = (top : Members) × (parse_document text ≡ Some top) × IsFaultless (draft_of top)
+    × Defines (draft_of top) set
 
--- a text defines its panels once
+-- Two readings of a text define the same panels.
 abbrev pub DefinesOnce : Type 0
 DefinesOnce = (text : List ℕ) (set other : Panels) → IsReadFrom text set → IsReadFrom text other → set ≡ other

@@ -1,4 +1,4 @@
--- A panel text as it stands: what its tables say, by the types of their keys (our profile).
+-- Drafts: what the tables of a panel text say, by the types of their keys, before faults are looked for (our profile).
 use Rattle.std.specs.Prelude.{codes, ℕ, ℤ, pos, Bool, List, length, map, Option, Some, None, chars, unwrap_or, if◌then◌else◌}
 use Rattle.std.specs.Ordering.{int_eq}
 use Rattle.codes3270.specs.Size.{Shape, alternate_of}
@@ -8,7 +8,7 @@ use Rattle.panels.specs.Size.{model_numbered}
 use Rattle.panels.specs.Shape.{wrong_by, top_rules, panel_rules, text_rules, field_rules, wrong_in_keys}
 use Rattle.panels.specs.Tree.{text_under, text_or_empty, number_under, number, is_set, table_under, items_under, tables_in, texts_in, texts_by_key}
 
--- a text or a field: what is wrong with its keys, and what these say; what is absent is 0, unset, or no text
+-- a text or a field of a panel: what is wrong with its keys, and their values; what is absent is 0, false or no text
 pub record DraftItem : Type 0 where
   pub wrong : Option TreeFault
   pub row : ℤ
@@ -24,9 +24,9 @@ pub record DraftItem : Type 0 where
   pub required : Bool
   pub marked : Bool
 
--- a panel, of model 2 unless it says another; `otherwise` is the name of the panel that is shown in its place, empty where there is none;
--- `asks` has the names of the keys that the application decides on, and `keys` those in its table of keys, each with the panel that it
--- names
+-- A panel. `model` is 2 if there is none. `otherwise` is the name of the panel that is shown instead in a session of
+-- another model, empty if there is none. `asks` has the names of the keys that the application decides on, and `keys`
+-- those in its table of keys, each with the name of the panel that it leads to.
 pub record DraftPanel : Type 0 where
   pub wrong : Option TreeFault
   pub name : List ℕ
@@ -49,11 +49,11 @@ pub record DraftText : Type 0 where
 abbrev pub draft_shape : DraftPanel → Shape
 draft_shape panel = alternate_of (model_numbered panel.model)
 
--- the name of the panel that is shown in its place; one of model 2 is shown in each session
+-- the name of the panel that is shown instead in a session of another model; None for model 2, which any session shows
 abbrev pub otherwise_of : DraftPanel → Option (List ℕ)
 otherwise_of panel = if int_eq panel.model (pos 2) then None else Some panel.otherwise
 
--- how many characters an item has: those of its text, or its `length`
+-- the number of characters of an item: that of its text, or the value at `length`
 abbrev pub size_by : Option (List ℕ) → ℤ → ℤ
 size_by (Some text) size = pos (length (chars text))
 size_by None size = size

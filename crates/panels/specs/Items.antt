@@ -8,6 +8,7 @@ use Rattle.panels.specs.Size.{item_rows, message_start}
 use Rattle.panels.specs.declared.extent.Extent.{Extent}
 use Rattle.panels.specs.Draft.{DraftItem}
 
+-- whether a name has 1 to 16 letters, each of which is allowed
 abbrev pub is_name : (ℕ → Bool) → List ℕ → Bool
 is_name is_letter name = is_in_range 1 16 (length name) && list_all is_letter name
 
@@ -28,44 +29,48 @@ is_panel_name name = is_name is_panel_letter name
 abbrev pub is_field_name : List ℕ → Bool
 is_field_name name = is_name is_field_letter name
 
--- the address of a row and a column of a screen, both from 1 on
+-- the buffer address of a row and a column of a screen, both numbered from 1 on
 abbrev pub first_of : Shape → ℤ → ℤ → ℤ
-first_of shape row column = ((row -ℤ pos 1) *ℤ pos shape.columns) +ℤ (column -ℤ pos 1)
+first_of size row column = ((row -ℤ pos 1) *ℤ pos size.columns) +ℤ (column -ℤ pos 1)
 
 -- the address of an item's first character; its attribute is before it
 abbrev pub first_cell : Shape → DraftItem → ℤ
-first_cell shape item = first_of shape item.row item.column
+first_cell size item = first_of size item.row item.column
 
 abbrev pub is_between : ℤ → ℤ → ℤ → Bool
 is_between low high value = int_le low value && int_le value high
 
--- an item of a length has its attribute on the screen and ends before the message row
+-- whether an item with its first character at an address has its attribute on the screen, has a character, and ends
+-- before the message row
 abbrev pub is_above_message : Shape → ℤ → ℤ → Bool
-is_above_message shape first size = int_le (pos 1) first && is_between (pos 1) (pos (message_start shape) -ℤ first) size
+is_above_message screen_size first size = int_le (pos 1) first
+    && is_between (pos 1) (pos (message_start screen_size) -ℤ first) size
 
--- the item starts in a row and a column above the message row of a screen of this size
+-- whether the item's row and column are on a screen of this size, above the message row
 abbrev pub is_in_rows : Shape → DraftItem → Bool
-is_in_rows shape item = is_between (pos 1) (pos (item_rows shape)) item.row && is_between (pos 1) (pos shape.columns) item.column
+is_in_rows size item = is_between (pos 1) (pos (item_rows size)) item.row
+    && is_between (pos 1) (pos size.columns) item.column
 
--- the item, with its attribute, lies above the message row
+-- whether the item, with its attribute, lies above the message row
 abbrev pub is_on_screen : Shape → DraftItem → Bool
-is_on_screen shape item = is_in_rows shape item && is_above_message shape (first_cell shape item) item.size
+is_on_screen size item = is_in_rows size item && is_above_message size (first_cell size item) item.size
 
--- it does, and its fill is no longer than it
+-- whether the item lies above the message row, and its fill is no longer than it
 abbrev pub is_in_place : Shape → DraftItem → Bool
-is_in_place shape item = is_on_screen shape item && int_le (pos (length (chars item.fill))) item.size
+is_in_place size item = is_on_screen size item && int_le (pos (length (chars item.fill))) item.size
 
--- a cell is the item's attribute or one of its characters
+-- holds if the cell is the item's attribute or one of its characters
 abbrev pub HasCell : Shape → DraftItem → ℤ → Type 0
-HasCell shape item cell = (first_cell shape item ≤ℤ (cell +ℤ pos 1)) × ((cell +ℤ pos 1) ≤ℤ (first_cell shape item +ℤ item.size))
+HasCell size item cell = (first_cell size item ≤ℤ (cell +ℤ pos 1))
+    × ((cell +ℤ pos 1) ≤ℤ (first_cell size item +ℤ item.size))
 
--- the item's place and size, as an extent
+-- holds if the extent has the item's address and its number of characters
 abbrev pub IsExtentOf : Shape → DraftItem → Extent → Type 0
-IsExtentOf shape item extent = (pos extent.first ≡ first_cell shape item) × (pos extent.length ≡ item.size)
+IsExtentOf size item extent = (pos extent.first ≡ first_cell size item) × (pos extent.length ≡ item.size)
 
 abbrev pub has_no_code : ℕ → Bool
 has_no_code character = is_none (code_of character)
 
--- some character of the item's text or fill has no code
+-- whether some character of the item's text or fill has no code
 abbrev pub lacks_code : DraftItem → Bool
 lacks_code item = list_any has_no_code (chars (unwrap_or item.text [])) || list_any has_no_code (chars item.fill)

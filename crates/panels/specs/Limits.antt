@@ -1,4 +1,4 @@
--- How much a panel text may have (our profile).
+-- How many panels, texts and fields a panel text may have (our profile).
 use Rattle.std.specs.Prelude.{ℕ}
 
 -- the most panels of a text

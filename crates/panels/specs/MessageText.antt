@@ -1,10 +1,10 @@
--- The text of a message that an application tells (our profile).
+-- The text of a message from an application (our profile).
 use Rattle.std.specs.Prelude.{ℕ, List, ◌++◌, ◌-◌, length, take, replicate}
 
--- the room of the longest last row that a 3278 has, that of 132 columns, behind its attribute
+-- the most characters of a message: the longest last row of a 3278 has 132 columns, one of which its attribute takes
 abbrev pub most_message : ℕ
 most_message = 131
 
--- a text that fills that room: cut to it, or with nulls behind its end
+-- a text cut to that length, or filled up to it with nulls
 abbrev pub message_of : List ℕ → List ℕ
 message_of text = take most_message text ++ replicate (most_message - length text) 0

@@ -1,4 +1,4 @@
--- What panels have (our profile).
+-- What a panel consists of, and what holds of the panels of each text (our profile).
 use Rattle.std.specs.Prelude.{◌≡◌, ◌≢◌, ℕ, ◌<◌, ◌≤◌, ◌+◌, Bool, true, false, List, length, Option, Some, None, option_and_then, unwrap_or, slice_get, All, if◌then◌else◌}
 use Rattle.std.specs.Option.{option_map_or}
 use Rattle.codes3270.specs.Size.{Shape, cells_in, alternate_of}
@@ -14,8 +14,9 @@ use Rattle.panels.specs.Characters.{AreCharacters}
 use Rattle.panels.specs.Keys.{place_of_key, IsKey}
 use Rattle.panels.specs.Size.{message_start}
 
--- a panel: its name; its model; where that isn't 2, the panel that is shown in its place in a session of another model; its texts and fields, where its
--- cursor is, and for each key, in the order of their names, the panel that it leads to, and whether the application decides on it
+-- A panel. `otherwise` is the index of the panel that is shown instead in a session of another model, None for model 2.
+-- `cursor` is a buffer address. `targets` has the index of the panel that each key leads to, and `asked` whether the
+-- application decides on the key, both in the order of `key_names`.
 pub record PanelParts : Type 0 where
   pub name : List ℕ
   pub model : Model
@@ -26,31 +27,31 @@ pub record PanelParts : Type 0 where
   pub targets : List (Option ℕ)
   pub asked : List Bool
 
--- the size of the screen on which it is laid out
+-- the size of the screen on which a panel is laid out
 abbrev pub shape_of : PanelParts → Shape
 shape_of panel = alternate_of panel.model
 
--- the panel that a key leads to
+-- the index of the panel that a key leads to, if any
 abbrev pub target_at : List (Option ℕ) → ℕ → Option ℕ
 target_at targets place = option_and_then (λ target. target) (slice_get targets place)
 
 abbrev pub target_of : PanelParts → Aid → Option ℕ
 target_of panel aid = option_and_then (target_at panel.targets) (place_of_key aid)
 
--- the application decides on a key
+-- whether the application decides on a key
 abbrev pub is_asked_at : List Bool → ℕ → Bool
 is_asked_at asked place = unwrap_or (slice_get asked place) false
 
 abbrev pub is_asked : PanelParts → Aid → Bool
 is_asked panel aid = option_map_or (is_asked_at panel.asked) (place_of_key aid) false
 
--- the panels of a text: the first to be shown, the names of the LUs, and the panels
+-- the panels of a text: the index of the first to be shown, the names of the LUs, and the panels
 pub record Panels : Type 0 where
   pub start : ℕ
   pub lus : List (List ℕ)
   pub panels : List PanelParts
 
--- a panel of a model is shown as it is in a session of a model: if it is of model 2, or of the session's
+-- whether a session shows a panel as it is: if the panel's model, given first, is 2 or the session's
 abbrev pub is_shown : Model → Model → Bool
 is_shown M2 session = true
 is_shown M3 M3 = true
@@ -58,31 +59,34 @@ is_shown M4 M4 = true
 is_shown M5 M5 = true
 is_shown _ session = false
 
--- of the panel at an index, the index of the one that is shown in a session of a model: itself, or the one in its place
+-- the index of the panel that a session of a model shows for the one at an index: itself, or its `otherwise`
 abbrev pub shown_of : Model → ℕ → PanelParts → ℕ
 shown_of session p panel = if is_shown panel.model session then p else unwrap_or panel.otherwise p
 
 abbrev pub shown_in : Panels → Model → ℕ → ℕ
 shown_in set session p = option_map_or (shown_of session p) (slice_get set.panels p) p
 
--- the first panel and all targets are there
+-- the set has the first panel and all targets
 pub record AreLinked (set : Panels) : Type 0 where
   pub start : set.start < length set.panels
-  pub targets : (p : ℕ) (panel : PanelParts) (aid : Aid) (target : ℕ) → IsKey aid → slice_get set.panels p ≡ Some panel → target_of panel aid ≡ Some target → target < length set.panels
+  pub targets : (p : ℕ) (panel : PanelParts) (aid : Aid) (target : ℕ) → IsKey aid → slice_get set.panels p ≡ Some panel
+      → target_of panel aid ≡ Some target → target < length set.panels
 
--- a panel of model 2 has none in its place; any other has one, which is there and of model 2
+-- holds if `otherwise` is None for a panel of model 2, and the index of a panel of model 2 for any other
 abbrev pub IsOtherwise : List PanelParts → Model → Option ℕ → Type 0
 IsOtherwise panels model None = model ≡ M2
-IsOtherwise panels model (Some q) = (model ≢ M2) × (other : PanelParts) × (slice_get panels q ≡ Some other) × (other.model ≡ M2)
+IsOtherwise panels model (Some q) = (model ≢ M2) × (other : PanelParts) × (slice_get panels q ≡ Some other)
+    × (other.model ≡ M2)
 
 abbrev pub HaveOtherwise : Panels → Type 0
-HaveOtherwise set = (number : ℕ) (panel : PanelParts) → slice_get set.panels number ≡ Some panel → IsOtherwise set.panels panel.model panel.otherwise
+HaveOtherwise set = (number : ℕ) (panel : PanelParts) → slice_get set.panels number ≡ Some panel
+    → IsOtherwise set.panels panel.model panel.otherwise
 
--- an item lies above the row for messages of a screen
+-- holds if the item lies above the message row of the screen
 abbrev pub IsAbove : Shape → Extent → Type 0
-IsAbove shape extent = extent.first + extent.length ≤ message_start shape
+IsAbove size extent = extent.first + extent.length ≤ message_start size
 
--- so do a panel's items, on the panel's screen, and its cursor is on that
+-- all items of a panel lie above the message row of its screen, and its cursor is on the screen
 pub record IsLaidOut (panel : PanelParts) : Type 0 where
   pub texts : All (λ text. IsAbove (shape_of panel) text.extent) panel.texts
   pub fields : All (λ field. IsAbove (shape_of panel) field.extent) panel.fields
@@ -91,20 +95,21 @@ pub record IsLaidOut (panel : PanelParts) : Type 0 where
 abbrev pub AreLaidOut : Panels → Type 0
 AreLaidOut set = (number : ℕ) (panel : PanelParts) → slice_get set.panels number ≡ Some panel → IsLaidOut panel
 
--- what a text shows by itself is characters that a cell can hold
+-- holds if a text's own characters are such as a cell can hold
 abbrev pub HasCharacters : Content → Type 0
 HasCharacters (Literal text) = AreCharacters text
 HasCharacters (Show number) = Unit {0}
 
--- so is what the texts and the fields of a panel have by themselves
+-- the texts and fills of a panel are characters that a cell can hold
 pub record IsOfCharacters (panel : PanelParts) : Type 0 where
   pub texts : All (λ text. HasCharacters text.content) panel.texts
   pub fills : All (λ field. AreCharacters field.fill) panel.fields
 
 abbrev pub AreOfCharacters : Panels → Type 0
-AreOfCharacters set = (number : ℕ) (panel : PanelParts) → slice_get set.panels number ≡ Some panel → IsOfCharacters panel
+AreOfCharacters set = (number : ℕ) (panel : PanelParts) → slice_get set.panels number ≡ Some panel
+    → IsOfCharacters panel
 
--- a cell is an item's attribute or one of its characters
+-- holds if the cell is the item's attribute or one of its characters
 abbrev pub IsCellOf : Extent → ℕ → Type 0
 IsCellOf extent cell = (extent.first ≤ cell + 1) × (cell + 1 ≤ extent.first + extent.length)
 
@@ -113,20 +118,25 @@ ShareNoCell one other = (cell : ℕ) → IsCellOf one cell → ¬ IsCellOf other
 
 -- no two items of a panel share a cell
 pub record HasItemsApart (panel : PanelParts) : Type 0 where
-  pub texts : (i : ℕ) (j : ℕ) (one : TextItem) (other : TextItem) → i < j → slice_get panel.texts i ≡ Some one → slice_get panel.texts j ≡ Some other → ShareNoCell one.extent other.extent
-  pub fields : (i : ℕ) (j : ℕ) (one : Field) (other : Field) → i < j → slice_get panel.fields i ≡ Some one → slice_get panel.fields j ≡ Some other → ShareNoCell one.extent other.extent
-  pub both : (i : ℕ) (j : ℕ) (text : TextItem) (field : Field) → slice_get panel.texts i ≡ Some text → slice_get panel.fields j ≡ Some field → ShareNoCell text.extent field.extent
+  pub texts : (i : ℕ) (j : ℕ) (one : TextItem) (other : TextItem) → i < j → slice_get panel.texts i ≡ Some one
+      → slice_get panel.texts j ≡ Some other → ShareNoCell one.extent other.extent
+  pub fields : (i : ℕ) (j : ℕ) (one : Field) (other : Field) → i < j → slice_get panel.fields i ≡ Some one
+      → slice_get panel.fields j ≡ Some other → ShareNoCell one.extent other.extent
+  pub both : (i : ℕ) (j : ℕ) (text : TextItem) (field : Field) → slice_get panel.texts i ≡ Some text
+      → slice_get panel.fields j ≡ Some field → ShareNoCell text.extent field.extent
 
--- so each panel's items lie apart
+-- holds if no two items of a panel share a cell, for each panel
 abbrev pub AreApart : Panels → Type 0
 AreApart set = (number : ℕ) (panel : PanelParts) → slice_get set.panels number ≡ Some panel → HasItemsApart panel
 
--- no two fields of a panel have the same number
+-- holds if no two fields of a panel have the same number
 abbrev pub HaveNumbersApart : List Field → Type 0
-HaveNumbersApart fields = (i : ℕ) (j : ℕ) (one : Field) (other : Field) → i < j → slice_get fields i ≡ Some one → slice_get fields j ≡ Some other → one.number ≢ other.number
+HaveNumbersApart fields = (i : ℕ) (j : ℕ) (one : Field) (other : Field) → i < j → slice_get fields i ≡ Some one
+    → slice_get fields j ≡ Some other → one.number ≢ other.number
 
 abbrev pub NumbersAreApart : Panels → Type 0
-NumbersAreApart set = (number : ℕ) (panel : PanelParts) → slice_get set.panels number ≡ Some panel → HaveNumbersApart panel.fields
+NumbersAreApart set = (number : ℕ) (panel : PanelParts) → slice_get set.panels number ≡ Some panel
+    → HaveNumbersApart panel.fields
 
 -- what holds of the panels of each text
 pub record AreSound (set : Panels) : Type 0 where

@@ -1,4 +1,4 @@
--- What is put on a wanted screen, one thing over another (our profile; only for the contracts of private functions).
+-- How things are put on a wanted screen, one over another (our profile; only for the contracts of private functions).
 use Rattle.std.specs.Prelude.{◌≡◌, codes, ℕ, ◌+◌, ◌-◌, ◌<◌, nat_lt, true, List, [], ◌++◌, Option, Some, None, option_and_then, unwrap_or, slice_index_or, if◌then◌else◌}
 use Rattle.codes3270.specs.Size.{Shape, cells_in}
 use Rattle.codes3270.specs.declared.attribute.Attr.{Attr}
@@ -10,32 +10,33 @@ use Rattle.panels.specs.declared.message.Message.TheVariants.{Fresh, Plain, KeyN
 use Rattle.panels.specs.declared.panel.Field.{Field}
 use Rattle.panels.specs.Screen.{autoskip_attr, item_cell, kept_cell, coded, field_meant, field_numbered}
 
--- the first cells of a list are as before, but for those in which something is put
+-- holds if each of the first `count` cells has what is put there, or else what it had
 abbrev pub ArePut : ℕ → (ℕ → Option Want) → List Want → List Want → Type 0
-ArePut count put old new = (cell : ℕ) (default : Want) → cell < count → slice_index_or new cell default ≡ unwrap_or (put cell) (slice_index_or old cell default)
+ArePut count put old new = (cell : ℕ) (default : Want) → cell < count
+    → slice_index_or new cell default ≡ unwrap_or (put cell) (slice_index_or old cell default)
 
--- the size of a screen stays, and all its cells are as before, but for those
+-- holds if the screen's size is the same, and each cell has what is put there, or else what it had
 abbrev pub IsPut : (ℕ → Option Want) → WantedScreen → WantedScreen → Type 0
 IsPut put old new = (new.size ≡ old.size) × ArePut (cells_in old.size) put old.cells new.cells
 
--- an item and the cell after it are on a screen
+-- holds if an item and the cell after it are on a screen
 abbrev pub FitsOn : Shape → Extent → Type 0
-FitsOn shape extent = extent.first + extent.length < cells_in shape
+FitsOn size extent = extent.first + extent.length < cells_in size
 
--- the cells of an item with a content, or of a kept field
+-- the cell of an item with this content, or of a kept field, at a distance from the attribute
 abbrev pub cell_with : Attr → Option (List ℕ) → ℕ → Want
 cell_with attr (Some content) distance = item_cell attr content distance
 cell_with attr None distance = kept_cell attr distance
 
--- the field that a message speaks of
+-- the field that a message names, or puts the cursor in
 abbrev pub field_spoken : List Field → Message → Option Field
 field_spoken fields message = option_and_then (λ number. field_numbered number fields) (field_meant message)
 
--- the cells of the message's row, which starts at an address, with a text
+-- the cell of the message row, which starts at an address and has a text
 abbrev pub row_cell : ℕ → List ℕ → ℕ → Option Want
 row_cell start text cell = if nat_lt cell start then None else Some (item_cell (autoskip_attr true) text (cell - start))
 
--- the text of a message that speaks of a field with a name
+-- the text of a message that names a field with this name
 abbrev pub text_with : List ℕ → Message → List ℕ
 text_with name Fresh = []
 text_with name Plain = []

@@ -1,4 +1,4 @@
--- Which keys each table has, and the types of their values (our profile).
+-- Which keys each table of a panel text has, and the types of their values (our profile).
 use Rattle.std.specs.Prelude.{codes, ℕ, Bool, true, false, not, ◌&&◌, List, [], ◌∷◌, Option, Some, None, is_some, option_map, bytes_eq, ℤ, pos, if◌then◌else◌}
 use Rattle.std.specs.Ordering.{int_eq}
 use Rattle.std.specs.List.{list_any}
@@ -24,7 +24,7 @@ abbrev pub all_values : (Data → Bool) → Members → Bool
 all_values test no_members = true
 all_values test (member key value more) = test value && all_values test more
 
--- a value is of a kind
+-- whether a value has a type
 abbrev pub is_of_kind : KeyKind → Data → Bool
 is_of_kind kind.Text (tree.string text) = true
 is_of_kind kind.Integer (tree.integer number) = true
@@ -34,7 +34,7 @@ is_of_kind kind.Tables (tree.array values) = all_items is_table values
 is_of_kind kind.Table (tree.table table) = true
 is_of_kind _ _ = false
 
--- a key that a table may have, or must have, and the kind of its value
+-- a rule for a key of a table: the type of its value, and whether the table must have it
 pub record Rule : Type 0 where
   pub key : List ℕ
   pub kind : KeyKind
@@ -49,23 +49,26 @@ may key kind = record { key = key; kind = kind; needed = false }
 abbrev pub top_rules : List Rule
 top_rules = must (codes "start") kind.Text ∷ must (codes "lus") kind.Texts ∷ must (codes "panel") kind.Tables ∷ []
 
--- what a panel of any model may have, beside its name, its model and its `otherwise`
+-- the rules for what a panel of any model may have, beside its name, its model and its `otherwise`
 abbrev pub content_rules : List Rule
-content_rules = may (codes "cursor") kind.Text ∷ may (codes "text") kind.Tables ∷ may (codes "field") kind.Tables ∷ may (codes "asks") kind.Texts ∷ may (codes "keys") kind.Table ∷ []
+content_rules = may (codes "cursor") kind.Text ∷ may (codes "text") kind.Tables ∷ may (codes "field") kind.Tables
+    ∷ may (codes "asks") kind.Texts ∷ may (codes "keys") kind.Table ∷ []
 
--- of a panel of model 2, which is shown in each session
+-- the rules for a panel of model 2, which any session shows
 abbrev pub base_rules : List Rule
 base_rules = must (codes "name") kind.Text ∷ may (codes "model") kind.Integer ∷ content_rules
 
--- of a panel of another model, which says what is shown otherwise
+-- the rules for a panel of another model, which names the panel for all other sessions
 abbrev pub alternate_rules : List Rule
-alternate_rules = must (codes "name") kind.Text ∷ may (codes "model") kind.Integer ∷ must (codes "otherwise") kind.Text ∷ content_rules
+alternate_rules = must (codes "name") kind.Text ∷ may (codes "model") kind.Integer ∷ must (codes "otherwise") kind.Text
+    ∷ content_rules
 
--- of a panel whose model isn't known, as its `model` is no whole number
+-- the rules for a panel whose model isn't known, as its `model` is no integer
 abbrev pub unclear_rules : List Rule
-unclear_rules = must (codes "name") kind.Text ∷ may (codes "model") kind.Integer ∷ may (codes "otherwise") kind.Text ∷ content_rules
+unclear_rules = must (codes "name") kind.Text ∷ may (codes "model") kind.Integer ∷ may (codes "otherwise") kind.Text
+    ∷ content_rules
 
--- by the value at `model`, and the number that it is
+-- the rules for a panel: None is no `model`, Some None a `model` that is no integer
 abbrev pub rules_by_model : Option (Option ℤ) → List Rule
 rules_by_model None = base_rules
 rules_by_model (Some None) = unclear_rules
@@ -76,41 +79,45 @@ panel_rules table = rules_by_model (option_map as_integer (get_member (codes "mo
 
 abbrev pub literal_rules : List Rule
 literal_rules =
-    must (codes "row") kind.Integer ∷ must (codes "col") kind.Integer ∷ must (codes "text") kind.Text ∷ may (codes "bright") kind.Truth ∷ []
+    must (codes "row") kind.Integer ∷ must (codes "col") kind.Integer ∷ must (codes "text") kind.Text
+    ∷ may (codes "bright") kind.Truth ∷ []
 
 abbrev pub show_rules : List Rule
 show_rules =
-    must (codes "row") kind.Integer ∷ must (codes "col") kind.Integer ∷ must (codes "show") kind.Text ∷ must (codes "length") kind.Integer
+    must (codes "row") kind.Integer ∷ must (codes "col") kind.Integer ∷ must (codes "show") kind.Text
+    ∷ must (codes "length") kind.Integer
     ∷ may (codes "bright") kind.Truth ∷ []
 
 abbrev pub field_rules : List Rule
 field_rules =
-    must (codes "name") kind.Text ∷ must (codes "row") kind.Integer ∷ must (codes "col") kind.Integer ∷ must (codes "length") kind.Integer
-    ∷ may (codes "fill") kind.Text ∷ may (codes "numeric") kind.Truth ∷ may (codes "hidden") kind.Truth ∷ may (codes "required") kind.Truth
+    must (codes "name") kind.Text ∷ must (codes "row") kind.Integer ∷ must (codes "col") kind.Integer
+    ∷ must (codes "length") kind.Integer
+    ∷ may (codes "fill") kind.Text ∷ may (codes "numeric") kind.Truth ∷ may (codes "hidden") kind.Truth
+    ∷ may (codes "required") kind.Truth
     ∷ may (codes "marked") kind.Truth ∷ []
 
--- a text item has its text, or shows a field
+-- the rules for a text item: for one with its own text, or for one that shows a field
 abbrev pub text_rules : Members → List Rule
 text_rules table = if has_key (codes "text") table then literal_rules else show_rules
 
 abbrev pub is_known : List Rule → List ℕ → Bool
 is_known rules key = list_any (λ rule. bytes_eq rule.key key) rules
 
--- some key is in no rule
+-- whether some key of the table has no rule
 abbrev pub breaks_keys : List Rule → Members → Bool
 breaks_keys rules table = list_any (λ key. not (is_known rules key)) (keys table)
 
--- nothing is there, or no table in an array that must have some
+-- whether a value is absent, or is an empty array although the rule asks for tables
 abbrev pub is_lacking : KeyKind → Option Data → Bool
 is_lacking kind None = true
 is_lacking kind.Tables (Some (tree.array no_items)) = true
 is_lacking kind (Some value) = false
 
--- the table must have the rule's key, and lacks it
+-- whether the table must have the rule's key, and lacks it
 abbrev pub is_missing : Rule → Members → Bool
 is_missing rule table = rule.needed && is_lacking rule.kind (get_member rule.key table)
 
--- some needed key is absent
+-- whether some key that the table must have is absent
 abbrev pub breaks_needs : List Rule → Members → Bool
 breaks_needs rules table = list_any (λ rule. is_missing rule table) rules
 
@@ -118,11 +125,11 @@ abbrev pub is_misfit : KeyKind → Option Data → Bool
 is_misfit kind None = false
 is_misfit kind (Some value) = not (is_of_kind kind value)
 
--- some key's value is of another kind than its rule says
+-- whether some key's value has another type than its rule says
 abbrev pub breaks_kinds : List Rule → Members → Bool
 breaks_kinds rules table = list_any (λ rule. is_misfit rule.kind (get_member rule.key table)) rules
 
--- what is wrong with a table's keys and values: the first of these
+-- what is wrong with a table's keys and values: the first of these faults
 abbrev pub wrong_by : List Rule → Members → Option TreeFault
 wrong_by rules table =
     if breaks_keys rules table then Some UnknownKey
@@ -130,6 +137,6 @@ wrong_by rules table =
     else if breaks_kinds rules table then Some BadKind
     else None
 
--- in a panel's keys, which are names, some value is no text
+-- what is wrong with a panel's table of keys: some value in it is no text
 abbrev pub wrong_in_keys : Members → Option TreeFault
 wrong_in_keys table = if all_values is_text table then None else Some BadKind

@@ -10,15 +10,15 @@ has_key key table = is_some (get_member key table)
 abbrev pub text_under : List ℕ → Members → Option (List ℕ)
 text_under key table = option_and_then as_str (get_member key table)
 
--- the same, empty where there is none
+-- the text at a key; empty if there is none
 abbrev pub text_or_empty : List ℕ → Members → List ℕ
 text_or_empty key table = unwrap_or (text_under key table) []
 
--- the whole number at a key
+-- the integer at a key
 abbrev pub number_under : List ℕ → Members → Option ℤ
 number_under key table = option_and_then as_integer (get_member key table)
 
--- the same, 0 where there is none
+-- the integer at a key; 0 if there is none
 abbrev pub number : List ℕ → Members → ℤ
 number key table = unwrap_or (number_under key table) (pos 0)
 
@@ -29,11 +29,11 @@ is_set key table = unwrap_or (option_and_then as_bool (get_member key table)) fa
 abbrev pub table_under : List ℕ → Members → Option Members
 table_under key table = option_and_then as_table (get_member key table)
 
--- what the array at a key has, nothing where there is none
+-- the values of the array at a key; none if there is no array
 abbrev pub items_under : List ℕ → Members → Items
 items_under key table = unwrap_or (option_and_then as_array (get_member key table)) no_items
 
--- the tables of an array, and its texts
+-- the tables in an array, and the texts in it; values of other types are left out
 abbrev pub tables_in : Items → List Members
 tables_in no_items = []
 tables_in (item (tree.table table) values) = table ∷ tables_in values
@@ -44,7 +44,7 @@ texts_in no_items = []
 texts_in (item (tree.string text) values) = text ∷ texts_in values
 texts_in (item _ values) = texts_in values
 
--- the keys of a table, and those at which texts stand, with these
+-- the keys of a table; and its texts, each with its key
 abbrev pub keys : Members → List (List ℕ)
 keys no_members = []
 keys (member key value more) = key ∷ keys more

@@ -9,12 +9,12 @@ use Rattle.panels.specs.declared.panel.Field.{Field}
 abbrev pub value_of : List (ℕ × List ℕ) → ℕ → Option (List ℕ)
 value_of values field = lookup (is_at (nat_cmp field)) values
 
--- the values once that of a field is set, where there is a text for it
+-- the values after a text, if there is one, is set for a field
 abbrev pub set_if : ℕ → Option (List ℕ) → List (ℕ × List ℕ) → List (ℕ × List ℕ)
 set_if field None values = values
 set_if field (Some text) values = insert_entry nat_cmp values field text
 
--- the values once each of others is set
+-- the values after each of others is set
 abbrev pub with_values : List (ℕ × List ℕ) → List (ℕ × List ℕ) → List (ℕ × List ℕ)
 with_values values [] = values
 with_values values (other ∷ others) = with_values (insert_entry nat_cmp values other.0 other.1) others
@@ -24,7 +24,7 @@ abbrev pub without_fields : List Field → List (ℕ × List ℕ) → List (ℕ 
 without_fields [] values = values
 without_fields (field ∷ fields) values = without_fields fields (remove_entry (is_at (nat_cmp field.number)) values)
 
--- a text needs more memory than a value has: there is no value yet, or a shorter one
+-- holds if a text needs more memory than a field's value has: there is no value yet, or a shorter one
 abbrev pub HasToGrow : Option (List ℕ) → List ℕ → Type 0
 HasToGrow None text = ⊤
 HasToGrow (Some value) text = length value < length text

@@ -1,4 +1,4 @@
-//! The panels of a draft in which no fault stands.
+//! Builds the panels that a faultless draft defines.
 ghost use Rattle.std.specs.Prelude.{◌≡◌, ◌+◌, ◌<◌, Some, None, All, Contains, IfOk, IfSome, bytes_eq, map, option_map, slice_get, length};
 ghost use Rattle.std.specs.List.{list_any};
 ghost use Rattle.panels.specs.Draft.{draft_shape, otherwise_of};
@@ -17,7 +17,7 @@ use codes3270::Addr;
 use std::alloc::{AllocError, Global};
 
 impl<'a> Draft<'a> {
-    /// The number of fields in the panels before one.
+    /// The number of fields in the panels before the one at this index.
     fn fields_before(&self, panel: usize) -> usize
         requires faultless { IsFaultless self.now }
         requires there { panel < length self.now.panels }
@@ -46,7 +46,8 @@ impl<'a> Draft<'a> {
     fn texts(&self, alloc: Global, panel: &PanelDraft) -> Result<Vec<TextItem>, AllocError>
         requires faultless { IsFaultless self.now }
         requires there { Contains self.now.panels panel.now }
-        ensures { IfOk result (λ texts. IsEachOf (λ i. IsTextOf (draft_shape panel.now) self.now.panels) panel.now.texts texts.items) }
+        ensures { IfOk result
+            (λ texts. IsEachOf (λ i. IsTextOf (draft_shape panel.now) self.now.panels) panel.now.texts texts.items) }
     {
         let mut texts = Vec::new(alloc);
         let size = panel.size();
@@ -63,7 +64,7 @@ impl<'a> Draft<'a> {
         Ok(texts)
     }
 
-    /// The panel at an index.
+    /// The panel that the draft at an index defines.
     fn panel_at(&self, alloc: Global, panel: &PanelDraft, index: usize) -> Result<Panel, AllocError>
         requires faultless { IsFaultless self.now }
         requires there { slice_get self.now.panels index ≡ Some panel.now }
@@ -100,7 +101,7 @@ impl<'a> Draft<'a> {
         })
     }
 
-    /// The panel that is shown in a panel's place.
+    /// The index of the panel that is shown instead of this one in a session of another model; `None` for model 2.
     fn otherwise(&self, panel: &PanelDraft) -> Option<usize>
         requires faultless { IsFaultless self.now }
         requires there { Contains self.now.panels panel.now }
@@ -109,7 +110,7 @@ impl<'a> Draft<'a> {
         self.base_panel_named(panel.otherwise()?)
     }
 
-    /// The panel that a key leads to.
+    /// The index of the panel that a key leads to; `None` if the panel's table of keys doesn't have it.
     fn target(&self, panel: &PanelDraft, key: &str) -> Option<usize>
         requires faultless { IsFaultless self.now }
         requires there { Contains self.now.panels panel.now }
@@ -119,7 +120,7 @@ impl<'a> Draft<'a> {
         self.panel_named(named.1)
     }
 
-    /// The panel that each key leads to.
+    /// The panel that each key of `KEY_NAMES` leads to, in this order.
     fn targets(&self, alloc: Global, panel: &PanelDraft) -> Result<Vec<Option<usize>>, AllocError>
         requires faultless { IsFaultless self.now }
         requires there { Contains self.now.panels panel.now }
@@ -150,7 +151,7 @@ impl<'a> Draft<'a> {
     }
 }
 
-/// Whether the application decides on each key.
+/// Whether the application decides on each key of `KEY_NAMES`, in this order.
 fn asked_keys(alloc: Global, panel: &PanelDraft) -> Result<Vec<bool>, AllocError>
     ensures { IfOk result (λ asked. asked.items ≡ map (λ name. list_any (bytes_eq name) panel.now.asks) key_names) }
 {
@@ -161,7 +162,7 @@ fn asked_keys(alloc: Global, panel: &PanelDraft) -> Result<Vec<bool>, AllocError
     Ok(asked)
 }
 
-/// Where the cursor is: in the field with a name; without one, in the first, if there is one.
+/// The cursor's address: the first cell of the field with this name, else of the first field; 0 without fields.
 fn cursor_of(name: Option<&str>, fields: &[Field]) -> Addr
     requires { IfSome name (λ name. ¬ All (λ field. ¬ (field.name ≡ name.now)) fields.now) }
     ensures { IsCursorBy (option_map (λ n. n.now) name.entry) fields.now result }

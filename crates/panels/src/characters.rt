@@ -1,4 +1,4 @@
-//! Texts in the host's code.
+//! Texts in the host's code (code page 037).
 ghost use Rattle.std.specs.Prelude.{◌≡◌, ◌<◌, [], List, ℕ, IfOk, OnOk, OnErr, chars, length};
 ghost use Rattle.panels.specs.Characters.{AreCharacters, codes_of};
 
@@ -6,7 +6,7 @@ use codes3270::from_latin1;
 use std::alloc::{AllocError, Global};
 use std::marker::Model;
 
-/// Characters in the host's code: storable bytes without nulls.
+/// A text in the host's code (code page 037): bytes that a cell can hold, without nulls.
 #[derive(Debug, Drop)]
 pub struct Characters {
     bytes: Vec<u8>,
@@ -30,7 +30,7 @@ impl Clone for Characters {
 }
 
 impl Characters {
-    /// A copy of bytes, which are storable and no nulls.
+    /// A copy of these bytes. Each must be storable in a cell and not null. Err only if memory is refused.
     pub fn copy(alloc: Global, bytes: &[u8]) -> Result<Characters, AllocError>
         requires { AreCharacters bytes.now }
         ensures { IfOk result (λ characters. characters ≡ bytes.now) }
@@ -47,8 +47,8 @@ impl Characters {
         Characters { bytes }
     }
 
-    /// Becomes a copy of bytes, which are storable and no nulls. Memory is needed only if there are more than before; if it is
-    /// refused nothing changes.
+    /// Replaces the text by a copy of these bytes, each of which must be storable and not null. Memory is needed only
+    /// if they are more than before; if it is refused, nothing changes.
     pub(crate) fn replace(&mut self, bytes: &[u8]) -> Result<(), AllocError>
         requires { AreCharacters bytes.now }
         ensures ok { OnOk result (self.new ≡ bytes.now) }
@@ -62,7 +62,7 @@ impl Characters {
         Ok(())
     }
 
-    /// The codes of a text's characters, as far as they have one.
+    /// The codes of a text's characters; a character without a code is left out.
     pub(crate) fn of_text(alloc: Global, text: &str) -> Result<Characters, AllocError>
         ensures { IfOk result (λ characters. characters ≡ codes_of (chars text.now)) }
     {
@@ -73,6 +73,7 @@ impl Characters {
         Ok(Characters { bytes })
     }
 
+    /// The bytes, one for each character.
     pub fn as_slice(&self) -> &[u8]
         ensures bytes { result.now ≡ self.now }
         ensures characters { AreCharacters result.now }

@@ -1,14 +1,24 @@
-//! The faults of a draft, part by part.
-ghost use Rattle.std.specs.Prelude.{◌≡◌, ◌↔◌, ◌+◌, ◌<◌, IfOk, IsTrue, OnOk, length};
-ghost use Rattle.panels.specs.declared.fault.Part.TheVariants as part;
-ghost use Rattle.panels.specs.Faults.{HasFault, is_part, faults_of};
+//! Finds the faults of a draft, table by table.
+ghost use Rattle.std.specs.Prelude.{◌≡◌, ◌↔◌, ◌+◌, ◌<◌, IfOk, IsTrue, OnOk, length, ◌≤ℤ◌, ◌<ℤ◌, ◌-ℤ◌, ◌&&◌, ℕ, Some, true, false, MatchOption, pos, chars, List, Contains, bytes_eq, map, not, option_map};
+ghost use Rattle.panels.specs.Faults.{HasFault, is_part, faults_of, IsOverlapping, Overlaps, item_at, shape_at, HasFieldNamed, HasLostCursor, has_key_twice, has_strange_key, asks_twice, HasLostOtherwise, IsBasePanelNamed, NamesBasePanel, NamesPanel, NamesField, name_at};
 ghost use Rattle.panels.specs.Listing.{AreFaultsOf};
-ghost use Rattle.panels.specs.Walk.{turn_at, turn_behind, AreFoundTo, IsAdded};
+ghost use Rattle.panels.specs.Walk.{turn_at, turn_behind, AreFoundTo, IsAdded, nth, is_letter_of};
+ghost use Rattle.panels.specs.Size.{item_rows, message_start};
+ghost use Rattle.panels.specs.Draft.{DraftItem};
+ghost use Rattle.panels.specs.Items.{IsExtentOf, is_in_rows, is_on_screen, is_in_place, lacks_code, is_above_message, first_of, is_name as is_name_by};
+ghost use Rattle.std.specs.List.{list_any};
+ghost use Rattle.panels.specs.Keys.{is_asked_name, is_key_name};
+ghost use Rattle.panels.specs.Index.{IsLater};
+ghost use Rattle.panels.specs.declared.fault.Location.TheVariants as part;
 
-use crate::draft::{Draft, PanelDraft};
+use crate::draft::{Draft, ItemDraft, PanelDraft};
+use crate::extent::Extent;
 use crate::fault::TreeFault::*;
-use crate::fault::{Part, PartFault, TreeFault};
+use crate::fault::{LocatedFault, Location, TreeFault};
+use crate::index::NameIndex;
 use crate::names::{is_later, is_name};
+use crate::size::{item_rows, message_start};
+use codes3270::{Size, from_latin1};
 use std::alloc::{AllocError, Global};
 
 // The most panels of a text, and the most texts and fields of a panel.
@@ -19,26 +29,30 @@ const MOST_TEXTS: usize = 256;
 const MOST_FIELDS: usize = 128;
 
 impl<'a> Draft<'a> {
-    /// Whether a part has a fault.
-    fn has_fault(&self, fault: TreeFault, part: Part) -> bool
+    /// Whether a table has a fault.
+    fn has_fault(&self, fault: TreeFault, part: Location) -> bool
         ensures { IsTrue result ↔ HasFault fault part self.now }
     {
         match (fault, part) {
             (UnknownKey | Missing | BadKind, _) => self.wrong_keys(part) == Some(fault),
-            (TooMany, Part::Top) => MOST_PANELS < self.panels.len(),
-            (TooMany, Part::Panel(panel)) => self.panel(panel).is_some_and(|panel| {
+            (TooMany, Location::Top) => MOST_PANELS < self.panels.len(),
+            (TooMany, Location::Panel(panel)) => self.panel(panel).is_some_and(|panel| {
                 MOST_TEXTS < panel.texts.len() || MOST_FIELDS < panel.fields.len()
             }),
             (BadName, _) => self.name(part).is_some_and(|name| !is_name(part, name)),
-            (BadKey, Part::Keys(panel)) => self
+            (BadKey, Location::Keys(panel)) => self
                 .panel(panel)
                 .is_some_and(|panel| panel.has_strange_key()),
-            (TwiceNamed, Part::Panel(_)) => is_later(&self.panel_names, self.name(part), part),
-            (TwiceNamed, Part::Field(_, _)) => is_later(&self.field_names, self.name(part), part),
-            (TwiceNamed, Part::Keys(panel)) => {
+            (TwiceNamed, Location::Panel(_)) => is_later(&self.panel_names, self.name(part), part),
+            (TwiceNamed, Location::Field(_, _)) => is_later(
+                &self.field_names,
+                self.name(part),
+                part,
+            ),
+            (TwiceNamed, Location::Keys(panel)) => {
                 self.panel(panel).is_some_and(|panel| panel.has_key_twice())
             }
-            (BadModel, Part::Panel(panel)) => {
+            (BadModel, Location::Panel(panel)) => {
                 self.panel(panel).is_some_and(|panel| panel.has_bad_model())
             }
             (OutOfPlace, _) => {
@@ -48,16 +62,16 @@ impl<'a> Draft<'a> {
             }
             (NoCode, _) => self.item(part).is_some_and(|item| item.has_no_codes()),
             (Overlap, _) => self.is_overlapping(part),
-            (NoTarget, Part::Top) => self.panel_named(self.start).is_none(),
-            (NoTarget, Part::Panel(panel)) => match self.panel(panel) {
+            (NoTarget, Location::Top) => self.panel_named(self.start).is_none(),
+            (NoTarget, Location::Panel(panel)) => match self.panel(panel) {
                 Some(panel) => panel.has_lost_cursor() || self.has_lost_otherwise(panel),
                 None => false,
             },
-            (NoTarget, Part::Text(_, _)) => match self.item(part) {
+            (NoTarget, Location::Text(_, _)) => match self.item(part) {
                 Some(text) => text.text.is_none() && self.field_named(text.show).is_none(),
                 None => false,
             },
-            (NoTarget, Part::Keys(panel)) => match self.panel(panel) {
+            (NoTarget, Location::Keys(panel)) => match self.panel(panel) {
                 Some(panel) => self.has_lost_key(panel),
                 None => false,
             },
@@ -65,27 +79,27 @@ impl<'a> Draft<'a> {
         }
     }
 
-    /// Adds a fault, if a part has it.
+    /// Adds a fault to `found`, if the table has it.
     fn add_if_faulty(
         &self,
         fault: TreeFault,
-        part: Part,
-        found: &mut Vec<PartFault>,
+        part: Location,
+        found: &mut Vec<LocatedFault>,
     ) -> Result<(), AllocError>
         ensures { OnOk result (IsAdded fault part self.now found.old.items found.new.items) }
     {
         if self.has_fault(fault, part) {
-            found.push(PartFault { fault, part })?;
+            found.push(LocatedFault { fault, part })?;
         }
         Ok(())
     }
 
-    /// Adds a pass's faults in a part.
+    /// Adds the faults of a table that a pass looks for.
     fn add_of_part(
         &self,
         pass: usize,
-        part: Part,
-        found: &mut Vec<PartFault>,
+        part: Location,
+        found: &mut Vec<LocatedFault>,
     ) -> Result<(), AllocError>
         requires there { IsTrue (is_part part self.now.panels) }
         requires found { AreFoundTo (turn_at pass part) self.now found.old.items }
@@ -97,35 +111,35 @@ impl<'a> Draft<'a> {
         Ok(())
     }
 
-    /// Adds a pass's faults in a panel: in its own table, its texts, its fields and its keys.
+    /// Adds the faults of a panel that a pass looks for: of its own table, its texts, its fields and its table of keys.
     fn add_of_panel(
         &self,
         pass: usize,
         panel: usize,
-        found: &mut Vec<PartFault>,
+        found: &mut Vec<LocatedFault>,
     ) -> Result<(), AllocError>
         requires there { panel < length self.now.panels }
         requires found { AreFoundTo (turn_at pass (part.Panel panel)) self.now found.old.items }
         ensures { OnOk result (AreFoundTo (turn_at pass (part.Panel (panel + 1))) self.now found.new.items) }
     {
         let PanelDraft { texts, fields, .. } = &self.panels[panel];
-        self.add_of_part(pass, Part::Panel(panel), found)?;
+        self.add_of_part(pass, Location::Panel(panel), found)?;
         for text in 0..texts.len() {
-            self.add_of_part(pass, Part::Text(panel, text), found)?;
+            self.add_of_part(pass, Location::Text(panel, text), found)?;
         }
         for field in 0..fields.len() {
-            self.add_of_part(pass, Part::Field(panel, field), found)?;
+            self.add_of_part(pass, Location::Field(panel, field), found)?;
         }
-        self.add_of_part(pass, Part::Keys(panel), found)?;
+        self.add_of_part(pass, Location::Keys(panel), found)?;
         Ok(())
     }
 
-    /// Adds a pass's faults in the text's own table, and panel by panel.
-    fn add_of_pass(&self, pass: usize, found: &mut Vec<PartFault>) -> Result<(), AllocError>
+    /// Adds the faults that a pass looks for: of the text's own table, then panel by panel.
+    fn add_of_pass(&self, pass: usize, found: &mut Vec<LocatedFault>) -> Result<(), AllocError>
         requires { AreFoundTo (turn_at pass part.Top) self.now found.old.items }
         ensures { OnOk result (AreFoundTo (turn_at (pass + 1) part.Top) self.now found.new.items) }
     {
-        self.add_of_part(pass, Part::Top, found)?;
+        self.add_of_part(pass, Location::Top, found)?;
         for panel in 0..self.panels.len() {
             self.add_of_panel(pass, panel, found)?;
         }
@@ -133,7 +147,7 @@ impl<'a> Draft<'a> {
     }
 
     /// All faults, pass by pass.
-    pub(crate) fn faults(&self, alloc: Global) -> Result<Vec<PartFault>, AllocError>
+    pub(crate) fn faults(&self, alloc: Global) -> Result<Vec<LocatedFault>, AllocError>
         ensures { IfOk result (λ found. AreFaultsOf self.now found.items) }
     {
         let mut found = Vec::new(alloc);
@@ -141,6 +155,111 @@ impl<'a> Draft<'a> {
             self.add_of_pass(pass, &mut found)?;
         }
         Ok(found)
+    }
+
+    /// The extent of an item on a screen of this size; `None` if there is none, or it isn't above the message row.
+    fn extent(&self, size: Size, part: Location) -> Option<Extent>
+        ensures { MatchOption result
+            ((item : DraftItem) → item_at part self.now.panels ≡ Some item → is_on_screen size item ≡ false)
+            (λ extent. (item : DraftItem) × (item_at part self.now.panels ≡ Some item) × (is_on_screen size item ≡ true)
+            × IsExtentOf size item extent) }
+    {
+        self.item(part)?.extent(size)
+    }
+
+    /// Whether an extent shares a cell with one of the first `count` items of an array, on a screen of this size.
+    /// `array` is any item of that array.
+    fn meets_one(&self, size: Size, extent: Extent, array: Location, count: usize) -> bool
+        ensures { (item : DraftItem) → (is_on_screen size item ≡ true) × IsExtentOf size item extent
+            → (IsTrue result ↔ ((j : ℕ) × (other : DraftItem) × (j < count)
+            × (item_at (nth array j) self.now.panels ≡ Some other) × Overlaps size item other)) }
+    {
+        for index in 0..count {
+            let Some(other) = self.extent(size, array.nth(index)) else {
+                continue;
+            };
+            if extent.meets(other) {
+                return true;
+            }
+        }
+        false
+    }
+
+    /// Whether a text or a field shares a cell with an earlier item of its panel.
+    pub(crate) fn is_overlapping(&self, part: Location) -> bool
+        ensures { IsTrue result ↔ IsOverlapping part self.now.panels }
+    {
+        let size = self.size(part);
+        let Some(extent) = self.extent(size, part) else {
+            return false;
+        };
+        match part {
+            Location::Text(_, text) => self.meets_one(size, extent, part, text),
+            Location::Field(panel, field) => {
+                let texts = self.panel(panel).map_or(0, |draft| draft.texts.len());
+                self.meets_one(size, extent, Location::Text(panel, 0), texts)
+                    || self.meets_one(size, extent, part, field)
+            }
+            Location::Top | Location::Panel(_) | Location::Keys(_) => false,
+        }
+    }
+
+    /// The index of the first panel with a name.
+    pub(crate) fn panel_named(&self, name: &str) -> Option<usize>
+        ensures { MatchOption result (¬ NamesPanel name.now self.now.panels)
+            (λ panel. name_at (part.Panel panel) self.now.panels ≡ Some name.now) }
+    {
+        match self.panel_names.get(name)? {
+            Location::Panel(panel) => Some(*panel),
+            _ => None,
+        }
+    }
+
+    /// The index of the first panel of model 2 with a name.
+    pub(crate) fn base_panel_named(&self, name: &str) -> Option<usize>
+        ensures { MatchOption result (¬ NamesBasePanel name.now self.now.panels)
+            (IsBasePanelNamed self.now.panels name.now) }
+    {
+        for index in 0..self.panels.len() {
+            if self.panels[index].is_base_named(name) {
+                return Some(index);
+            }
+        }
+        None
+    }
+
+    /// Whether a panel's `otherwise` names no panel of model 2.
+    pub(crate) fn has_lost_otherwise(&self, panel: &PanelDraft) -> bool
+        ensures { IsTrue result ↔ HasLostOtherwise panel.now self.now.panels }
+    {
+        match panel.otherwise() {
+            Some(name) => self.base_panel_named(name).is_none(),
+            None => false,
+        }
+    }
+
+    /// The first field with a name: the index of its panel, and its own there.
+    pub(crate) fn field_named(&self, name: &str) -> Option<(usize, usize)>
+        ensures { MatchOption result (¬ NamesField name.now self.now.panels)
+            (λ at. name_at (part.Field at.0 at.1) self.now.panels ≡ Some name.now) }
+    {
+        match self.field_names.get(name)? {
+            Location::Field(panel, field) => Some((*panel, *field)),
+            _ => None,
+        }
+    }
+
+    /// Whether one of a panel's keys names no panel.
+    pub(crate) fn has_lost_key(&self, panel: &PanelDraft) -> bool
+        ensures { IsTrue result
+            ↔ ((key : List ℕ × List ℕ) × Contains panel.now.keys key × (¬ NamesPanel key.1 self.now.panels)) }
+    {
+        for key in &panel.keys {
+            if self.panel_named(key.1).is_none() {
+                return true;
+            }
+        }
+        false
     }
 }
 

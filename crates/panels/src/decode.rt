@@ -1,4 +1,4 @@
-//! The draft of a tree.
+//! Decodes a TOML tree into a draft.
 ghost use Rattle.std.specs.Prelude.{◌≡◌, codes, map, option_map, unwrap_or, IfOk};
 ghost use Rattle.toml.specs.Data.{no_members};
 ghost use Rattle.toml.specs.View.{table_view};
@@ -16,7 +16,7 @@ use crate::tree::{is_true_at, number_at, number_or, text_at, text_or_empty, valu
 use std::alloc::{AllocError, Global};
 use toml::Table;
 
-/// What the table of an item in an array of texts or fields says.
+/// The draft of an item, from its table; `array` is the key of the array that has it, `text` or `field`.
 fn item_draft<'a>(array: &str, table: &'a Table) -> ItemDraft<'a>
     ensures { result ≡ item_in array.now (table_view table.now) }
 {
@@ -38,13 +38,14 @@ fn item_draft<'a>(array: &str, table: &'a Table) -> ItemDraft<'a>
     }
 }
 
-/// What the tables of an array of texts or fields say.
+/// The drafts of the items in a panel's array of texts or fields.
 fn item_drafts<'a>(
     alloc: Global,
     panel: &'a Table,
     array: &str,
 ) -> Result<Vec<ItemDraft<'a>>, AllocError>
-    ensures { IfOk result (λ items. items.items ≡ map (item_in array.now) (tables_in (items_under array.now (table_view panel.now)))) }
+    ensures { IfOk result
+        (λ items. items.items ≡ map (item_in array.now) (tables_in (items_under array.now (table_view panel.now)))) }
 {
     let mut items = Vec::new(alloc);
     for value in values_at(panel, array) {
@@ -65,7 +66,8 @@ fn wrong_keys(keys: &Table) -> Option<TreeFault>
 
 /// The texts in a panel's table of keys, each with its key.
 fn key_drafts<'a>(alloc: Global, keys: &'a Table) -> Result<Vec<(&'a str, &'a str)>, AllocError>
-    ensures { IfOk result (λ found. map (λ key. (key.0.now, key.1.now)) found.items ≡ texts_by_key (table_view keys.now)) }
+    ensures { IfOk result
+        (λ found. map (λ key. (key.0.now, key.1.now)) found.items ≡ texts_by_key (table_view keys.now)) }
 {
     let mut found = Vec::new(alloc);
     for (key, value) in keys {
@@ -76,27 +78,28 @@ fn key_drafts<'a>(alloc: Global, keys: &'a Table) -> Result<Vec<(&'a str, &'a st
     Ok(found)
 }
 
-/// A panel's table of keys.
+/// A panel's table of keys, if it has one.
 fn key_table<'a>(panel: &'a Table) -> Option<&'a Table>
     ensures { option_map (λ keys. table_view keys.now) result ≡ table_under (codes "keys") (table_view panel.now) }
 {
     value_at(panel, "keys").and_then(|value| value.as_table())
 }
 
-/// What is wrong with it; nothing where there is none.
+/// What is wrong with a table of keys; `None` if the panel has no such table.
 fn wrong_in_table(keys: Option<&Table>) -> Option<TreeFault>
     ensures { result ≡ wrong_in_keys (unwrap_or (option_map (λ keys. table_view keys.now) keys.entry) no_members) }
 {
     keys.and_then(|keys| wrong_keys(keys))
 }
 
-/// The texts in it, each with its key.
+/// The texts in a table of keys, each with its key; none if the panel has no such table.
 fn keys_in<'a>(
     alloc: Global,
     keys: Option<&'a Table>,
 ) -> Result<Vec<(&'a str, &'a str)>, AllocError>
     ensures { IfOk result (λ found.
-        map (λ key. (key.0.now, key.1.now)) found.items ≡ texts_by_key (unwrap_or (option_map (λ keys. table_view keys.now) keys.entry) no_members)) }
+        map (λ key. (key.0.now, key.1.now)) found.items
+        ≡ texts_by_key (unwrap_or (option_map (λ keys. table_view keys.now) keys.entry) no_members)) }
 {
     match keys {
         Some(keys) => key_drafts(alloc, keys),
@@ -123,7 +126,8 @@ fn panel_draft<'a>(alloc: Global, panel: &'a Table) -> Result<PanelDraft<'a>, Al
 }
 
 fn panel_drafts<'a>(alloc: Global, top: &'a Table) -> Result<Vec<PanelDraft<'a>>, AllocError>
-    ensures { IfOk result (λ panels. panels.items ≡ map panel_of (tables_in (items_under (codes "panel") (table_view top.now)))) }
+    ensures { IfOk result
+        (λ panels. panels.items ≡ map panel_of (tables_in (items_under (codes "panel") (table_view top.now)))) }
 {
     let mut panels = Vec::new(alloc);
     for value in values_at(top, "panel") {
@@ -134,9 +138,10 @@ fn panel_drafts<'a>(alloc: Global, top: &'a Table) -> Result<Vec<PanelDraft<'a>>
     Ok(panels)
 }
 
-/// The texts of the array at a key.
+/// The texts in the array at a key, without values of other types; none if there is no array.
 fn texts_at<'a>(alloc: Global, table: &'a Table, key: &str) -> Result<Vec<&'a str>, AllocError>
-    ensures { IfOk result (λ texts. map (λ text. text.now) texts.items ≡ texts_in (items_under key.now (table_view table.now))) }
+    ensures { IfOk result
+        (λ texts. map (λ text. text.now) texts.items ≡ texts_in (items_under key.now (table_view table.now))) }
 {
     let mut texts = Vec::new(alloc);
     for value in values_at(table, key) {
@@ -147,7 +152,7 @@ fn texts_at<'a>(alloc: Global, table: &'a Table, key: &str) -> Result<Vec<&'a st
     Ok(texts)
 }
 
-/// What a panel text says.
+/// The draft of a panel text, from its TOML tree.
 pub(crate) fn decode<'a>(alloc: Global, top: &'a Table) -> Result<Draft<'a>, AllocError>
     ensures { IfOk result (λ draft. draft ≡ draft_of (table_view top.now)) }
 {

@@ -1,26 +1,26 @@
-//! A panel text as it stands: what its tables say, by the types of their keys.
+//! Drafts: what the tables of a panel text say, by the types of their keys, before faults are looked for.
 ghost use Rattle.std.specs.Prelude.{◌≡◌, not, option_copied, option_map, slice_get};
 ghost use Rattle.panels.specs.Draft.{draft_shape, otherwise_of};
 ghost use Rattle.panels.specs.Faults.{item_at, name_at, shape_at, wrong_at};
 ghost use Rattle.panels.specs.Size.{is_model_number, model_numbered};
 
-use crate::fault::{Part, TreeFault};
+use crate::fault::{Location, TreeFault};
 use crate::index::NameIndex;
 use crate::size::model_numbered;
 use codes3270::{Model, Size};
 use std::marker;
 
-/// A text or a field. What is absent is 0, unset, or no text.
+/// A text or a field of a panel, as its table has it. What is absent is 0, false, or no text.
 #[derive(Drop)]
 pub(crate) struct ItemDraft<'a> {
     /// What is wrong with its keys and their values.
     pub wrong: Option<TreeFault>,
     pub row: i64,
     pub column: i64,
-    /// How many characters it has: those of its text, or its `length`.
+    /// Its number of characters: that of its text, or the value at `length`.
     pub length: i64,
     pub text: Option<&'a str>,
-    /// The name of the field that it shows, where it has no text.
+    /// The name of the field whose value it shows, if it has no text of its own.
     pub show: &'a str,
     pub name: &'a str,
     pub fill: &'a str,
@@ -54,14 +54,14 @@ impl<'a> marker::Model for ItemDraft<'a> {
     } };
 }
 
-/// A panel.
+/// A panel, as its tables have it.
 #[derive(Drop)]
 pub(crate) struct PanelDraft<'a> {
     pub wrong: Option<TreeFault>,
     pub name: &'a str,
-    /// Its `model`, 2 where it has none.
+    /// Its `model`; 2 if it has none.
     pub model: i64,
-    /// The name of the panel that is shown in its place; empty where it has none.
+    /// The name of the panel to show in a session of another model; empty if there is none.
     pub otherwise: &'a str,
     pub cursor: Option<&'a str>,
     pub texts: Vec<ItemDraft<'a>>,
@@ -70,7 +70,7 @@ pub(crate) struct PanelDraft<'a> {
     pub asks: Vec<&'a str>,
     /// What is wrong with its table of keys.
     pub wrong_keys: Option<TreeFault>,
-    /// The names in that table, each with the panel that it names.
+    /// The names in its table of keys, each with the name of the panel that it leads to.
     pub keys: Vec<(&'a str, &'a str)>,
 }
 
@@ -94,7 +94,7 @@ impl<'a> marker::Model for PanelDraft<'a> {
     } };
 }
 
-/// The whole text, with the first part of each name.
+/// The whole text, with the first part that has each name.
 #[derive(Drop)]
 pub(crate) struct Draft<'a> {
     pub wrong: Option<TreeFault>,
@@ -112,13 +112,18 @@ impl<'a> marker::Model for Draft<'a> {
 
     ghost Value = { DraftText };
 
-    ghost view = { λ draft. record { wrong = draft.wrong; start = draft.start.now; lus = map (λ lu. lu.now) draft.lus.items; panels = draft.panels.items } };
+    ghost view = { λ draft. record {
+      wrong = draft.wrong;
+      start = draft.start.now;
+      lus = map (λ lu. lu.now) draft.lus.items;
+      panels = draft.panels.items;
+    } };
 
     ghost invariant = { λ draft. AreIndexes draft.panels.items draft.panel_names draft.field_names };
 }
 
 impl<'a> PanelDraft<'a> {
-    /// Its model, if that is one of 2 to 5.
+    /// Its model; model 2 if its number is none of 2 to 5.
     pub(crate) fn model(&self) -> Model
         ensures { result ≡ model_numbered self.now.model }
     {
@@ -132,7 +137,7 @@ impl<'a> PanelDraft<'a> {
         self.model().alternate()
     }
 
-    /// The name of the panel that is shown in its place; one of model 2 is shown in each session.
+    /// The name of the panel to show in a session of another model; `None` for model 2, which any session shows.
     pub(crate) fn otherwise(&self) -> Option<&'a str>
         ensures { option_map (λ name. name.now) result ≡ otherwise_of self.now }
     {
@@ -143,7 +148,7 @@ impl<'a> PanelDraft<'a> {
         }
     }
 
-    /// Whether its model is none of 2 to 5.
+    /// Whether the number of its model is none of 2 to 5.
     pub(crate) fn has_bad_model(&self) -> bool
         ensures { result ≡ not (is_model_number self.now.model) }
     {
@@ -158,49 +163,49 @@ impl<'a> Draft<'a> {
         self.panels.as_slice().get(index)
     }
 
-    /// The text or field that a part is.
-    pub(crate) fn item(&self, part: Part) -> Option<&ItemDraft<'a>>
+    /// The text or field at a part; `None` if the part is another table, or isn't there.
+    pub(crate) fn item(&self, part: Location) -> Option<&ItemDraft<'a>>
         ensures { option_copied result ≡ item_at part self.now.panels }
     {
         match part {
-            Part::Text(panel, text) => self.panel(panel)?.texts.as_slice().get(text),
-            Part::Field(panel, field) => self.panel(panel)?.fields.as_slice().get(field),
-            Part::Top | Part::Panel(_) | Part::Keys(_) => None,
+            Location::Text(panel, text) => self.panel(panel)?.texts.as_slice().get(text),
+            Location::Field(panel, field) => self.panel(panel)?.fields.as_slice().get(field),
+            Location::Top | Location::Panel(_) | Location::Keys(_) => None,
         }
     }
 
-    /// The size of the screen on which that text or field is laid out; that of model 2 where there is none.
-    pub(crate) fn size(&self, part: Part) -> Size
+    /// The size of the screen on which a text or field is laid out; that of model 2 for any other part.
+    pub(crate) fn size(&self, part: Location) -> Size
         ensures { result ≡ shape_at part self.now.panels }
     {
         match part {
-            Part::Text(panel, _) | Part::Field(panel, _) => {
+            Location::Text(panel, _) | Location::Field(panel, _) => {
                 self.panel(panel).map_or(Size::base(), |panel| panel.size())
             }
-            Part::Top | Part::Panel(_) | Part::Keys(_) => Size::base(),
+            Location::Top | Location::Panel(_) | Location::Keys(_) => Size::base(),
         }
     }
 
-    /// The name of a panel, or of a field.
-    pub(crate) fn name(&self, part: Part) -> Option<&'a str>
+    /// The name of a panel or field; `None` for any other part.
+    pub(crate) fn name(&self, part: Location) -> Option<&'a str>
         ensures { option_map (λ name. name.now) result ≡ name_at part self.now.panels }
     {
         match part {
-            Part::Panel(panel) => Some(self.panel(panel)?.name),
-            Part::Field(_, _) => Some(self.item(part)?.name),
-            Part::Top | Part::Text(_, _) | Part::Keys(_) => None,
+            Location::Panel(panel) => Some(self.panel(panel)?.name),
+            Location::Field(_, _) => Some(self.item(part)?.name),
+            Location::Top | Location::Text(_, _) | Location::Keys(_) => None,
         }
     }
 
-    /// What is wrong with the keys of a part.
-    pub(crate) fn wrong_keys(&self, part: Part) -> Option<TreeFault>
+    /// What is wrong with the keys of a table and the types of their values.
+    pub(crate) fn wrong_keys(&self, part: Location) -> Option<TreeFault>
         ensures { result ≡ wrong_at part self.now }
     {
         match part {
-            Part::Top => self.wrong,
-            Part::Panel(panel) => self.panel(panel)?.wrong,
-            Part::Keys(panel) => self.panel(panel)?.wrong_keys,
-            Part::Text(_, _) | Part::Field(_, _) => self.item(part)?.wrong,
+            Location::Top => self.wrong,
+            Location::Panel(panel) => self.panel(panel)?.wrong,
+            Location::Keys(panel) => self.panel(panel)?.wrong_keys,
+            Location::Text(_, _) | Location::Field(_, _) => self.item(part)?.wrong,
         }
     }
 }

@@ -1,14 +1,16 @@
-//! Where an item of a panel stands.
+//! Extents: the cells that an item of a panel has.
 ghost use Rattle.std.specs.Prelude.{◌≡◌, ◌<◌, ◌≤◌, ◌+◌, ◌&&◌, nat_le};
 ghost use Rattle.codes3270.specs.Size.{most_cells};
 
 use codes3270::{Addr, Model};
 
-/// Where an item stands: the address of its first character, before which its attribute stands, and how many
-/// characters it has. It ends before the row for messages of its panel's screen, and so within the largest screen.
+/// The cells of a text or field of a panel; its attribute is at the address before its first character. It ends before
+/// the message row of its panel's screen, and so within the largest screen.
 #[derive(Clone, Copy, Debug, PartialEq, Eq)]
 pub struct Extent {
+    /// The buffer address of its first character, at least 1.
     pub first: u16,
+    /// How many characters it has, at least 1.
     pub length: u16,
     ghost after_attribute: { 1 ≤ first },
     ghost has_cells: { 1 ≤ length },
@@ -30,9 +32,10 @@ impl Extent {
         Addr::first().forward(self.first, Model::M5.alternate())
     }
 
-    /// Whether it shares a cell with another, each with its attribute.
+    /// Whether it shares a cell with another, their attributes included.
     pub(crate) fn meets(self, other: Extent) -> bool
-        ensures { result ≡ (nat_le self.first (other.first + other.length) && nat_le other.first (self.first + self.length)) }
+        ensures { result
+            ≡ (nat_le self.first (other.first + other.length) && nat_le other.first (self.first + self.length)) }
     {
         self.first <= other.first + other.length && other.first <= self.first + self.length
     }

@@ -1,4 +1,4 @@
-//! Why a text defines no panels, and where.
+//! Why a panel text is refused, and where.
 ghost use Rattle.std.specs.Prelude.{◌≡◌};
 ghost use Rattle.panels.specs.Faults.{place_of};
 ghost use Rattle.panels.specs.Walk.{nth};
@@ -8,93 +8,97 @@ use std::fmt;
 /// What is wrong with a table of a panel text.
 #[derive(Clone, Copy, Debug, PartialEq, Eq)]
 pub enum TreeFault {
+    /// A table has a key that it may not have.
     UnknownKey,
-    /// A key that must stand is absent, or the array of panels is empty.
+    /// A key that must be there is absent, or the array of panels is empty.
     Missing,
     /// A value isn't of its key's TOML type.
     BadKind,
+    /// A name isn't 1 to 16 of `A` to `Z` and `0` to `9` for a panel, or of `a` to `z`, `0` to `9` and `_` for a field.
     BadName,
-    /// An earlier panel, or an earlier field of the whole text, has the name.
+    /// An earlier panel, or an earlier field of any panel, has the name; or `asks` has a key twice, or one of `keys`.
     TwiceNamed,
-    /// The item doesn't lie on the panel's screen above the last row, or its fill is longer than it.
+    /// The item doesn't lie above the last row of the panel's screen, or its fill is longer than the item.
     OutOfPlace,
-    /// The item shares a cell with an earlier one of its panel; texts count before fields.
+    /// The item shares a cell with an earlier one of its panel; texts come before fields.
     Overlap,
-    /// A character has no code.
+    /// A character of a text or a fill has no code in code page 037.
     NoCode,
-    /// A name is of no panel or field, or `otherwise` names no panel of model 2.
+    /// `start`, `cursor`, `show` or a key names no such panel or field, or `otherwise` names no panel of model 2.
     NoTarget,
-    /// A name in the table of keys is of no key.
+    /// A name in `keys` or `asks` is of no key, or `asks` has `clear`.
     BadKey,
-    /// More than 64 panels, or 256 texts or 128 fields of one.
+    /// The text has more than 64 panels, or a panel more than 256 texts or 128 fields.
     TooMany,
-    /// A panel's model is none of 2 to 5.
+    /// The number of a panel's model is none of 2 to 5.
     BadModel,
 }
 
-/// The place of a table in a panel text. Panels, texts and fields count from 0, in the order of the text.
+/// The place of a fault in a panel text. Panels, texts and fields count from 0, in the order of the text.
 #[derive(Clone, Copy, Debug, PartialEq, Eq)]
 pub enum At {
+    /// The text's own table.
     Top,
     Panel(usize),
-    /// A text of a panel.
+    /// A text: the index of its panel, and its own in the panel.
     Text(usize, usize),
-    /// A field of a panel.
+    /// A field: the index of its panel, and its own in the panel.
     Field(usize, usize),
 }
 
-/// A table of a panel text. Panels, texts and fields count from 0.
+/// A table of a panel text. Panels, texts and fields count from 0, in the order of the text.
 #[derive(Clone, Copy, Debug, PartialEq, Eq)]
-pub enum Part {
+pub enum Location {
+    /// The text's own table.
     Top,
     Panel(usize),
-    /// A text of a panel.
+    /// A text: the index of its panel, and its own in the panel.
     Text(usize, usize),
-    /// A field of a panel.
+    /// A field: the index of its panel, and its own in the panel.
     Field(usize, usize),
     /// The table of a panel's keys.
     Keys(usize),
 }
 
-impl Part {
-    /// Where a fault of the table is reported: one of the keys is the panel's.
+impl Location {
+    /// The place at which a fault of this table is reported; for a table of keys it is the panel's.
     pub fn place(self) -> At
         ensures { result ≡ place_of self }
     {
         match self {
-            Part::Top => At::Top,
-            Part::Panel(panel) | Part::Keys(panel) => At::Panel(panel),
-            Part::Text(panel, text) => At::Text(panel, text),
-            Part::Field(panel, field) => At::Field(panel, field),
+            Location::Top => At::Top,
+            Location::Panel(panel) | Location::Keys(panel) => At::Panel(panel),
+            Location::Text(panel, text) => At::Text(panel, text),
+            Location::Field(panel, field) => At::Field(panel, field),
         }
     }
 
-    /// The item at another index of the same array.
-    pub(crate) fn nth(self, index: usize) -> Part
+    /// The item at another index of the same array; a part that is no item stays as it is.
+    pub(crate) fn nth(self, index: usize) -> Location
         ensures { result ≡ nth self index }
     {
         match self {
-            Part::Text(panel, _) => Part::Text(panel, index),
-            Part::Field(panel, _) => Part::Field(panel, index),
-            Part::Top | Part::Panel(_) | Part::Keys(_) => self,
+            Location::Text(panel, _) => Location::Text(panel, index),
+            Location::Field(panel, _) => Location::Field(panel, index),
+            Location::Top | Location::Panel(_) | Location::Keys(_) => self,
         }
     }
 }
 
-/// A fault of a table.
+/// A fault, and the table that has it.
 #[derive(Clone, Copy, Debug, PartialEq, Eq)]
-pub struct PartFault {
+pub struct LocatedFault {
     pub fault: TreeFault,
-    pub part: Part,
+    pub part: Location,
 }
 
 /// Why a text can't be read as panels.
 #[derive(Clone, Copy, Debug, PartialEq, Eq)]
 pub enum PanelFault {
-    /// A growth was refused; this says nothing of the text.
+    /// Memory was refused. This says nothing of the text.
     Memory,
     NotToml,
-    /// The text is TOML, with a fault at a place.
+    /// The text is TOML. The first fault in it is this one, at this place.
     Tree(TreeFault, At),
 }
 

@@ -1,18 +1,19 @@
-//! Where each name of a panel text stands first.
+//! Indexes of the names in a panel text: the first part that has each name.
 ghost use Rattle.std.specs.Prelude.{◌≡◌, ℕ, List, IfOk, OnOk};
 ghost use Rattle.panels.specs.Index.{part_named, noted, AreIndexes};
 
 use crate::draft::PanelDraft;
-use crate::fault::Part;
+use crate::fault::Location;
 use std::alloc::{AllocError, Global};
 use std::collections::BTreeMap;
 
-/// For each name of a kind, the first part of the text with it.
-pub(crate) type NameIndex = BTreeMap<String, Part>;
+/// Maps each name, of panels or of fields, to the first part of the text that has it.
+pub(crate) type NameIndex = BTreeMap<String, Location>;
 
-/// Notes a part, where no earlier one has its name.
-fn note(index: &mut NameIndex, alloc: Global, name: &str, part: Part) -> Result<(), AllocError>
-    ensures { OnOk result ((other : List ℕ) → part_named index.new other ≡ noted (part_named index.old) name.now part other) }
+/// Adds a part under its name, unless an earlier part has this name.
+fn note(index: &mut NameIndex, alloc: Global, name: &str, part: Location) -> Result<(), AllocError>
+    ensures { OnOk result
+        ((other : List ℕ) → part_named index.new other ≡ noted (part_named index.old) name.now part other) }
 {
     if !index.contains_key(name) {
         index.insert(String::from_str(alloc, name)?, part)?;
@@ -20,7 +21,7 @@ fn note(index: &mut NameIndex, alloc: Global, name: &str, part: Part) -> Result<
     Ok(())
 }
 
-/// The names of the panels, and those of the fields of all panels.
+/// The index of the panels' names, and that of the names of all panels' fields.
 pub(crate) fn name_indexes(
     alloc: Global,
     panels: &[PanelDraft],
@@ -31,10 +32,15 @@ pub(crate) fn name_indexes(
     let mut of_fields = BTreeMap::new(alloc);
     for panel in 0..panels.len() {
         let draft = &panels[panel];
-        note(&mut of_panels, alloc, draft.name, Part::Panel(panel))?;
+        note(&mut of_panels, alloc, draft.name, Location::Panel(panel))?;
         for field in 0..draft.fields.len() {
             let item = &draft.fields[field];
-            note(&mut of_fields, alloc, item.name, Part::Field(panel, field))?;
+            note(
+                &mut of_fields,
+                alloc,
+                item.name,
+                Location::Field(panel, field),
+            )?;
         }
     }
     Ok((of_panels, of_fields))

@@ -1,4 +1,4 @@
-//! The items of a panel text, and those that share a cell.
+//! The texts and fields of a panel text: their extents, and whether they share cells.
 ghost use Rattle.std.specs.Prelude.{◌≡◌, ◌↔◌, ◌≤ℤ◌, ◌<ℤ◌, ◌-ℤ◌, ◌<◌, ◌&&◌, ℕ, Some, IsTrue, true, false, MatchOption, pos, chars, length};
 ghost use Rattle.panels.specs.Size.{item_rows, message_start};
 ghost use Rattle.panels.specs.Draft.{DraftItem};
@@ -8,7 +8,7 @@ ghost use Rattle.panels.specs.Walk.{nth};
 
 use crate::draft::{Draft, ItemDraft};
 use crate::extent::Extent;
-use crate::fault::Part;
+use crate::fault::Location;
 use crate::size::{item_rows, message_start};
 use codes3270::{Size, from_latin1};
 
@@ -19,7 +19,7 @@ pub(crate) fn characters_in(text: &str) -> i64
     text.chars().count() as i64
 }
 
-/// How many rows or columns are before one; they count from 1 on.
+/// The 0-based index of a row or column that is numbered from 1 on.
 fn index_of(position: i64) -> u16
     requires low { pos 1 ≤ℤ position }
     requires high { position ≤ℤ pos 65536 }
@@ -28,7 +28,7 @@ fn index_of(position: i64) -> u16
     (position - 1) as u16
 }
 
-/// The address of a row and a column of a screen, both from 1 on.
+/// The buffer address of a row and a column of a screen, both numbered from 1 on.
 fn address_of(size: Size, row: i64, column: i64) -> i64
     requires row_high { row ≤ℤ pos (item_rows size) }
     requires row_low { pos 1 ≤ℤ row }
@@ -46,12 +46,13 @@ fn address_of(size: Size, row: i64, column: i64) -> i64
     i64::from(rows * size.cols() + columns)
 }
 
-/// The extent from an address, where it ends before the message row.
+/// The extent of an item at an address; `None` unless it, with its attribute, is on the screen above the last row.
 fn extent_at(size: Size, first: i64, length: i64) -> Option<Extent>
     requires low { pos 0 ≤ℤ first }
     requires high { first <ℤ pos (message_start size) }
     ensures { MatchOption result (is_above_message size first length ≡ false)
-        (λ extent. (is_above_message size first length ≡ true) × (pos extent.first ≡ first) × (pos extent.length ≡ length)) }
+        (λ extent. (is_above_message size first length ≡ true) × (pos extent.first ≡ first)
+        × (pos extent.length ≡ length)) }
 {
     if first < 1 || length < 1 || i64::from(message_start(size)) - first < length {
         return None;
@@ -63,7 +64,7 @@ fn extent_at(size: Size, first: i64, length: i64) -> Option<Extent>
 }
 
 impl<'a> ItemDraft<'a> {
-    /// Whether it starts in a row and a column above the message row of a screen of this size.
+    /// Whether its row and column are on a screen of this size, above the message row.
     fn is_in_rows(&self, size: Size) -> bool
         ensures { result ≡ is_in_rows size self.now }
     {
@@ -73,7 +74,7 @@ impl<'a> ItemDraft<'a> {
             && self.column <= i64::from(size.cols())
     }
 
-    /// Where it stands, if it lies on a screen of this size.
+    /// Its extent on a screen of this size; `None` if it doesn't lie above the message row.
     pub(crate) fn extent(&self, size: Size) -> Option<Extent>
         ensures { MatchOption result (is_on_screen size self.now ≡ false)
             (λ extent. (is_on_screen size self.now ≡ true) × IsExtentOf size self.now extent) }
@@ -84,7 +85,7 @@ impl<'a> ItemDraft<'a> {
         extent_at(size, address_of(size, self.row, self.column), self.length)
     }
 
-    /// Whether it lies on a screen of this size, and its fill in it.
+    /// Whether it lies above the message row of a screen of this size, and its fill is no longer than it.
     pub(crate) fn stands_in_place(&self, size: Size) -> bool
         ensures { result ≡ is_in_place size self.now }
     {
@@ -99,52 +100,5 @@ impl<'a> ItemDraft<'a> {
         text.chars()
             .chain(self.fill.chars())
             .any(|character| from_latin1(character).is_none())
-    }
-}
-
-impl<'a> Draft<'a> {
-    /// The extent of an item that lies on a screen of this size.
-    fn extent(&self, size: Size, part: Part) -> Option<Extent>
-        ensures { MatchOption result
-            ((item : DraftItem) → item_at part self.now.panels ≡ Some item → is_on_screen size item ≡ false)
-            (λ extent. (item : DraftItem) × (item_at part self.now.panels ≡ Some item) × (is_on_screen size item ≡ true) × IsExtentOf size item extent) }
-    {
-        self.item(part)?.extent(size)
-    }
-
-    /// Whether an item of an extent shares a cell with one of the first of an array, of which one is given, on a screen of this
-    /// size.
-    fn meets_one(&self, size: Size, extent: Extent, array: Part, count: usize) -> bool
-        ensures { (item : DraftItem) → (is_on_screen size item ≡ true) × IsExtentOf size item extent
-            → (IsTrue result ↔ ((j : ℕ) × (other : DraftItem) × (j < count) × (item_at (nth array j) self.now.panels ≡ Some other) × Overlaps size item other)) }
-    {
-        for index in 0..count {
-            let Some(other) = self.extent(size, array.nth(index)) else {
-                continue;
-            };
-            if extent.meets(other) {
-                return true;
-            }
-        }
-        false
-    }
-
-    /// Whether an earlier item of its panel shares a cell with a text or a field.
-    pub(crate) fn is_overlapping(&self, part: Part) -> bool
-        ensures { IsTrue result ↔ IsOverlapping part self.now.panels }
-    {
-        let size = self.size(part);
-        let Some(extent) = self.extent(size, part) else {
-            return false;
-        };
-        match part {
-            Part::Text(_, text) => self.meets_one(size, extent, part, text),
-            Part::Field(panel, field) => {
-                let texts = self.panel(panel).map_or(0, |draft| draft.texts.len());
-                self.meets_one(size, extent, Part::Text(panel, 0), texts)
-                    || self.meets_one(size, extent, part, field)
-            }
-            Part::Top | Part::Panel(_) | Part::Keys(_) => false,
-        }
     }
 }

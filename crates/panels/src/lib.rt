@@ -1,4 +1,8 @@
-//! Panels: what a host shows, read from a TOML text. docs/PROTOCOL.md ("Panel texts") has all that such a text may have.
+//! Panels: the screens that a host shows, defined by a TOML text (docs/PROTOCOL.md, "Panel texts").
+//!
+//! [`PanelSet::read`] turns a text into panels, or refuses it for its first fault. [`Panel::wanted`] turns a panel, the
+//! values of its fields and a message into the screen that the host wants, and [`Panel::next`] says where a key leads.
+//! The crate `shadow` writes the command for that screen; `panel_check` reports all faults of a text, with their lines.
 //!
 //! ```rust
 //! // start = "ASK"
@@ -10,10 +14,10 @@
 //! // field = [{ name = "visitor", row = 1, col = 8, length = 20 }]
 //! // keys = { enter = "ASK" }
 //! //
-//! // A text that isn't right is refused by its first fault, which prints as `panel 0 field 0: Overlap`.
+//! // A text with a fault is refused for the first one, which prints as `panel 0 field 0: Overlap`.
 //! let panels = PanelSet::read(alloc, text)?;
 //!
-//! // What the first panel asks the screen to be, where no field has a value yet.
+//! // The screen that the first panel asks for while no field has a value.
 //! if let Some(panel) = panels.panel(panels.start()) {
 //!     let wanted = panel.wanted(&Values::new(alloc), Message::Fresh, false);
 //!     assert!(rt; wanted.want(Addr::first().next(wanted.size())) == Want::Char(0xe6));
@@ -23,8 +27,8 @@
 //! }
 //! ```
 //!
-//! `specs/Panel` says what panels are, `Defines` which text defines them, `Faults`, `Passes` and `Turns` which fault is reported,
-//! `Listing` what all faults of a text are, and `Screen` what a panel asks for.
+//! `specs/Panel` says what panels are, `Defines` which text defines them, `Faults`, `Passes` and `Turns` which fault is
+//! reported, `Listing` what all faults of a text are, and `Screen` what a panel asks for.
 #![tactic(auto)]
 
 mod build;
@@ -53,7 +57,7 @@ mod values;
 
 pub use characters::Characters;
 pub use extent::Extent;
-pub use fault::{At, PanelFault, Part, PartFault, TreeFault};
+pub use fault::{At, LocatedFault, Location, PanelFault, TreeFault};
 pub use message::Message;
 pub use message_text::{MOST_MESSAGE, MessageText};
 pub use name::Name;

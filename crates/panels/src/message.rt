@@ -7,16 +7,17 @@ use crate::message_text::MessageText;
 /// Why a panel is shown, and the message to the operator.
 #[derive(Clone, Copy, Debug)]
 pub enum Message {
-    /// The panel is fresh: its fields have their fills, and there is no text.
+    /// The panel is fresh: its fields have their fills, and there is no message.
     Fresh,
-    /// The panel is shown again, without a text.
+    /// The panel is shown again, without a message.
     Plain,
-    /// The same, after a key that leads nowhere.
+    /// The panel is shown again after a key that leads nowhere, with the message `KEY NOT ACTIVE`.
     KeyNotActive,
-    /// The same, as the field with this number, over the whole text, must be filled in.
+    /// The panel is shown again as the field with this number, from 0 over the whole text, must be filled in. The
+    /// message is `REQUIRED: ` and the field's name, and the cursor is at the field's first character.
     Required(usize),
-    /// The panel is shown with what an application answered: with this text, and with the cursor at the beginning of the field
-    /// with this number, over the whole text; if there is none, at the panel's own place.
+    /// The panel is shown with this message of an application. The cursor is at the first character of the field with
+    /// this number, from 0 over the whole text, if the panel has it; else at the panel's own place.
     Told(MessageText, Option<usize>),
 }
 
@@ -28,7 +29,7 @@ impl Message {
         matches!(self, Message::Fresh)
     }
 
-    /// The number of the field that it speaks of, or has the cursor in.
+    /// The number of the field that the message names, or puts the cursor in, if any.
     pub(crate) fn field(&self) -> Option<usize>
         ensures { result ≡ field_meant self.now }
     {

@@ -1,21 +1,20 @@
-//! The text of a message that an application tells.
+//! The text of a message from an application.
 ghost use Rattle.std.specs.Prelude.{◌≡◌};
 ghost use Rattle.panels.specs.MessageText.{message_of};
 
-/// How many characters a message may have: as many as the longest last row that a 3278 has, that of 132 columns, behind its
-/// attribute.
+/// The most characters of a message: the longest last row of a 3278 has 132 columns, one of which its attribute takes.
 pub const MOST_MESSAGE: usize = 131;
 
-/// The text of a message.
+/// The text of an application's message to the operator.
 #[derive(Clone, Copy, Debug)]
 pub struct MessageText {
-    /// Characters from U+0000 to U+00FF, each as one byte, with nulls behind the text's end. One that code page 037 doesn't have
-    /// is shown as a null.
+    /// Characters from U+0000 to U+00FF, one in each byte, with nulls after the text's end. A character that code page
+    /// 037 doesn't have is shown as a null.
     pub characters: [u8; MOST_MESSAGE],
 }
 
 impl MessageText {
-    /// The first 131 of these characters, from U+0000 to U+00FF.
+    /// The first 131 of these characters, each a byte for U+0000 to U+00FF; nulls fill up a shorter text.
     pub fn new(text: &[u8]) -> MessageText
         ensures { result.characters ≡ message_of text.now }
     {

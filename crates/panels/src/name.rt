@@ -4,7 +4,7 @@ ghost use Rattle.std.specs.Prelude.{◌≡◌, List, ℕ, string_bytes, IfOk};
 use std::alloc::{AllocError, Global};
 use std::marker::Model;
 
-/// The name of a panel or of a field. What it is known by is its text alone, wherever that lies.
+/// The name of a panel or of a field. Contracts see its text.
 #[derive(Debug, Drop)]
 pub struct Name {
     text: String,
@@ -17,7 +17,7 @@ impl Model for Name {
 }
 
 impl Name {
-    /// The name that a text says.
+    /// A name with this text.
     pub(crate) fn of_text(alloc: Global, text: &str) -> Result<Name, AllocError>
         ensures { IfOk result (λ name. name ≡ text.now) }
     {
@@ -25,6 +25,7 @@ impl Name {
         Ok(Name { text })
     }
 
+    /// The name's text.
     pub fn as_str(&self) -> &str
         ensures { result.now ≡ self.now }
     {

@@ -1,31 +1,31 @@
-//! The names of a panel text, and what they stand for.
+//! The names in a panel text, and the panels, fields and keys that have them.
 ghost use Rattle.std.specs.Prelude.{◌≡◌, ◌↔◌, List, ℕ, Some, IsTrue, Contains, MatchOption, bytes_eq, map, not, option_map, pos};
 ghost use Rattle.std.specs.List.{list_any};
 ghost use Rattle.panels.specs.Items.{is_name as is_name_by};
 ghost use Rattle.panels.specs.Keys.{is_asked_name, is_key_name};
-ghost use Rattle.panels.specs.declared.fault.Part.TheVariants as part;
+ghost use Rattle.panels.specs.declared.fault.Location.TheVariants as part;
 ghost use Rattle.panels.specs.Faults.{HasFieldNamed, HasLostCursor, has_key_twice, has_strange_key, asks_twice, HasLostOtherwise, IsBasePanelNamed, NamesBasePanel, NamesPanel, NamesField, name_at};
 ghost use Rattle.panels.specs.Index.{IsLater};
 ghost use Rattle.panels.specs.Walk.{is_letter_of};
 
 use crate::draft::{Draft, ItemDraft, PanelDraft};
-use crate::fault::Part;
+use crate::fault::Location;
 use crate::index::NameIndex;
 
-/// Whether the name of a panel, or of a field, may have a letter.
-fn is_letter(part: Part, letter: u8) -> bool
+/// Whether a letter may be in the name of a panel, or of a field.
+fn is_letter(part: Location, letter: u8) -> bool
     ensures { result ≡ is_letter_of part letter }
 {
     match part {
-        Part::Panel(_) => matches!(letter, b'A'..=b'Z' | b'0'..=b'9'),
-        Part::Top | Part::Text(_, _) | Part::Field(_, _) | Part::Keys(_) => {
+        Location::Panel(_) => matches!(letter, b'A'..=b'Z' | b'0'..=b'9'),
+        Location::Top | Location::Text(_, _) | Location::Field(_, _) | Location::Keys(_) => {
             matches!(letter, b'a'..=b'z' | b'0'..=b'9' | b'_')
         }
     }
 }
 
-/// Whether a panel, or a field, may have a name.
-pub(crate) fn is_name(part: Part, name: &str) -> bool
+/// Whether a panel, or a field, may have a name: 1 to 16 letters of those that its kind allows.
+pub(crate) fn is_name(part: Location, name: &str) -> bool
     ensures { result ≡ is_name_by (is_letter_of part) name.now }
 {
     (1..=16).contains(&name.len()) && name.bytes().all(|letter| is_letter(part, letter))
@@ -45,7 +45,7 @@ fn is_asked_name(name: &str) -> bool
     is_among(&KEY_NAMES, name) && name != "clear"
 }
 
-/// Whether a name stands twice.
+/// Whether a name occurs twice.
 fn has_repeat(names: &[&str]) -> bool
     ensures { result ≡ asks_twice (map (λ name. name.now) names.now) }
 {
@@ -63,67 +63,11 @@ pub(crate) fn is_among(names: &[&str], name: &str) -> bool
     names.iter().any(|known| name == *known)
 }
 
-/// Whether a name stands earlier in the text.
-pub(crate) fn is_later(index: &NameIndex, name: Option<&str>, part: Part) -> bool
+/// Whether another part is the first with this name.
+pub(crate) fn is_later(index: &NameIndex, name: Option<&str>, part: Location) -> bool
     ensures { IsTrue result ↔ IsLater index.now (option_map (λ n. n.now) name.entry) part }
 {
     name.is_some_and(|name| index.get(name).is_some_and(|first| *first != part))
-}
-
-impl<'a> Draft<'a> {
-    /// The first panel with a name.
-    pub(crate) fn panel_named(&self, name: &str) -> Option<usize>
-        ensures { MatchOption result (¬ NamesPanel name.now self.now.panels) (λ panel. name_at (part.Panel panel) self.now.panels ≡ Some name.now) }
-    {
-        match self.panel_names.get(name)? {
-            Part::Panel(panel) => Some(*panel),
-            _ => None,
-        }
-    }
-
-    /// The first panel of model 2 with a name.
-    pub(crate) fn base_panel_named(&self, name: &str) -> Option<usize>
-        ensures { MatchOption result (¬ NamesBasePanel name.now self.now.panels) (IsBasePanelNamed self.now.panels name.now) }
-    {
-        for index in 0..self.panels.len() {
-            if self.panels[index].is_base_named(name) {
-                return Some(index);
-            }
-        }
-        None
-    }
-
-    /// Whether the panel that is shown in a panel's place is none of model 2.
-    pub(crate) fn has_lost_otherwise(&self, panel: &PanelDraft) -> bool
-        ensures { IsTrue result ↔ HasLostOtherwise panel.now self.now.panels }
-    {
-        match panel.otherwise() {
-            Some(name) => self.base_panel_named(name).is_none(),
-            None => false,
-        }
-    }
-
-    /// The first field with a name: its panel, and its position there.
-    pub(crate) fn field_named(&self, name: &str) -> Option<(usize, usize)>
-        ensures { MatchOption result (¬ NamesField name.now self.now.panels) (λ at. name_at (part.Field at.0 at.1) self.now.panels ≡ Some name.now) }
-    {
-        match self.field_names.get(name)? {
-            Part::Field(panel, field) => Some((*panel, *field)),
-            _ => None,
-        }
-    }
-
-    /// Whether one of a panel's keys leads to no panel.
-    pub(crate) fn has_lost_key(&self, panel: &PanelDraft) -> bool
-        ensures { IsTrue result ↔ ((key : List ℕ × List ℕ) × Contains panel.now.keys key × (¬ NamesPanel key.1 self.now.panels)) }
-    {
-        for key in &panel.keys {
-            if self.panel_named(key.1).is_none() {
-                return true;
-            }
-        }
-        false
-    }
 }
 
 impl<'a> ItemDraft<'a> {
@@ -135,35 +79,35 @@ impl<'a> ItemDraft<'a> {
 }
 
 impl<'a> PanelDraft<'a> {
-    /// Whether it is of model 2, and has a name.
-    fn is_base_named(&self, name: &str) -> bool
+    /// Whether it is of model 2 and has this name.
+    pub(crate) fn is_base_named(&self, name: &str) -> bool
         ensures { IsTrue result ↔ ((self.now.model ≡ pos 2) × (self.now.name ≡ name.now)) }
     {
         self.model == 2 && self.name == name
     }
 
-    /// Whether a name in its table of keys is of no key.
+    /// Whether its `keys` have a name that is of no key.
     fn leads_from_no_key(&self) -> bool
         ensures { result ≡ list_any (λ key. not (is_key_name key.0)) self.now.keys }
     {
         self.keys.iter().any(|key| !is_among(&KEY_NAMES, key.0))
     }
 
-    /// Whether it asks about what is no key, or about Clear.
+    /// Whether its `asks` have a name that is of no key, or `clear`.
     fn asks_about_no_key(&self) -> bool
         ensures { result ≡ list_any (λ name. not (is_asked_name name)) self.now.asks }
     {
         self.asks.iter().any(|name| !is_asked_name(*name))
     }
 
-    /// Whether it leads from what is no key, or asks about it, or about Clear.
+    /// Whether its `keys` or `asks` have a name that is of no key, or its `asks` have `clear`.
     pub(crate) fn has_strange_key(&self) -> bool
         ensures { result ≡ has_strange_key self.now }
     {
         self.leads_from_no_key() || self.asks_about_no_key()
     }
 
-    /// Whether one of its keys leads to a panel, and it asks about it, too.
+    /// Whether a key is both in its `keys` and in its `asks`.
     fn leads_and_asks(&self) -> bool
         ensures { result ≡ list_any (λ key. list_any (bytes_eq key.0) self.now.asks) self.now.keys }
     {
@@ -172,7 +116,7 @@ impl<'a> PanelDraft<'a> {
             .any(|key| is_among(self.asks.as_slice(), key.0))
     }
 
-    /// Whether it asks about a key twice, or about one that leads to a panel.
+    /// Whether its `asks` have a key twice, or one that its `keys` have too.
     pub(crate) fn has_key_twice(&self) -> bool
         ensures { result ≡ has_key_twice self.now }
     {
@@ -190,7 +134,7 @@ impl<'a> PanelDraft<'a> {
         false
     }
 
-    /// Whether `cursor` names no field of it.
+    /// Whether its `cursor` names none of its fields.
     pub(crate) fn has_lost_cursor(&self) -> bool
         ensures { IsTrue result ↔ HasLostCursor self.now }
     {

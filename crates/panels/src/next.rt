@@ -8,17 +8,17 @@ use codes3270::Aid;
 /// Where a key leads.
 #[derive(Clone, Copy, Debug, PartialEq, Eq)]
 pub enum Next {
-    /// To the panel at this index.
+    /// To the panel with this index.
     Go(usize),
-    /// To what the application decides.
+    /// Where the application decides.
     Ask,
-    /// To the same panel again.
+    /// Nowhere: the same panel is shown again.
     Again,
 }
 
 impl Panel {
-    /// Where a key leads: to what the application decides, if the panel asks about it; to the panel that the table of keys names for it;
-    /// else to the same panel again.
+    /// Where a key leads: `Ask` if the panel leaves it to the application; else to the panel that its table of keys
+    /// names for the key; else `Again`.
     pub fn next(&self, aid: Aid) -> Next
         ensures { result ≡ next_of self.now aid }
     {

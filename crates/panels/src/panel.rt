@@ -1,4 +1,4 @@
-//! What a panel has.
+//! Panels and their items.
 ghost use Rattle.std.specs.Prelude.{◌≡◌, option_copied};
 ghost use Rattle.panels.specs.Names.{field_in};
 ghost use Rattle.panels.specs.Panel.{is_shown, shape_of};
@@ -14,7 +14,7 @@ use std::marker;
 #[derive(Debug, Drop)]
 pub(crate) enum Content {
     Literal(Characters),
-    /// The value of the field with this number.
+    /// The value of the field with this number, from 0 over the whole text.
     Show(usize),
 }
 
@@ -33,28 +33,31 @@ pub struct Field {
     pub number: usize,
     /// 1 to 16 of `a` to `z`, `0` to `9` and `_`, unique over the whole text.
     pub name: Name,
+    /// Its cells on the panel's screen.
     pub extent: Extent,
+    /// Whether its attribute is numeric.
     pub numeric: bool,
+    /// Whether its characters aren't displayed, as those of a password.
     pub hidden: bool,
     /// Whether it must be filled in before Enter.
     pub required: bool,
-    /// Whether its attribute says from the start that it is modified.
+    /// Whether its attribute always has MDT on when the panel is shown.
     pub marked: bool,
-    /// What it is written with if the panel is shown fresh.
+    /// What it is written with if the panel is fresh, or if it has no value.
     pub fill: Characters,
 }
 
-/// A panel: a screen's texts, its fields, and where each key leads. It is laid out on the alternate size of its model.
+/// A panel: the texts and fields of a screen, and where each key leads. Its screen has the alternate size of its model.
 #[derive(Debug, Drop)]
 pub struct Panel {
     pub(crate) name: Name,
     pub(crate) model: Model,
-    /// The panel that is shown in its place in a session of another model, if its own isn't 2.
+    /// The index of the panel that is shown instead in a session of another model; `None` for model 2.
     pub(crate) otherwise: Option<usize>,
     pub(crate) texts: Vec<TextItem>,
     pub(crate) fields: Vec<Field>,
     pub(crate) cursor: Addr,
-    /// The panel that each key leads to, in the order of `KEY_NAMES`.
+    /// The index of the panel that each key leads to, in the order of `KEY_NAMES`.
     pub(crate) targets: Vec<Option<usize>>,
     /// Whether the application decides on each key, in the same order.
     pub(crate) asked: Vec<bool>,
@@ -65,9 +68,27 @@ impl marker::Model for Panel {
 
     ghost Value = { PanelParts };
 
-    ghost view = { λ panel. record { name = panel.name; model = panel.model; otherwise = panel.otherwise; texts = panel.texts.items; fields = panel.fields.items; cursor = panel.cursor; targets = panel.targets.items; asked = panel.asked.items } };
+    ghost view = { λ panel. record {
+      name = panel.name;
+      model = panel.model;
+      otherwise = panel.otherwise;
+      texts = panel.texts.items;
+      fields = panel.fields.items;
+      cursor = panel.cursor;
+      targets = panel.targets.items;
+      asked = panel.asked.items;
+    } };
 
-    ghost invariant = { λ panel. IsLaidOut (record { name = panel.name; model = panel.model; otherwise = panel.otherwise; texts = panel.texts.items; fields = panel.fields.items; cursor = panel.cursor; targets = panel.targets.items; asked = panel.asked.items }) };
+    ghost invariant = { λ panel. IsLaidOut (record {
+      name = panel.name;
+      model = panel.model;
+      otherwise = panel.otherwise;
+      texts = panel.texts.items;
+      fields = panel.fields.items;
+      cursor = panel.cursor;
+      targets = panel.targets.items;
+      asked = panel.asked.items;
+    }) };
 }
 
 impl Panel {
@@ -78,7 +99,7 @@ impl Panel {
         &self.name
     }
 
-    /// The model of the sessions in which it is shown; one of model 2 is shown in all.
+    /// The model whose sessions show it; any session shows a panel of model 2.
     pub fn model(&self) -> Model
         ensures { result ≡ self.now.model }
     {
@@ -92,7 +113,7 @@ impl Panel {
         self.model.alternate()
     }
 
-    /// Whether it is shown in a session of a model: if it is of model 2, or of that one.
+    /// Whether a session of this model shows it: if it is of model 2, or of the session's model.
     pub(crate) fn is_shown(&self, session: Model) -> bool
         ensures { result ≡ is_shown self.now.model session }
     {
@@ -102,7 +123,7 @@ impl Panel {
         }
     }
 
-    /// Its field with a name.
+    /// Its field with a name, if it has one.
     pub fn field_named(&self, name: &str) -> Option<&Field>
         ensures { option_copied result ≡ field_in name.now self.now }
     {

@@ -11,7 +11,7 @@ use crate::panel::{Field, Panel};
 use codes3270::Model;
 use std::marker;
 
-/// The panels of a text. The first panel and each key's target are there.
+/// The panels that a text defines. The first panel and each key's target are in the set.
 #[derive(Debug, Drop)]
 pub struct PanelSet {
     pub(crate) start: usize,
@@ -22,9 +22,11 @@ pub struct PanelSet {
 impl marker::Model for PanelSet {
     ghost Value = { Panels };
 
-    ghost view = { λ set. record { start = set.start; lus = map string_bytes set.lus.items; panels = set.panels.items } };
+    ghost view = { λ set.
+        record { start = set.start; lus = map string_bytes set.lus.items; panels = set.panels.items } };
 
-    ghost invariant = { λ set. AreSound (record { start = set.start; lus = map string_bytes set.lus.items; panels = set.panels.items }) };
+    ghost invariant = { λ set. AreSound
+        (record { start = set.start; lus = map string_bytes set.lus.items; panels = set.panels.items }) };
 }
 
 impl PanelSet {
@@ -36,7 +38,7 @@ impl PanelSet {
         self.start
     }
 
-    /// The names of the LUs, as the text has them.
+    /// The names of the LUs, in the order of the text. They aren't checked here; `lu_pool` does that.
     pub fn lus(&self) -> &[String]
         ensures { map string_bytes result.now ≡ self.now.lus }
     {
@@ -50,12 +52,13 @@ impl PanelSet {
         self.panels.len()
     }
 
-    /// The panel at an index.
+    /// The panel at an index, from 0 on in the order of the text.
     pub fn panel(&self, index: usize) -> Option<&Panel>
         ensures panel { option_copied result ≡ slice_get self.now.panels index }
 
         // Its keys lead to panels of the set.
-        ensures targets { IfSome result (λ panel. (aid : Aid) (target : ℕ) → IsKey aid → target_of panel.now aid ≡ Some target → target < length self.now.panels) }
+        ensures targets { IfSome result (λ panel. (aid : Aid) (target : ℕ) → IsKey aid
+            → target_of panel.now aid ≡ Some target → target < length self.now.panels) }
 
         // Its cursor is on its screen.
         ensures cursor { IfSome result (λ panel. panel.now.cursor < cells_in (shape_of panel.now)) }
@@ -63,7 +66,7 @@ impl PanelSet {
         self.panels.as_slice().get(index)
     }
 
-    /// The index of the panel with a name.
+    /// The index of the panel with a name, if there is one.
     pub fn panel_named(&self, name: &str) -> Option<usize>
         ensures { result ≡ panel_named name.now self.now }
     {
@@ -72,7 +75,7 @@ impl PanelSet {
             .position(|panel| panel.name.as_str() == name)
     }
 
-    /// The field with a name, of any panel.
+    /// The field with a name, of any panel, if there is one.
     pub fn field_named(&self, name: &str) -> Option<&Field>
         ensures { option_copied result ≡ field_named name.now self.now }
     {
@@ -84,13 +87,13 @@ impl PanelSet {
         None
     }
 
-    /// The panel that is shown, in a session of a model, where the one at an index is asked for: that one if it is of model 2 or
-    /// of the session's, else its `otherwise`, which is of model 2.
+    /// The index of the panel that a session of this model shows for the one at `index`, which must be below `len`:
+    /// that panel if it is of model 2 or of the session's model, else its `otherwise`, which is of model 2.
     pub fn shown(&self, index: usize, session: Model) -> usize
         requires { index < length self.now.panels }
         ensures shown { result ≡ shown_in self.now session index }
         ensures in_range { result < length self.now.panels }
-        // It is shown as it is, and on no other panel's account.
+        // A session of this model shows it as it is.
         ensures fits { IfSome (slice_get self.now.panels result) (λ panel. IsTrue (is_shown panel.model session)) }
     {
         let panel = &self.panels[index];
@@ -100,10 +103,10 @@ impl PanelSet {
         panel.otherwise.unwrap_or(index)
     }
 
-    /// Law: the first panel and each key's target are there; each panel that isn't of model 2 has one of model 2 in its place; on
-    /// the screen of its model each panel's items lie above the row for messages, and its cursor on the screen; all its texts and
-    /// fills are characters that a cell can hold; no two of its items share a cell, and no two of its fields have the same
-    /// number.
+    /// Law: the set has the first panel and each key's target; each panel that isn't of model 2 has one of model 2 as
+    /// its `otherwise`; each panel's items lie above the message row of its model's screen, and its cursor is on that
+    /// screen; all its texts and fills are characters that a cell can hold; no two of its items share a cell, and no
+    /// two of its fields have the same number.
     pub fn panels_are_sound(&self)
         ensures { AreSound self.now }
     {

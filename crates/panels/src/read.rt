@@ -9,19 +9,19 @@ ghost use Rattle.panels.specs.Defines.{Defines, IsReadFrom};
 
 use crate::decode::decode;
 use crate::draft::Draft;
-use crate::fault::{PanelFault, PartFault};
+use crate::fault::{LocatedFault, PanelFault};
 use crate::panel_set::PanelSet;
 use std::alloc::{AllocError, Global};
 use toml::Table;
 
-/// The first of these faults.
-fn first_of(found: &[PartFault]) -> Option<PartFault>
+/// The first of these faults, if there is one.
+fn first_of(found: &[LocatedFault]) -> Option<LocatedFault>
     ensures { result ≡ slice_get found.now 0 }
 {
     found.first().copied()
 }
 
-/// Refuses a draft for its first fault.
+/// Refuses a draft that has a fault, for the first one.
 fn check(alloc: Global, draft: &Draft) -> Result<(), PanelFault>
     ensures clean { OnOk result (IsFaultless draft.now) }
     ensures fault { IfErr result (IsReasonIn draft.now) }
@@ -36,9 +36,10 @@ fn check(alloc: Global, draft: &Draft) -> Result<(), PanelFault>
     }
 }
 
-/// The panels that a tree defines, or the first fault in it.
+/// The panels that a TOML tree defines, or its first fault.
 fn read_tree(alloc: Global, top: &Table) -> Result<PanelSet, PanelFault>
-    ensures panels { IfOk result (λ set. IsFaultless (draft_of (table_view top.now)) × Defines (draft_of (table_view top.now)) set) }
+    ensures panels { IfOk result
+        (λ set. IsFaultless (draft_of (table_view top.now)) × Defines (draft_of (table_view top.now)) set) }
     ensures fault { IfErr result (IsReasonIn (draft_of (table_view top.now))) }
     ensures first { IfErr result (IsFirstIn (draft_of (table_view top.now))) }
 {
@@ -47,26 +48,27 @@ fn read_tree(alloc: Global, top: &Table) -> Result<PanelSet, PanelFault>
     draft.build(alloc).map_err(|_| PanelFault::Memory)
 }
 
-/// All faults of a panel text, each once, in the order in which `PanelSet::read` looks for them; it refuses a text for the first. What is
-/// absent, or has a value of another type, counts as 0, unset or no text, and may have faults for that, too.
+/// All faults of a panel text, each once, in the order in which `PanelSet::read` looks for them; that refuses the text
+/// for the first. A value that is absent, or of another type, counts as 0, false or no text, and may have faults for
+/// that, too.
 ///
 /// Err only if memory is refused.
-pub fn faults(alloc: Global, top: &Table) -> Result<Vec<PartFault>, AllocError>
+pub fn faults(alloc: Global, top: &Table) -> Result<Vec<LocatedFault>, AllocError>
     ensures { IfOk result (λ found. AreFaultsOf (draft_of (table_view top.now)) found.items) }
 {
     decode(alloc, top)?.faults(alloc)
 }
 
 impl PanelSet {
-    /// The panels that a TOML text defines. Faults are looked for in passes: that it is TOML, then keys and types, numbers,
-    /// names, models, places and characters, overlaps, and targets. A pass goes from table to table: the text's own, then panel by panel
-    /// the panel's, its texts', its fields' and its keys'. The first fault is answered. `Memory` is answered where a growth was
-    /// refused.
+    /// The panels that a TOML text defines, or the first fault of the text (our profile). Passes look for faults in
+    /// this order: TOML; keys and types; numbers of items; names; models, places and characters; overlaps; targets. A
+    /// pass goes from table to table: the text's own, then panel by panel the panel's, its texts', its fields' and its
+    /// keys'. Err is `Memory` if memory is refused.
     pub fn read(alloc: Global, text: &str) -> Result<PanelSet, PanelFault>
         ensures panels { IfOk result (IsReadFrom text.now) }
         ensures fault { IfErr result (IsReason text.now) }
 
-        // It is the first: nothing that is looked for sooner stands.
+        // It is the first fault: the text has none that is looked for sooner.
         ensures first { IfErr result (IsFirstOf text.now) }
     {
         match toml::table_from_str(alloc, text) {

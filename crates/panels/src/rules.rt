@@ -1,5 +1,5 @@
-//! Which keys the tables of a panel text have, and values of which types. [`PanelSet::read`](crate::PanelSet::read) refuses a
-//! text with a table that breaks these rules. A checker of panel texts can find all faults of keys by the same rules.
+//! Which keys the tables of a panel text have, and values of which types. [`PanelSet::read`](crate::PanelSet::read)
+//! refuses a text with a table that breaks these rules. A checker of panel texts can find all faults of keys by them.
 //!
 //! ```rust
 //! // The first table must have a key `lus`, and its value must be an array of strings.
@@ -18,13 +18,13 @@ use crate::fault::TreeFault;
 use crate::tree::value_at;
 use toml::{Table, Value};
 
-/// What type the value of a key has.
+/// The TOML type that the value of a key must have: a string, an integer, a boolean, an array or a table.
 #[derive(Clone, Copy, Debug, PartialEq, Eq)]
 pub enum KeyKind {
     Text,
     Integer,
     Truth,
-    /// An array of texts.
+    /// An array of strings.
     Texts,
     /// An array of tables.
     Tables,
@@ -48,7 +48,7 @@ impl KeyKind {
     }
 }
 
-/// A key that a table may have, and the type of its value.
+/// A rule for one key of a table: whether the table must have it, and the type of its value.
 pub enum KeyRule {
     /// The table must have the key.
     Must(&'static str, KeyKind),
@@ -75,7 +75,7 @@ impl KeyRule {
         }
     }
 
-    /// Whether the table must have the key and lacks it. An empty array where an array of tables must be counts as lacking.
+    /// Whether the table must have the key and lacks it. An empty array counts as absent if the rule asks for tables.
     pub fn is_missing_in(&self, table: &Table) -> bool
         ensures { result ≡ is_missing (rule_of self.now) (table_view table.now) }
     {
@@ -154,14 +154,14 @@ static FIELD_RULES: [KeyRule; 9] = [
     KeyRule::May("marked", KeyKind::Truth),
 ];
 
-/// The rules for the whole text.
+/// The rules for the text's own table.
 pub fn top_rules() -> &'static [KeyRule]
     ensures { map rule_of result.now ≡ top_rules }
 {
     &TOP_RULES
 }
 
-/// The rules for a panel, by its model, 2 if it has none.
+/// The rules for a panel's table, which depend on its `model`, 2 if it has none.
 pub fn panel_rules(panel: &Table) -> &'static [KeyRule]
     ensures { map rule_of result.now ≡ panel_rules (table_view panel.now) }
 {
@@ -172,7 +172,7 @@ pub fn panel_rules(panel: &Table) -> &'static [KeyRule]
     }
 }
 
-/// The rules for a text of a panel, which has its own text or shows a field.
+/// The rules for a text of a panel: for one with its own text, or for one that shows a field.
 pub fn text_rules(text: &Table) -> &'static [KeyRule]
     ensures { map rule_of result.now ≡ text_rules (table_view text.now) }
 {
@@ -190,7 +190,7 @@ pub fn field_rules() -> &'static [KeyRule]
     &FIELD_RULES
 }
 
-/// The rules for an item of an array: of fields, or of texts.
+/// The rules for an item of an array: of fields if the array's key is `field`, else of texts.
 pub(crate) fn item_rules(array: &str, table: &Table) -> &'static [KeyRule]
     ensures { map rule_of result.now ≡ rules_of_item array.now (table_view table.now) }
 {
@@ -208,7 +208,7 @@ pub fn knows_key(rules: &[KeyRule], key: &str) -> bool
     rules.iter().any(|rule| rule.key() == key)
 }
 
-/// Whether there is no value, or no table in an array that must have some.
+/// Whether a value is absent, or is an empty array although the rule asks for tables.
 fn is_nothing(kind: KeyKind, value: Option<&Value>) -> bool
     ensures { result ≡ is_lacking kind (option_map (λ value. view value.now) value.entry) }
 {
@@ -219,14 +219,14 @@ fn is_nothing(kind: KeyKind, value: Option<&Value>) -> bool
     }
 }
 
-/// Whether a key is absent that the table must have.
+/// Whether the table lacks a key that it must have.
 fn any_key_absent(rules: &[KeyRule], table: &Table) -> bool
     ensures { result ≡ breaks_needs (map rule_of rules.now) (table_view table.now) }
 {
     rules.iter().any(|rule| rule.is_missing_in(table))
 }
 
-/// Whether the key of a rule has a value of another type.
+/// Whether a key has a value of another type than its rule says.
 fn any_value_misfits(rules: &[KeyRule], table: &Table) -> bool
     ensures { result ≡ breaks_kinds (map rule_of rules.now) (table_view table.now) }
 {
@@ -237,8 +237,8 @@ fn any_value_misfits(rules: &[KeyRule], table: &Table) -> bool
     })
 }
 
-/// What is wrong with the keys of a table and their values: one that its rules don't have, one that is absent, a value of another
-/// type.
+/// What is wrong with the keys of a table: a key without a rule; else a key that must be there and is absent; else a
+/// value of another type.
 pub(crate) fn wrong_by(rules: &[KeyRule], table: &Table) -> Option<TreeFault>
     ensures { result ≡ fault_by (map rule_of rules.now) (table_view table.now) }
 {

@@ -1,9 +1,9 @@
-//! The screen that a panel asks for.
+//! The screens that panels ask for.
 ghost use Rattle.std.specs.Prelude.{◌≡◌, ◌<◌, ℕ, All, true, false, IfSome, option_map, replicate, slice_index_or, option_copied};
 ghost use Rattle.codes3270.specs.Size.{cells_in};
 ghost use Rattle.codes3270.specs.Storable.{is_storable};
 ghost use Rattle.datastream.specs.Wanted.{IsProper};
-ghost use Rattle.datastream.specs.declared.wanted.Want.{Want as Wish};
+ghost use Rattle.datastream.specs.declared.wanted.Want.{Want as WantValue};
 ghost use Rattle.datastream.specs.declared.wanted.Want.TheVariants.{Char};
 ghost use Rattle.panels.specs.Characters.{AreCharacters};
 ghost use Rattle.panels.specs.Screen.{distance_in, autoskip_attr, text_cell, first_some, field_cell, field_numbered, stopper_cell, IsWantedOf, screen_of};
@@ -21,7 +21,7 @@ use codes3270::Display::{Bright, Hidden, Normal};
 use codes3270::{Attr, Size, from_latin1};
 use datastream::{Want, Wanted};
 
-/// A cell of an item with a content; without one it keeps what it has.
+/// The cell of an item at a distance from its attribute. Without a content, the cells after the attribute keep theirs.
 fn cell_of(attr: Attr, content: Option<&[u8]>, distance: u16) -> Want
     requires { IfSome content (λ bytes. AreCharacters bytes.now) }
     ensures cell { result ≡ cell_with attr (option_map (λ bytes. bytes.now) content.entry) distance }
@@ -34,11 +34,12 @@ fn cell_of(attr: Attr, content: Option<&[u8]>, distance: u16) -> Want
     }
 }
 
-/// Puts the cells of an item, its attribute first, over what stood there.
+/// Puts the cells of an item, its attribute first, over the cells that are there.
 fn put_item(wanted: &mut Wanted, extent: Extent, attr: Attr, content: Option<&[u8]>)
     requires fits { FitsOn wanted.old.size extent }
     requires characters { IfSome content (λ bytes. AreCharacters bytes.now) }
-    ensures { IsPut (λ cell. option_map (cell_with attr (option_map (λ bytes. bytes.now) content.entry)) (distance_in extent cell)) wanted.old wanted.new }
+    ensures { IsPut (λ cell. option_map (cell_with attr (option_map (λ bytes. bytes.now) content.entry))
+        (distance_in extent cell)) wanted.old wanted.new }
 {
     let start = extent.first - 1;
     for distance in 0..extent.length + 1 {
@@ -47,7 +48,7 @@ fn put_item(wanted: &mut Wanted, extent: Extent, attr: Attr, content: Option<&[u
     }
 }
 
-/// The attribute of a text or a message, or where a field ends.
+/// The attribute of a text or a message, and of the cell after a field: the cursor skips it.
 fn skipped_attr(bright: bool) -> Attr
     ensures { result ≡ autoskip_attr bright }
 {
@@ -59,7 +60,7 @@ fn skipped_attr(bright: bool) -> Attr
     }
 }
 
-/// Puts the cells of texts, the first over all others.
+/// Puts the cells of texts. If two share a cell, the first has it.
 fn put_texts(wanted: &mut Wanted, values: &Values, texts: &[TextItem])
     requires { All (λ text. FitsOn wanted.old.size text.extent) texts.now }
     ensures { IsPut (λ cell. first_some (text_cell values.now cell) texts.now) wanted.old wanted.new }
@@ -75,7 +76,7 @@ fn put_texts(wanted: &mut Wanted, values: &Values, texts: &[TextItem])
     }
 }
 
-/// Puts the cells of a field: its attribute, and after it its value, or its fill; with `keep` the attribute alone.
+/// Puts the cells of a field: its attribute, then its value or its fill; with `keep` only the attribute.
 fn put_field(wanted: &mut Wanted, values: &Values, message: &Message, keep: bool, field: &Field)
     requires { FitsOn wanted.old.size field.now.extent }
     ensures { IsPut (λ cell. field_cell values.now message.now keep cell field.now) wanted.old wanted.new }
@@ -97,17 +98,18 @@ fn put_field(wanted: &mut Wanted, values: &Values, message: &Message, keep: bool
     put_item(wanted, field.extent, attr, written);
 }
 
-/// Puts the cells of fields, the first over all others.
+/// Puts the cells of fields. If two share a cell, the first has it.
 fn put_fields(wanted: &mut Wanted, values: &Values, message: &Message, keep: bool, fields: &[Field])
     requires { All (λ field. FitsOn wanted.old.size field.extent) fields.now }
-    ensures { IsPut (λ cell. first_some (field_cell values.now message.now keep cell) fields.now) wanted.old wanted.new }
+    ensures { IsPut (λ cell. first_some (field_cell values.now message.now keep cell) fields.now) wanted.old
+        wanted.new }
 {
     for index in (0..fields.len()).rev() {
         put_field(wanted, values, message, keep, &fields[index]);
     }
 }
 
-/// Puts the attributes behind fields, where they end.
+/// Puts the attribute after each field, at which the field ends.
 fn put_stoppers(wanted: &mut Wanted, fields: &[Field])
     requires { All (λ field. FitsOn wanted.old.size field.extent) fields.now }
     ensures { IsPut (λ cell. first_some (stopper_cell cell) fields.now) wanted.old wanted.new }
@@ -121,7 +123,7 @@ fn put_stoppers(wanted: &mut Wanted, fields: &[Field])
 
 const REQUIRED: &[u8; 10] = b"REQUIRED: ";
 
-/// A byte, in the host's code, of the text of a message that speaks of a field with a name; a null behind its end.
+/// A byte, in the host's code, of the text of a message that names the field `name`; a null after the text's end.
 fn message_byte(message: &Message, name: &[u8], index: usize) -> u8
     ensures byte { result ≡ slice_index_or (text_with name.now message.now) index 0 }
     ensures storable { is_storable result ≡ true }
@@ -137,7 +139,7 @@ fn message_byte(message: &Message, name: &[u8], index: usize) -> u8
         .unwrap_or(0)
 }
 
-/// Puts the message's row; `name` is that of the field that the message speaks of.
+/// Puts the message row; `name` is that of the field that the message names.
 fn put_message(wanted: &mut Wanted, message: &Message, name: &[u8])
     ensures { IsPut (row_cell (message_start wanted.old.size) (text_with name.now message.now)) wanted.old wanted.new }
 {
@@ -152,7 +154,7 @@ fn put_message(wanted: &mut Wanted, message: &Message, name: &[u8])
 }
 
 impl Panel {
-    /// The field that a message speaks of.
+    /// The field that a message names, or puts the cursor in, if the panel has it.
     fn field_of(&self, message: &Message) -> Option<&Field>
         ensures { option_copied result ≡ field_spoken self.now.fields message.now }
     {
@@ -162,15 +164,15 @@ impl Panel {
         }
     }
 
-    /// The panel's field with a number, over the whole text.
+    /// The panel's field with a number, from 0 over the whole text.
     fn field_numbered(&self, number: usize) -> Option<&Field>
         ensures { option_copied result ≡ field_numbered number self.now.fields }
     {
         self.fields.iter().find(|field| field.number == number)
     }
 
-    /// The screen that the panel asks for, of the panel's size, with the values of fields and a message. With `keep` the fields that the
-    /// operator sees are left as they are; a fresh panel has none of these.
+    /// The screen that the panel asks for, of the panel's size, with these values of fields and this message (our
+    /// profile). With `keep` it keeps what the operator typed in the fields; for a fresh panel `keep` must be false.
     pub fn wanted(&self, values: &Values, message: Message, keep: bool) -> Wanted
         requires { (message ≡ Fresh) → keep ≡ false }
         ensures wanted { IsWantedOf self.now values.now message keep result }
@@ -181,7 +183,7 @@ impl Panel {
         wanted
     }
 
-    /// Puts that screen on one of its size that has a null in each cell.
+    /// Puts the screen that the panel asks for on `wanted`, which must have the panel's size and a null in each cell.
     pub fn put_wanted(&self, wanted: &mut Wanted, values: &Values, message: Message, keep: bool)
         requires size { wanted.old.size ≡ shape_of self.now }
         requires nulls { wanted.old.cells ≡ replicate (cells_in wanted.old.size) (Char 0) }
@@ -192,10 +194,11 @@ impl Panel {
         self.put_items(wanted, values, message, keep);
     }
 
-    /// The same, where of each cell is said that it has a null.
+    /// Puts the screen that the panel asks for; the contract requires the nulls cell by cell.
     fn put_items(&self, wanted: &mut Wanted, values: &Values, message: Message, keep: bool)
         requires size { wanted.old.size ≡ shape_of self.now }
-        requires nulls { (cell : ℕ) (default : Wish) → cell < cells_in wanted.old.size → slice_index_or wanted.old.cells cell default ≡ Char 0 }
+        requires nulls { (cell : ℕ) (default : WantValue) → cell < cells_in wanted.old.size
+            → slice_index_or wanted.old.cells cell default ≡ Char 0 }
         requires fresh { (message ≡ Fresh) → keep ≡ false }
         ensures wanted { IsWantedOf self.now values.now message keep wanted.new }
         ensures screen { wanted.new ≡ screen_of self.now values.now message keep }
@@ -213,7 +216,7 @@ impl Panel {
         wanted.set_cursor_and_reset(cursor, message.is_fresh());
     }
 
-    /// Puts the fields' values on the screen that leaves the fields as they are.
+    /// Turns the panel's screen that keeps the fields, which `wanted` must be, into the one that writes their values.
     pub fn put_values(&self, wanted: &mut Wanted, values: &Values, message: Message)
         requires { wanted.old ≡ screen_of self.now values.now message true }
         ensures { wanted.new ≡ screen_of self.now values.now message false }
@@ -223,11 +226,12 @@ impl Panel {
         wanted.set_cursor_and_reset(cursor, reset);
     }
 
-    /// The same, but for the cursor and the reset of MDT.
+    /// Puts fields and texts over the screen that keeps the fields. The contract leaves out cursor and reset of MDT.
     fn put_fields_and_texts(&self, wanted: &mut Wanted, values: &Values, message: &Message)
         requires kept { wanted.old ≡ screen_of self.now values.now message.now true }
         ensures size { wanted.new.size ≡ wanted.old.size }
-        ensures screen { record wanted.new { cursor = wanted.old.cursor; reset = wanted.old.reset } ≡ screen_of self.now values.now message.now false }
+        ensures screen { record wanted.new { cursor = wanted.old.cursor; reset = wanted.old.reset }
+            ≡ screen_of self.now values.now message.now false }
     {
         put_fields(wanted, values, message, false, self.fields.as_slice());
         put_texts(wanted, values, self.texts.as_slice());

@@ -1,18 +1,18 @@
-//! The measures of the screen that a panel is laid out on; and the numbers of models.
+//! The rows of the screen that a panel is laid out on, and the numbers of models.
 ghost use Rattle.std.specs.Prelude.{◌≡◌, ◌+◌, ◌<◌, ◌≤◌};
 ghost use Rattle.codes3270.specs.Size.{cells_in, most_cells};
 ghost use Rattle.panels.specs.Size.{item_rows, message_start, model_numbered};
 
 use codes3270::{Model, Size};
 
-/// The rows that a panel's items may be in: all but the last, which is for messages.
+/// The number of rows that a panel's items may be in: all but the last, which is for messages.
 pub(crate) fn item_rows(size: Size) -> u16
     ensures { result ≡ item_rows size }
 {
     size.rows().saturating_sub(1)
 }
 
-/// Where the row for messages starts.
+/// The buffer address at which the message row starts.
 pub(crate) fn message_start(size: Size) -> u16
     ensures value { result ≡ message_start size }
     // The row reaches to the end of the screen, and has a first cell.
@@ -23,7 +23,7 @@ pub(crate) fn message_start(size: Size) -> u16
     size.cells() - size.cols()
 }
 
-/// The model with a number; model 2 for what is no number of a model.
+/// The model with a number from 2 to 5; model 2 for any other number.
 pub(crate) fn model_numbered(number: i64) -> Model
     ensures { result ≡ model_numbered number }
 {

@@ -18,14 +18,14 @@ pub(crate) fn text_at<'a>(table: &'a Table, key: &str) -> Option<&'a str>
     value_at(table, key)?.as_str()
 }
 
-/// The same, empty where there is none.
+/// The text at a key; empty if there is none.
 pub(crate) fn text_or_empty<'a>(table: &'a Table, key: &str) -> &'a str
     ensures { result.now ≡ text_or_empty key.now (table_view table.now) }
 {
     text_at(table, key).unwrap_or("")
 }
 
-/// The whole number at a key, another where there is none.
+/// The integer at a key; `other` if there is none.
 pub(crate) fn number_or(table: &Table, key: &str, other: i64) -> i64
     ensures { result ≡ unwrap_or (number_under key.now (table_view table.now)) other }
 {
@@ -34,14 +34,14 @@ pub(crate) fn number_or(table: &Table, key: &str, other: i64) -> i64
         .unwrap_or(other)
 }
 
-/// The same, 0 where there is none.
+/// The integer at a key; 0 if there is none.
 pub(crate) fn number_at(table: &Table, key: &str) -> i64
     ensures { result ≡ number key.now (table_view table.now) }
 {
     number_or(table, key, 0)
 }
 
-/// Whether the truth value at a key is set.
+/// Whether the value at a key is true.
 pub(crate) fn is_true_at(table: &Table, key: &str) -> bool
     ensures { result ≡ is_set key.now (table_view table.now) }
 {
@@ -50,7 +50,7 @@ pub(crate) fn is_true_at(table: &Table, key: &str) -> bool
         .unwrap_or(false)
 }
 
-/// What the array at a key has, nothing where there is none.
+/// The values of the array at a key; none if there is no array.
 pub(crate) fn values_at<'a>(table: &'a Table, key: &str) -> &'a [Value]
     ensures { items_view result.now ≡ items_under key.now (table_view table.now) }
 {

@@ -24,7 +24,7 @@ impl Model for Values {
     ghost view = { λ values. values.values.entries };
 }
 
-/// A copy has the same values. Where memory is wanting there is none, and the first has what it had.
+/// A copy with the same values. If memory is refused there is no copy, and the original stays as it is.
 impl Clone for Values {
     ghost is_clone = { λ old new. new ≡ old };
 
@@ -37,7 +37,7 @@ impl Clone for Values {
 }
 
 impl Values {
-    /// No values. This takes no memory.
+    /// No values. This needs no memory.
     pub fn new(alloc: Global) -> Values
         ensures { result ≡ [] }
     {
@@ -52,7 +52,7 @@ impl Values {
         self.values.len() == 0
     }
 
-    /// The value of the field with a number, if it has one: storable bytes without nulls. To set it once more would change nothing.
+    /// The value of the field with a number, if any: storable bytes without nulls. To set it again changes nothing.
     pub fn get(&self, field: usize) -> Option<&[u8]>
         ensures value { option_copied result ≡ value_of self.now field }
         ensures characters { IfSome result (λ value. AreCharacters value.now) }
@@ -63,7 +63,7 @@ impl Values {
         Some(self.values.get(&field)?.as_slice())
     }
 
-    /// Gives a field that has a value another one, and hands out the first.
+    /// Replaces the value of a field that has one, and returns the former value.
     fn exchange(&mut self, field: usize, value: Characters) -> Characters
         requires { IsSome (value_of self.old field) }
         ensures old { value_of self.old field ≡ Some result }
@@ -77,7 +77,7 @@ impl Values {
         }
     }
 
-    /// Gives a field that has a value a copy of bytes in its place.
+    /// Replaces the value of a field that has one by a copy of bytes.
     fn replace(&mut self, field: usize, bytes: &[u8]) -> Result<(), AllocError>
         requires set { IsSome (value_of self.old field) }
         requires characters { AreCharacters bytes.now }
@@ -91,8 +91,8 @@ impl Values {
         replaced
     }
 
-    /// Gives a field a copy of bytes as its value. Memory is needed only if the field has no value yet, or a shorter one. If it is
-    /// refused nothing changes.
+    /// Sets the value of a field to a copy of bytes, each of which must be storable and not null. Memory is needed only
+    /// if the field has no value or a shorter one; if it is refused nothing changes.
     pub fn set(&mut self, field: usize, bytes: &[u8]) -> Result<(), AllocError>
         requires { AreCharacters bytes.now }
         ensures entries { OnOk result (self.new ≡ insert_entry nat_cmp self.old field bytes.now) }
@@ -109,14 +109,14 @@ impl Values {
         Ok(())
     }
 
-    /// Takes away the value of a field, if it has one.
+    /// Removes the value of a field, if it has one.
     pub fn remove(&mut self, field: usize)
         ensures { self.new ≡ remove_entry (is_at (nat_cmp field)) self.old }
     {
         self.values.remove(&field);
     }
 
-    /// Sets each value that there is in others. If memory is refused some are set, and others not.
+    /// Sets each value of `others` here. If memory is refused, some may be set and others not.
     pub fn set_all(&mut self, others: &Values) -> Result<(), AllocError>
         ensures { OnOk result (self.new ≡ with_values self.old others.now) }
     {
@@ -131,7 +131,7 @@ impl Values {
         ensures { All AreCharacters (values_of self.now) }
     {
         for value in self.values.values() {
-            // For the contract: they are such.
+            // For the contract: its bytes are characters.
             let _bytes = value.as_slice();
         }
     }

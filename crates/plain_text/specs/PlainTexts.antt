@@ -1,5 +1,6 @@
--- How a text is written in the characters of code page 037 (our profile; decompositions, marks and normalization form C: The Unicode
--- Standard, sections 3.7 and 3.11, and its table of general categories). A text is a list of bytes in UTF-8, a character its code point.
+-- How a text is written in the characters of code page 037 (our profile; decompositions, marks and normalization form
+-- C: The Unicode Standard, sections 3.7 and 3.11, and its table of general categories). A text is a list of bytes in
+-- UTF-8, a character its code point.
 use Rattle.std.specs.Prelude.{ℕ, ◌==◌, ◌||◌, Bool, not, List, chars, codes, encode_utf8, filter, flat_map, length, Option, Some, None, is_some, unwrap_or, if◌then◌else◌}
 use Rattle.std.specs.Char.{is_control}
 use Rattle.std.specs.Int.{is_in_range}
@@ -10,11 +11,11 @@ use Rattle.unicode_normalization.specs.Forms.{Nfkd, nfc}
 use Rattle.unicode_normalization.specs.Lookups.{is_combining_mark}
 use Rattle.codes3270.specs.CodePage.{code_of}
 
--- code page 037 has the character
+-- whether code page 037 has the character
 abbrev pub has_code : ℕ → Bool
 has_code character = is_some (code_of character)
 
--- some character of a text has no code
+-- whether some character of a text has no code
 abbrev pub lacks_code : List ℕ → Bool
 lacks_code text = list_any (λ character. not (has_code character)) (chars text)
 
@@ -51,21 +52,23 @@ letter character =
     else if character == 0x0153 then Some (codes "oe")
     else None
 
+-- the plain form of a character that Unicode doesn't decompose
 abbrev pub substitute : ℕ → Option (List ℕ)
 substitute character = option_or (punctuation character) (letter character)
 
 -- ---- any character
 
--- a part of a decomposition can be written: it has a code, or is a mark, as accents are, or has a substitute
+-- whether a part of a decomposition can be written: it has a code or a substitute, or is a combining mark (an accent)
 abbrev pub is_writable : ℕ → Bool
 is_writable part = has_code part || (is_combining_mark part || is_some (substitute part))
 
--- what is written for it: nothing for a mark
+-- what is written for a part of a decomposition: nothing for a combining mark
 abbrev pub written : ℕ → List ℕ
 written part = if has_code part then encode_utf8 part else unwrap_or (substitute part) (codes "")
 
--- The character itself if it has a code; a blank for a control character; the parts of its compatibility decomposition, if each can be
--- written; otherwise a question mark. A character without a decomposition is its own part.
+-- The plain form of a character: the character itself if it has a code; a blank for a control character; the parts of
+-- its compatibility decomposition if each can be written; else a question mark. A character without a decomposition is
+-- its own part.
 abbrev pub plain_form : ℕ → List ℕ
 plain_form character =
     if has_code character then encode_utf8 character
@@ -75,10 +78,11 @@ plain_form character =
 
 -- ---- a text
 
--- A text whose characters have codes is plain. In any other, letters and accents are composed first (normalization form C).
+-- The plain form of a text: the text itself if all its characters have codes; else letters and accents are composed
+-- first (normalization form C), and then each character is replaced by its plain form.
 abbrev pub plain_text : List ℕ → List ℕ
 plain_text text = if lacks_code text then flat_map plain_form (nfc (chars text)) else text
 
--- how many characters of a text have no code
+-- the number of characters of a text that have no code
 abbrev pub count_without_code : List ℕ → ℕ
 count_without_code text = length (filter (λ character. not (has_code character)) (chars text))

@@ -1,7 +1,8 @@
-//! Texts in the characters of code page 037.
+//! Converts a text to characters of EBCDIC code page 037. The codes themselves are the crate `codes3270`'s.
 //!
-//! [`plain_text`] replaces what the code page doesn't have: typographic punctuation by its plain form, a letter by the letters that
-//! it is made of without their accents, a control character by a blank, and anything else by a question mark.
+//! [`plain_text`] replaces characters that the code page doesn't have: typographic punctuation by its plain form, a
+//! letter by the letters that it consists of without their accents, a control character by a blank, and anything else
+//! by a question mark.
 #![tactic(auto)]
 
 ghost use Rattle.std.specs.Prelude.{◌≡◌, ◌<◌, ◌++◌, chars, false, flat_map, length, option_map, string_bytes, IfOk, OnErr, OnOk};
@@ -32,7 +33,7 @@ pub fn lacks_code(text: &str) -> bool
     text.chars().any(|character| !has_code(character))
 }
 
-/// How many characters of a text have no code in code page 037.
+/// The number of characters of a text that have no code in code page 037.
 pub fn count_without_code(text: &str) -> usize
     ensures { result ≡ count_without_code text.now }
 {
@@ -106,7 +107,7 @@ fn are_writable(parts: &[char]) -> bool
     true
 }
 
-/// Adds what is written for a part of a decomposition: nothing for a mark, as accents are.
+/// Appends what is written for a part of a decomposition. For a combining mark, such as an accent, that is nothing.
 fn put_part(plain: &mut String, part: char) -> Result<(), AllocError>
     ensures { OnOk result (string_bytes plain.new ≡ string_bytes plain.old ++ written part) }
 {
@@ -117,7 +118,7 @@ fn put_part(plain: &mut String, part: char) -> Result<(), AllocError>
     }
 }
 
-/// Adds what is written for the parts of a decomposition.
+/// Appends what is written for the parts of a decomposition.
 fn put_parts(plain: &mut String, parts: &[char]) -> Result<(), AllocError>
     ensures { OnOk result (string_bytes plain.new ≡ string_bytes plain.old ++ flat_map written parts.now) }
 {
@@ -127,7 +128,7 @@ fn put_parts(plain: &mut String, parts: &[char]) -> Result<(), AllocError>
     Ok(())
 }
 
-/// Adds the plain form of a character.
+/// Appends the plain form of a character.
 fn put_plain_form(plain: &mut String, character: char) -> Result<(), AllocError>
     ensures { OnOk result (string_bytes plain.new ≡ string_bytes plain.old ++ plain_form character) }
 {
@@ -146,7 +147,7 @@ fn put_plain_form(plain: &mut String, character: char) -> Result<(), AllocError>
     }
 }
 
-/// Adds the plain forms of characters.
+/// Appends the plain forms of characters.
 fn put_plain_forms(plain: &mut String, characters: &[char]) -> Result<(), AllocError>
     ensures { OnOk result (string_bytes plain.new ≡ string_bytes plain.old ++ flat_map plain_form characters.now) }
 {
@@ -173,8 +174,8 @@ fn composed(alloc: Global, text: &str) -> Result<Vec<char>, AllocError>
     Ok(composed)
 }
 
-/// A text in the characters of code page 037: itself if they all have codes, otherwise with each character that has none replaced. An
-/// empty text takes no memory.
+/// Returns a text in the characters of code page 037: the text itself if all its characters have codes, else the text
+/// with each other character replaced. Fails if memory runs out. An empty text needs no memory.
 #[tactic(auto, using(crate::proofs::PlainForms::plain_lacks_none, crate::proofs::PlainForms::lacking_is_a_text))]
 pub fn plain_text(alloc: Global, text: &str) -> Result<String, AllocError>
     ensures plain { IfOk result (λ plain. string_bytes plain ≡ plain_text text.now) }

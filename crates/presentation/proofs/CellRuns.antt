@@ -9,7 +9,7 @@ use Rattle.codes3270.specs.declared.attribute.Cell.{Cell}
 use Rattle.codes3270.specs.declared.attribute.Cell.TheVariants.{Char}
 use Rattle.codes3270.specs.Storable.{is_storable}
 use Rattle.datastream.specs.declared.order.Order.{Order}
-use Rattle.datastream.specs.declared.order.Order.TheVariants.{Sf, Sba, Ic, Pt, Ra, Eua, Char as Data}
+use Rattle.datastream.specs.declared.order.Order.TheVariants.{Sf, Sba, Ic, Pt, Ra, Eua, Char as CharData}
 use Rattle.datastream.specs.Grammar.{IsProper}
 use Rattle.datastream.specs.Reading.{characters_ahead}
 use Rattle.datastream.specs.Screen.{Screen}
@@ -67,7 +67,7 @@ abbrev pub after_run : Screen → List Cell → ℕ → WriteProgress
 after_run screen cells address = record { screen = record screen { cells = cells }; address = address; after_data = true }
 
 pub run_executed : (text : List ℕ) (write : WriteProgress) → 0 < length text → write.address + length text ≤ length write.screen.cells
-    → all_executed (map Data text) write
+    → all_executed (map CharData text) write
     ≡ after_run write.screen (placed write.address text write.screen.cells) ((write.address + length text) % length write.screen.cells)
 run_executed [] write some room = absurd (omega (arith, some))
 run_executed (code ∷ []) write some room =
@@ -81,11 +81,11 @@ run_executed (code ∷ next ∷ more) write some room =
     let one : List Cell = placed at (code ∷ []) cells in
     let inside : at + 1 < n = omega (arith, room) in
     let same : length one ≡ n = length-placed at (code ∷ []) cells (omega (arith, inside)) in
-    let step : executed (Data code) write ≡ after_run write.screen one (at + 1) =
+    let step : executed (CharData code) write ≡ after_run write.screen one (at + 1) =
     ap (λ (cs : List Cell). after_run write.screen cs ((at + 1) % n)) (placed_one at code cells (omega (arith, inside)))
     ∙ ap (λ (k : ℕ). after_run write.screen one k) (mod-eq_of_lt inside) in
     let there : at + 1 + length behind ≡ at + length (code ∷ behind) = omega arith in
-    ap (all_executed (map Data behind)) step
+    ap (all_executed (map CharData behind)) step
     ∙ run_executed (next ∷ more) (after_run write.screen one (at + 1)) (omega arith) (omega (arith, same, room))
     ∙ ap (λ (cs : List Cell). after_run write.screen cs ((at + 1 + length behind) % length one)) (placed_more at (at + 1) (code ∷ []) behind cells refl (omega (arith, room)))
     ∙ ap (λ (m : ℕ). after_run write.screen (placed at (code ∷ behind) cells) ((at + 1 + length behind) % m)) same
@@ -112,9 +112,9 @@ executed_behind (order ∷ front) behind write = executed_behind front behind (e
 
 pub characters_proper : (size : ℕ) (orders : List Order) → All (IsProper size) orders → All (λ byte. is_storable byte ≡ true) (characters_ahead orders)
 characters_proper size [] each = All-nil (λ byte. is_storable byte ≡ true)
-characters_proper size (Data code ∷ orders) each =
-    All-cons (λ byte. is_storable byte ≡ true) code (characters_ahead orders) (All-head (IsProper size) (Data code) orders each)
-    (characters_proper size orders (All-tail (IsProper size) (Data code) orders each))
+characters_proper size (CharData code ∷ orders) each =
+    All-cons (λ byte. is_storable byte ≡ true) code (characters_ahead orders) (All-head (IsProper size) (CharData code) orders each)
+    (characters_proper size orders (All-tail (IsProper size) (CharData code) orders each))
 characters_proper size (Sf attr ∷ orders) each = All-nil (λ byte. is_storable byte ≡ true)
 characters_proper size (Sba address ∷ orders) each = All-nil (λ byte. is_storable byte ≡ true)
 characters_proper size (Ic ∷ orders) each = All-nil (λ byte. is_storable byte ≡ true)
@@ -122,12 +122,12 @@ characters_proper size (Pt ∷ orders) each = All-nil (λ byte. is_storable byte
 characters_proper size (Ra stop char ∷ orders) each = All-nil (λ byte. is_storable byte ≡ true)
 characters_proper size (Eua stop ∷ orders) each = All-nil (λ byte. is_storable byte ≡ true)
 
-characters_split : (orders : List Order) → map Data (characters_ahead orders) ++ drop (length (characters_ahead orders)) orders ≡ orders
+characters_split : (orders : List Order) → map CharData (characters_ahead orders) ++ drop (length (characters_ahead orders)) orders ≡ orders
 characters_split [] = refl
-characters_split (Data code ∷ orders) =
+characters_split (CharData code ∷ orders) =
     let more : length (code ∷ characters_ahead orders) ≡ suc (length (characters_ahead orders)) = omega arith in
-    ap (λ (n : ℕ). map Data (code ∷ characters_ahead orders) ++ drop n (Data code ∷ orders)) more
-    ∙ ap (λ (os : List Order). Data code ∷ os) (characters_split orders)
+    ap (λ (n : ℕ). map CharData (code ∷ characters_ahead orders) ++ drop n (CharData code ∷ orders)) more
+    ∙ ap (λ (os : List Order). CharData code ∷ os) (characters_split orders)
 characters_split (Sf attr ∷ orders) = refl
 characters_split (Sba address ∷ orders) = refl
 characters_split (Ic ∷ orders) = refl
@@ -136,17 +136,17 @@ characters_split (Ra stop char ∷ orders) = refl
 characters_split (Eua stop ∷ orders) = refl
 
 pub run_first : (text : List ℕ) (orders left : List Order) (start now : WriteProgress) → text ≡ characters_ahead orders → left ≡ drop (length text) orders
-    → now ≡ all_executed (map Data text) start → all_executed left now ≡ all_executed orders start
+    → now ≡ all_executed (map CharData text) start → all_executed left now ≡ all_executed orders start
 run_first text orders left start now ahead behind is =
-    let whole : map Data text ++ left ≡ orders =
-    ap (λ (os : List Order). map Data text ++ os) behind
-    ∙ ap (λ (cs : List ℕ). map Data cs ++ drop (length cs) orders) ahead
+    let whole : map CharData text ++ left ≡ orders =
+    ap (λ (os : List Order). map CharData text ++ os) behind
+    ∙ ap (λ (cs : List ℕ). map CharData cs ++ drop (length cs) orders) ahead
     ∙ characters_split orders in
-    ap (all_executed left) is ∙ sym (executed_behind (map Data text) left start) ∙ ap (λ (os : List Order). all_executed os start) whole
+    ap (all_executed left) is ∙ sym (executed_behind (map CharData text) left start) ∙ ap (λ (os : List Order). all_executed os start) whole
 
-pub run_then : (text front behind : List ℕ) (start now : WriteProgress) → front ++ behind ≡ text → now ≡ all_executed (map Data front) start
-    → all_executed (map Data behind) now ≡ all_executed (map Data text) start
+pub run_then : (text front behind : List ℕ) (start now : WriteProgress) → front ++ behind ≡ text → now ≡ all_executed (map CharData front) start
+    → all_executed (map CharData behind) now ≡ all_executed (map CharData text) start
 run_then text front behind start now whole is =
-    ap (all_executed (map Data behind)) is
-    ∙ sym (executed_behind (map Data front) (map Data behind) start)
-    ∙ ap (λ (os : List Order). all_executed os start) (sym (map-append Data front behind) ∙ ap (map Data) whole)
+    ap (all_executed (map CharData behind)) is
+    ∙ sym (executed_behind (map CharData front) (map CharData behind) start)
+    ∙ ap (λ (os : List Order). all_executed os start) (sym (map-append CharData front behind) ∙ ap (map CharData) whole)

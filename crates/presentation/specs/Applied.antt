@@ -23,5 +23,6 @@ asked_by_code ReadBuffer wcc = nothing
 asked_by_code ReadModified wcc = nothing
 asked_by_code ReadModifiedAll wcc = nothing
 
+-- what a command asks: a write as its WCC says, Erase All Unprotected to restore, a read nothing
 abbrev pub asked_by : CommandParts → Applied
 asked_by command = asked_by_code command.code command.wcc

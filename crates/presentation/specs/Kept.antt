@@ -1,4 +1,4 @@
--- For private functions: the cells of a screen, as they are kept (our profile).
+-- For private functions: the packed cells of a screen, a code and an attribute bit each (our profile).
 use Rattle.std.specs.Prelude.{◌≡◌, ◌≤◌, ℕ, List, length, map}
 use Rattle.codes3270.specs.Size.{cells_in, most_cells}
 use Rattle.codes3270.specs.declared.attribute.Cell.{Cell}
@@ -12,7 +12,7 @@ cell_by attributes at code = cell_of (has_bit attributes at) code
 abbrev pub cells_of : Packed → List Cell
 cells_of packed = kept (cell_by packed.attributes) 0 packed.codes
 
--- they are those of the size, and each code is the one that its cell is written as
+-- holds if there is a cell for each address of the size, and each code is that of its cell
 pub record AreCells (packed : Packed) : Type 0 where
   pub size : length packed.codes ≡ cells_in packed.size
   pub few : cells_in packed.size ≤ most_cells

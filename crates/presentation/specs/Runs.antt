@@ -1,8 +1,8 @@
--- For private functions: characters in cells that follow one another.
+-- For private functions: characters in consecutive cells.
 use Rattle.std.specs.Prelude.{◌+◌, ℕ, List, ◌++◌, length, map, take, drop}
 use Rattle.codes3270.specs.declared.attribute.Cell.{Cell}
 use Rattle.codes3270.specs.declared.attribute.Cell.TheVariants.{Char}
 
--- a text in the cells from a place on
+-- the cells with a text stored from an address on
 abbrev pub placed : ℕ → List ℕ → List Cell → List Cell
 placed from text cells = take from cells ++ (map Char text ++ drop (from + length text) cells)

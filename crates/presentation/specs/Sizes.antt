@@ -7,30 +7,30 @@ use Rattle.datastream.specs.InboundFields.{IsSendable}
 use Rattle.datastream.specs.Meaning.{after_command}
 use Rattle.datastream.specs.Screen.{Screen, blank_screen}
 
--- the screen of a terminal of a model, and the size that it has now
+-- the screen of a terminal of a model, with its current size
 pub record SizedScreen : Type 0 where
   pub model : Model
   pub size : Shape
   pub screen : Screen
 
--- a screen has one of its model's two sizes
+-- holds if the size is one of the model's two: 24 by 80, or the alternate size
 abbrev pub HasSize : Model → Shape → Type 0
 HasSize model size = (size ≡ model_2) ⊎ (size ≡ alternate_of model)
 
--- the cells are those of the size, and the screen can be sent
+-- holds if there is a cell for each address of the size, the size is one of the model's, and the screen can be sent
 pub record IsSized (sized : SizedScreen) : Type 0 where
   pub cells : length sized.screen.cells ≡ cells_in sized.size
   pub size : HasSize sized.model sized.size
   pub sendable : IsSendable sized.screen
 
--- as every connection begins: all cells null, in the size that all models have
+-- the screen at the beginning of each connection: all cells null, in the size that all models have
 abbrev pub blank_of : Model → SizedScreen
 blank_of model = record { model = model; size = model_2; screen = blank_screen (cells_in model_2) }
 
--- The command was read for the two sizes of this screen: that which it has now, and its model's alternate size.
+-- holds if the command was read for this screen's current size and its model's alternate size
 abbrev pub IsReadFor : SizedScreen → CommandParts → Type 0
 IsReadFor old command = command.size ≡ size_after command.code old.size (alternate_of old.model)
 
--- after a command the screen has the command's size
+-- the screen after a command; it then has the command's size
 abbrev pub applied : CommandParts → SizedScreen → SizedScreen
 applied command old = record old { size = command.size; screen = after_command command old.screen }

@@ -9,8 +9,8 @@ use crate::screen_cells::ScreenCells;
 use codes3270::{Addr, Aid, Cell, Model, Size};
 use std::marker;
 
-/// The cells of a screen (GA23-0059-07 on the character buffer), its model and its size, the cursor and the AID. Its
-/// characters are storable.
+/// The cells of a screen (GA23-0059-07 on the character buffer), its model and its size, the cursor and the AID. Each
+/// character is one that a cell can hold (`codes3270::storable`).
 #[derive(Clone, Debug, Drop)]
 pub(crate) struct Buffer {
     pub(crate) cells: ScreenCells,
@@ -25,12 +25,20 @@ impl marker::Model for Buffer {
 
     ghost Value = { SizedScreen };
 
-    ghost view = { λ s. record { model = s.model; size = s.size; screen = record { cells = s.cells; cursor = s.cursor; aid = s.aid } } };
+    ghost view = { λ s. record {
+      model = s.model;
+      size = s.size;
+      screen = record { cells = s.cells; cursor = s.cursor; aid = s.aid };
+    } };
 
-    ghost invariant = { λ s. IsSized (record { model = s.model; size = s.size; screen = record { cells = s.cells; cursor = s.cursor; aid = s.aid } }) };
+    ghost invariant = { λ s. IsSized (record {
+      model = s.model;
+      size = s.size;
+      screen = record { cells = s.cells; cursor = s.cursor; aid = s.aid };
+    }) };
 }
 
-/// The AID itself. That the number of its key is in range is known once the number was asked for.
+/// The AID itself. `get` is called only for the proof: it ensures that the key's number is in range.
 pub(crate) fn with_real_key(aid: Aid) -> Aid
     ensures same { result ≡ aid }
     ensures real { IsRealAid result }
@@ -53,7 +61,7 @@ pub(crate) fn with_real_key(aid: Aid) -> Aid
 }
 
 impl Buffer {
-    /// All cells null, in the size that all models have, the cursor at 0, no AID.
+    /// A screen of 24 rows of 80 nulls, the cursor at 0, no AID.
     pub(crate) fn blank(model: Model) -> Buffer
         ensures { result ≡ blank_of model }
     {
@@ -75,7 +83,7 @@ impl Buffer {
         &self.cells
     }
 
-    /// What a cell holds.
+    /// The cell at an address.
     pub(crate) fn cell(&self, at: Addr) -> Cell
         requires { at < cells_in self.now.size }
         ensures value { slice_get self.now.screen.cells at ≡ Some result }
@@ -85,16 +93,17 @@ impl Buffer {
         self.cells.get(at.get() as usize)
     }
 
-    /// Stores a cell.
+    /// Stores a cell at an address.
     pub(crate) fn set_cell(&mut self, at: Addr, cell: Cell)
         requires address { at < cells_in self.old.size }
         requires storable { IsStorableCell cell }
-        ensures { self.new ≡ record self.old { screen = record self.old.screen { cells = slice_set self.old.screen.cells at cell } } }
+        ensures { self.new
+            ≡ record self.old { screen = record self.old.screen { cells = slice_set self.old.screen.cells at cell } } }
     {
         self.cells.set(at.get() as usize, cell);
     }
 
-    /// Where the cursor is.
+    /// The cursor's address.
     pub(crate) fn cursor(&self) -> Addr
         ensures cursor { result ≡ self.now.screen.cursor }
         ensures in_range { result < cells_in self.now.size }

@@ -1,4 +1,4 @@
-//! What is read off cells, and what is changed in them.
+//! Questions about cells, and changes of them, that commands and keys need.
 ghost use Rattle.std.specs.Prelude.{◌≡◌, ◌<◌, ◌≤◌, ◌+◌, ◌-◌, ℕ, true, false, drop, map, zip, length, position, slice_index_or, IfNone, IfSome, if◌then◌else◌};
 ghost use Rattle.codes3270.specs.Size.{cells_in, most_cells};
 ghost use Rattle.codes3270.specs.declared.attribute.Cell.TheVariants.{Char};
@@ -33,7 +33,7 @@ fn without_mdt(cell: Cell) -> Cell
     }
 }
 
-/// MDT on, where the cell holds an attribute.
+/// The cell with MDT on, if it holds an attribute; else the cell itself.
 pub(crate) fn with_mdt(cell: Cell) -> Cell
     ensures { result ≡ modified cell }
 {
@@ -43,7 +43,7 @@ pub(crate) fn with_mdt(cell: Cell) -> Cell
     }
 }
 
-/// The distance from one address up to another on a screen of a size, round the end; all cells where they are equal.
+/// How many cells lie from one address up to another (exclusive), wrapping at the end; all cells if the two are equal.
 pub(crate) fn distance_to(from: Addr, stop: Addr, size: Size) -> u16
     requires from { from < cells_in size }
     requires stop { stop < cells_in size }
@@ -60,7 +60,7 @@ pub(crate) fn distance_to(from: Addr, stop: Addr, size: Size) -> u16
     }
 }
 
-/// Writes a character into `count` places from `from` on, round the end.
+/// Stores a character in `count` cells from `from` on, wrapping at the end.
 pub(crate) fn fill(cells: &mut ScreenCells, from: Addr, count: u16, code: u8, size: Size)
     requires size { length cells.old ≡ cells_in size }
     requires from { from < cells_in size }
@@ -74,7 +74,7 @@ pub(crate) fn fill(cells: &mut ScreenCells, from: Addr, count: u16, code: u8, si
     }
 }
 
-/// The attribute that governs a cell: its own, or the nearest before it, round the end.
+/// The attribute that governs a cell: its own, or the nearest before it, wrapping at 0; `None` if there is none.
 pub(crate) fn attribute_over(cells: &ScreenCells, at: Addr) -> Option<Attr>
     requires { at < length cells.now }
     ensures { result ≡ attribute_over cells.now at }
@@ -83,7 +83,7 @@ pub(crate) fn attribute_over(cells: &ScreenCells, at: Addr) -> Option<Attr>
     cells.get(attr).attribute()
 }
 
-/// The attribute that governs a cell at `at`, unless that cell holds one.
+/// The attribute that governs the cell before `at`, and so the cell at `at` unless that holds an attribute.
 pub(crate) fn attribute_before(cells: &ScreenCells, at: Addr, size: Size) -> Option<Attr>
     requires size { length cells.now ≡ cells_in size }
     requires address { at < length cells.now }
@@ -101,7 +101,7 @@ fn protects_cells(over: Option<Attr>) -> bool
     }
 }
 
-/// A null in place of a character.
+/// A null if the cell holds a character; else the cell itself.
 fn without_character(cell: Cell) -> Cell
     ensures { result ≡ erased cell }
 {
@@ -111,7 +111,7 @@ fn without_character(cell: Cell) -> Cell
     }
 }
 
-/// A null in place of a character that isn't protected.
+/// A null if the cell holds a character that isn't protected by `over`; else the cell itself.
 fn opened_under(over: Option<Attr>, cell: Cell) -> Cell
     ensures { result ≡ (if protects over then cell else erased cell) }
 {
@@ -122,7 +122,7 @@ fn opened_under(over: Option<Attr>, cell: Cell) -> Cell
     }
 }
 
-/// Nulls the unprotected cells among `count` places from `from` on, round the end.
+/// Nulls the unprotected characters among `count` cells from `from` on, wrapping at the end.
 pub(crate) fn erase_unprotected_in(cells: &mut ScreenCells, from: Addr, count: u16, size: Size)
     requires size { length cells.old ≡ cells_in size }
     requires from { from < cells_in size }
@@ -140,7 +140,8 @@ pub(crate) fn erase_unprotected_in(cells: &mut ScreenCells, from: Addr, count: u
     }
 }
 
-/// Where a PT goes from `at`: behind the next unprotected attribute up to the last cell, else 0.
+/// The address that a PT at `at` moves to: the one after the first unprotected attribute at or after `at`; 0 if there
+/// is none up to the last cell.
 pub(crate) fn tab_stop_from(cells: &ScreenCells, at: Addr, size: Size) -> Addr
     requires size { length cells.now ≡ cells_in size }
     requires address { at < cells_in size }
@@ -158,14 +159,14 @@ pub(crate) fn tab_stop_from(cells: &ScreenCells, at: Addr, size: Size) -> Addr
     Addr::first()
 }
 
-/// Whether there is no attribute in a list of cells.
+/// Whether no cell holds an attribute.
 pub(crate) fn has_only_characters(cells: &ScreenCells) -> bool
     ensures { result ≡ list_all is_char cells.now }
 {
     cells.attribute_from(0) == cells.len()
 }
 
-/// Whether no attribute stands from `at` through the last cell.
+/// Whether no cell from `at` through the last holds an attribute.
 pub(crate) fn has_only_characters_from(cells: &ScreenCells, at: Addr) -> bool
     requires { at < length cells.now }
     ensures { result ≡ list_all is_char (drop at cells.now) }
@@ -173,7 +174,7 @@ pub(crate) fn has_only_characters_from(cells: &ScreenCells, at: Addr) -> bool
     cells.attribute_from(at.get() as usize) == cells.len()
 }
 
-/// How many characters come from `at` on, before an attribute or the end.
+/// How many characters there are from `at` on, before the next attribute or the end.
 pub(crate) fn characters_ahead(cells: &ScreenCells, at: Addr) -> u16
     requires address { at < length cells.now }
     requires few { length cells.now ≤ most_cells }
@@ -205,7 +206,7 @@ fn without_open_mdt(cell: Cell) -> Cell
     }
 }
 
-/// The least start: a character behind the attribute of an unprotected field, round the end; else 0.
+/// The lowest start: a character directly after an unprotected attribute, wrapping at the end; 0 if there is none.
 pub(crate) fn home_of(cells: &ScreenCells, size: Size) -> Addr
     requires { length cells.now ≡ cells_in size }
     ensures value { result ≡ home cells.now }
@@ -243,9 +244,10 @@ fn is_start_behind(before: Cell, cell: Cell) -> bool
     before.is_unprotected_attribute() && cell.is_character()
 }
 
-/// Whether the first cell is a start.
+/// Whether the first cell is a start, by the last cell before it.
 pub(crate) fn is_start_first(cells: &ScreenCells) -> bool
-    ensures start { result ≡ is_start (slice_index_or cells.now (length cells.now - 1) (Char 0), slice_index_or cells.now 0 (Char 0)) }
+    ensures start { result
+        ≡ is_start (slice_index_or cells.now (length cells.now - 1) (Char 0), slice_index_or cells.now 0 (Char 0)) }
     ensures some { 0 < length cells.now }
 {
     let before = cells.get(cells.len() - 1);
@@ -253,7 +255,8 @@ pub(crate) fn is_start_first(cells: &ScreenCells) -> bool
     is_start_behind(before, cell)
 }
 
-/// The number of the first attribute from one on, by the list of attributes, that has a start after it, up to the last cell.
+/// The index, in the list of attributes' addresses, of the first attribute from index `from` on that has a start after
+/// it. An attribute in the last cell isn't considered.
 pub(crate) fn first_with_start(
     cells: &ScreenCells,
     attributes: &[u16],
@@ -279,7 +282,7 @@ fn place_in(attributes: &[u16], index: usize) -> usize
     usize::from(attributes[index])
 }
 
-/// Whether the cell behind an attribute is a start; behind the last cell is none.
+/// Whether the cell after the attribute at `at` is a start; false if the attribute is in the last cell.
 #[inline(always)]
 fn has_start_behind(cells: &ScreenCells, at: usize) -> bool
     requires placed { at < length cells.now }

@@ -16,17 +16,17 @@ use std::marker::Model;
 /// A field (GA23-0059-07 on fields).
 #[derive(Clone, Copy, Debug, PartialEq, Eq)]
 pub struct Field {
-    /// The address of its attribute.
+    /// The address of its attribute (0-based).
     pub attr: Addr,
-    /// How many cells it has behind its attribute, up to the next attribute, round the end.
+    /// Its number of cells: those after its attribute and before the next one, wrapping at the end. It may be 0.
     pub length: u16,
 }
 
-/// The fields of a screen that are left, by the addresses of their attributes. Contracts see their list.
+/// An iterator over a screen's fields, by the addresses of their attributes. Contracts see the list of those left.
 #[derive(Drop)]
 pub struct Fields<'a> {
     screen: &'a Screen,
-    /// The number of the first of them in the index of attributes.
+    /// The index of the next one in the list of attributes.
     next: usize,
 }
 
@@ -61,7 +61,7 @@ impl<'a> Iterator for Fields<'a> {
     }
 }
 
-/// The number behind one of some numbers; 0 follows the last.
+/// The number after `number` of the numbers below `count`; 0 follows the last.
 fn number_behind(number: usize, count: usize) -> usize
     requires { number < count }
     ensures { result ≡ (number + 1) % count }
@@ -101,7 +101,7 @@ impl Screen {
         self.places().len()
     }
 
-    /// Where the attribute of a field is, by the field's number in the list of fields, from 0 on.
+    /// The address of a field's attribute, by the field's 0-based number in the list of fields.
     #[inline(always)]
     fn field_place(&self, number: usize) -> Addr
         requires { number < length (attribute_places self.now.screen.cells 0) }
@@ -112,7 +112,7 @@ impl Screen {
         Addr::new(place, self.size()).unwrap_or(Addr::first())
     }
 
-    /// The cell behind the attribute of a field that isn't in the last cell, by the field's number.
+    /// The address after a field's attribute, which must not be in the last cell, by the field's number.
     #[inline(always)]
     pub(crate) fn field_start(&self, number: usize) -> Addr
         requires listed { number < length (attribute_places self.now.screen.cells 0) }
@@ -142,18 +142,20 @@ impl Screen {
         }
     }
 
-    /// The number of the field that a cell lies in, or whose attribute it holds; None on an unformatted screen.
+    /// The number of the field that a cell lies in, or whose attribute it holds; `None` on an unformatted screen.
     #[inline(always)]
     fn field_number_at(&self, at: Addr) -> Option<usize>
         requires { at < cells_in self.now.size }
         ensures none { IfNone result (attribute_places self.now.screen.cells 0 ≡ []) }
-        ensures nearest { IfSome result (λ number. IsNearest (cells_in self.now.size) (attribute_places self.now.screen.cells 0) at number) }
+        ensures nearest { IfSome result
+            (λ number. IsNearest (cells_in self.now.size) (attribute_places self.now.screen.cells 0) at number) }
         ensures size { length self.now.screen.cells ≡ cells_in self.now.size }
     {
         index::nearest_before(self.places(), at, self.size())
     }
 
-    /// The attribute that governs a cell: its own, or the nearest before it, round the end; None on an unformatted screen.
+    /// The attribute that governs a cell (GA23-0059-07 on field attributes): its own, or the nearest before it,
+    /// wrapping at address 0; `None` on an unformatted screen.
     pub fn attribute_over(&self, at: Addr) -> Option<Attr>
         requires { at < cells_in self.now.size }
         ensures { result ≡ attribute_over self.now.screen.cells at }
@@ -161,7 +163,7 @@ impl Screen {
         cells::attribute_over(self.cells(), at)
     }
 
-    /// The fields, by the addresses of their attributes, each once. An unformatted screen has none.
+    /// The fields, in the order of their attributes' addresses, each once. An unformatted screen has none.
     pub fn fields(&self) -> Fields<'_>
         ensures { result ≡ listed_fields self.now.screen.cells }
     {
@@ -171,18 +173,19 @@ impl Screen {
         }
     }
 
-    /// The field that a cell lies in, or whose attribute it holds; None on an unformatted screen.
+    /// The field that a cell lies in, or whose attribute it holds; `None` on an unformatted screen.
     pub fn field_at(&self, at: Addr) -> Option<Field>
         requires { at < cells_in self.now.size }
         ensures none { IfNone result (IsTrue (list_all is_char self.now.screen.cells)) }
         ensures formatted { IfSome result (λ _. list_all is_char self.now.screen.cells ≡ false) }
 
-        // Its attribute is the nearest before the cell, round the end, and governs it.
+        // Its attribute is the nearest at or before the cell, wrapping at address 0, and governs it.
         ensures nearest { IfSome result (λ field. IsGoverned self.now.screen.cells at field.attr) }
         ensures governs { IfSome result (λ field.
-            attribute_over self.now.screen.cells at ≡ attribute_in (slice_index_or self.now.screen.cells field.attr (Char 0))) }
+            attribute_over self.now.screen.cells at
+            ≡ attribute_in (slice_index_or self.now.screen.cells field.attr (Char 0))) }
 
-        // Its cells run to the next attribute, round the end.
+        // Its cells run to the next attribute, wrapping at the end.
         ensures length { IfSome result (λ field. field.length ≡ length (field_text self.now.screen.cells field.attr)) }
     {
         let number = self.field_number_at(at)?;

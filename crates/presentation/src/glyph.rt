@@ -1,4 +1,4 @@
-//! What is printed of a screen.
+//! The characters that a screen displays.
 ghost use Rattle.std.specs.Prelude.{◌≡◌, ◌<◌};
 ghost use Rattle.codes3270.specs.Size.{cells_in};
 ghost use Rattle.presentation.specs.Glyph.{glyph_at, glyph_of, glyph_of_code, is_hidden, hidden_from, shown, all_glyphs};
@@ -8,7 +8,7 @@ use crate::screen_cells::ScreenCells;
 use codes3270::{Addr, Attr, Cell, Display};
 use std::marker::Model;
 
-/// What is printed for each code, in ISO 8859-1.
+/// The displayed character of each code, in ISO 8859-1.
 static GLYPHS: [u8; 256] = [
     0x20, 0x20, 0x20, 0x20, 0x20, 0x20, 0x20, 0x20, 0x20, 0x20, 0x20, 0x20, 0x20, 0x20, 0x20, 0x20,
     0x20, 0x20, 0x20, 0x20, 0x20, 0x20, 0x20, 0x20, 0x20, 0x20, 0x20, 0x20, 0x2A, 0x20, 0x3B, 0x20,
@@ -34,7 +34,7 @@ fn glyph_of_code(code: u8) -> char
     char::from(GLYPHS[usize::from(code)])
 }
 
-fn glyph_of(cell: Cell) -> char
+pub(crate) fn glyph_of(cell: Cell) -> char
     ensures { result ≡ glyph_of cell }
 {
     match cell {
@@ -43,8 +43,8 @@ fn glyph_of(cell: Cell) -> char
     }
 }
 
-/// Whether cells under an attribute are hidden; those of no field are shown.
-fn is_hidden(over: Option<Attr>) -> bool
+/// Whether cells that this attribute governs are hidden; cells of no field aren't.
+pub(crate) fn is_hidden(over: Option<Attr>) -> bool
     ensures { result ≡ is_hidden over }
 {
     match over {
@@ -53,7 +53,7 @@ fn is_hidden(over: Option<Attr>) -> bool
     }
 }
 
-/// Whether cells are hidden from a cell on, as those before it are or aren't.
+/// Whether cells are hidden from `cell` on; `before`: whether the one before it is.
 fn is_hidden_from(before: bool, cell: Cell) -> bool
     ensures { result ≡ hidden_from before cell }
 {
@@ -63,31 +63,31 @@ fn is_hidden_from(before: bool, cell: Cell) -> bool
     }
 }
 
-/// A blank in place of what is hidden.
+/// The character, or a blank if it is hidden.
 fn shown_glyph(hidden: bool, glyph: char) -> char
     ensures { result ≡ shown hidden glyph }
 {
     if hidden { ' ' } else { glyph }
 }
 
-/// What is printed for a code, a blank if it is hidden.
+/// The displayed character of a code, or a blank if it is hidden.
 fn glyph_or_blank(hidden: bool, code: u8) -> char
     ensures { result ≡ shown hidden (glyph_of_code code) }
 {
-    // A null is printed as a blank.
+    // A null is displayed as a blank.
     glyph_of_code(if hidden { 0 } else { code })
 }
 
-/// The characters that are printed for the cells that are left, by address. Contracts see their list.
+/// An iterator over a screen's displayed characters, by address. Contracts see the list of those left.
 #[derive(Drop)]
 pub struct Glyphs<'a> {
-    cells: &'a ScreenCells,
-    /// The address of the first of them.
-    next: usize,
-    /// The first attribute from there on, or the number of cells.
-    attribute: usize,
+    pub(crate) cells: &'a ScreenCells,
+    /// The address of the next one's cell.
+    pub(crate) next: usize,
+    /// The address of the first attribute from there on, or the number of cells.
+    pub(crate) attribute: usize,
     /// Whether the cells up to that attribute are hidden.
-    hidden: bool,
+    pub(crate) hidden: bool,
 }
 
 impl<'a> Model for Glyphs<'a> {
@@ -100,7 +100,8 @@ impl<'a> Model for Glyphs<'a> {
 
     ghost view = { λ glyphs. glyphs_from glyphs.hidden (drop glyphs.next glyphs.cells.now) };
 
-    ghost invariant = { λ glyphs. (glyphs.attribute ≡ glyphs.next + prefix_len is_char (drop glyphs.next glyphs.cells.now)) × (glyphs.attribute ≤ length glyphs.cells.now) };
+    ghost invariant = { λ glyphs. (glyphs.attribute ≡ glyphs.next
+        + prefix_len is_char (drop glyphs.next glyphs.cells.now)) × (glyphs.attribute ≤ length glyphs.cells.now) };
 }
 
 impl<'a> Iterator for Glyphs<'a> {
@@ -125,37 +126,6 @@ impl<'a> Iterator for Glyphs<'a> {
             Some(shown_glyph(self.hidden, glyph_of(cell)))
         } else {
             None
-        }
-    }
-}
-
-impl Screen {
-    /// The characters that are printed for all cells, by address: `glyph_at` of each. It goes over the cells once.
-    pub fn glyphs(&self) -> Glyphs<'_>
-        ensures { result ≡ all_glyphs self.now.screen.cells }
-    {
-        let last = Addr::first().backward(1, self.size());
-        let hidden = is_hidden(self.attribute_over(last));
-        let buffer = &self.buffer;
-        let cells = buffer.cells();
-        Glyphs {
-            cells,
-            next: 0,
-            attribute: cells.attribute_from(0),
-            hidden,
-        }
-    }
-
-    /// The character that is printed for a cell (our profile): that of code page 037 for the codes from 40 to FE, `*` for
-    /// 1C (DUP), `;` for 1E (FM), and a blank for all else, for attributes, and for every cell of a hidden field.
-    pub fn glyph_at(&self, at: Addr) -> char
-        requires { at < cells_in self.now.size }
-        ensures { result ≡ glyph_at self.now.screen.cells at }
-    {
-        if is_hidden(self.attribute_over(at)) {
-            ' '
-        } else {
-            glyph_of(self.cell(at))
         }
     }
 }

@@ -11,7 +11,7 @@ use crate::screen_cells::{BITS, ScreenCells};
 use codes3270::{Addr, MOST_CELLS, Size};
 use std::marker::Model;
 
-/// The addresses of a screen's attributes in ascending order, in an array with a count. Contracts see their list.
+/// The addresses of a screen's attributes in ascending order, as an array and a count. Contracts see their list.
 #[derive(Clone, Debug, Drop)]
 pub(crate) struct AttributeIndex {
     /// There is room for the largest screen.
@@ -37,7 +37,7 @@ fn no_places() -> [u16; MOST_CELLS]
 }
 
 impl AttributeIndex {
-    /// That of a screen without attributes.
+    /// The index of a screen without attributes.
     pub(crate) fn empty() -> AttributeIndex
         ensures { result ≡ [] }
     {
@@ -47,14 +47,14 @@ impl AttributeIndex {
         }
     }
 
-    /// Forgets all addresses.
+    /// Removes all addresses.
     pub(crate) fn clear(&mut self)
         ensures { self.new ≡ [] }
     {
         self.count = 0;
     }
 
-    /// Lists the attributes of these cells.
+    /// Replaces the addresses by those of the attributes in these cells.
     pub(crate) fn rebuild(&mut self, cells: &ScreenCells)
         ensures { self.new ≡ attribute_places cells.now 0 }
     {
@@ -77,8 +77,8 @@ impl AttributeIndex {
     }
 }
 
-/// Lists the attributes among the 64 cells of a word, whose bits are given, behind those that are listed. Answers how many are
-/// listed then.
+/// Appends the addresses of the attributes among the 64 cells of a word, whose bits are given, to the first `listed`
+/// ones, and returns how many addresses there are then.
 #[inline(always)]
 fn list_word(
     places: &mut [u16],
@@ -89,11 +89,13 @@ fn list_word(
 ) -> usize
     requires word { 64 * word < length _cells.now }
     requires small { length _cells.now ≤ most_cells }
-    requires bits { (place : ℕ) → place < 64 → bit_at bits place ≡ bit_of (not (is_char_at _cells.now (64 * word + place))) }
+    requires bits { (place : ℕ) → place < 64
+        → bit_at bits place ≡ bit_of (not (is_char_at _cells.now (64 * word + place))) }
     requires room { length places.old ≡ most_cells }
     requires few { listed ≤ 64 * word }
     ensures room { length places.new ≡ most_cells }
-    ensures listed { take result places.new ++ attribute_places _cells.now (64 * word + 64) ≡ take listed places.old ++ attribute_places _cells.now (64 * word) }
+    ensures listed { take result places.new ++ attribute_places _cells.now (64 * word + 64) ≡ take listed places.old
+        ++ attribute_places _cells.now (64 * word) }
     ensures few { result ≤ 64 * word + 64 }
     ensures within { result ≤ length _cells.now }
 {
@@ -111,7 +113,7 @@ fn list_word(
     count
 }
 
-/// Lists the attributes among the cells from the first of a word on, fewer than 64.
+/// Appends the addresses of the attributes in the last word, which has fewer than 64 cells and may have none.
 #[inline(always)]
 fn list_last_word(places: &mut [u16], listed: usize, cells: &ScreenCells, word: usize) -> usize
     requires start { 64 * word ≤ length cells.now }
@@ -131,7 +133,7 @@ fn list_last_word(places: &mut [u16], listed: usize, cells: &ScreenCells, word: 
     }
 }
 
-/// The lowest place at which a word's bit is set.
+/// The index of the lowest bit that is set in a word.
 #[inline(always)]
 fn lowest_in(word: u64) -> usize
     requires { 0 < word }
@@ -153,7 +155,7 @@ fn without_lowest(word: u64) -> u64
     word & (word - 1)
 }
 
-/// Whether the address with a number is the last up to an address, of addresses that ascend.
+/// Whether `places[number]` is the last of these ascending addresses that is at most `at`.
 #[inline(always)]
 fn is_last_up_to(places: &[u16], number: usize, at: u16) -> bool
     requires { length places.now ≤ most_cells }
@@ -164,7 +166,8 @@ fn is_last_up_to(places: &[u16], number: usize, at: u16) -> bool
         && (number + 1 == places.len() || at < places[number + 1])
 }
 
-/// How many of the ascending addresses on a ring are up to an address: halved, unless they are spread evenly.
+/// How many of these ascending addresses are at most `at`. It first guesses that they are spread evenly over the
+/// screen's cells, and else does a binary search.
 #[inline(always)]
 fn count_up_to(places: &[u16], at: u16, cells: u16) -> usize
     requires within { at < cells }
@@ -182,8 +185,7 @@ fn count_up_to(places: &[u16], at: u16, cells: u16) -> usize
     }
 }
 
-/// Which of the ascending addresses on a ring is the nearest before an address, round the end; the address itself is the
-/// nearest of all.
+/// The index of the last of these ascending addresses that is at most `at`, else the last index; `None` if empty.
 pub(crate) fn nearest_before(places: &[u16], at: Addr, size: Size) -> Option<usize>
     requires within { at < cells_in size }
     requires few { length places.now ≤ most_cells }
@@ -197,7 +199,7 @@ pub(crate) fn nearest_before(places: &[u16], at: Addr, size: Size) -> Option<usi
     }
 }
 
-/// The number of the first of the ascending addresses on a ring from an address on; where there is none, how many there are.
+/// The index of the first of these ascending addresses that is at least `at`; their number if there is none.
 pub(crate) fn first_from(places: &[u16], at: Addr, size: Size) -> usize
     requires within { at < cells_in size }
     requires few { length places.now ≤ most_cells }

@@ -1,5 +1,8 @@
-//! The screen of a 3278 of any model from 2 to 5: what commands make of it, what is printed of it, what its reads answer, and the
-//! changes that keys make. No call takes memory but the two that append a read's answer.
+//! The screen of a 3278, models 2 to 5: `Screen` holds the cells, the cursor and the AID. `apply` carries out a parsed
+//! command, `put_read_buffer` and `put_read_modified` append the answers to reads, `glyphs` and `glyph_at` give the
+//! displayed characters, `fields` and `field_at` the fields, and the other calls make the changes that keys make. Only
+//! the two calls that append an answer allocate. Parsing is datastream's; keys are keyboard's; the host's record
+//! of a screen is shadow's.
 //!
 //! ```text
 //! let mut screen = Screen::blank(Model::M5);
@@ -8,8 +11,9 @@
 //! screen.put_read_modified(&mut out, false)?;
 //! ```
 //!
-//! What commands, reads and fields mean is defined in datastream's `specs/`. Those here add the model and the size of a screen
-//! (`Sizes`), what a command asks of the keyboard (`Applied`), what is printed (`Glyph`), and how fields are listed (`Fields`).
+//! What commands, reads and fields mean is defined in datastream's `specs/`. Those here add the model and the size of a
+//! screen (`Sizes`), what a command asks of the keyboard (`Applied`), the displayed characters (`Glyph`), and how
+//! fields are listed (`Fields`).
 #![tactic(auto)]
 
 mod buffer;

@@ -1,4 +1,4 @@
-//! What reads answer.
+//! The answers to reads (GA23-0059-07 on read commands).
 ghost use Rattle.std.specs.Prelude.{◌≡◌, ◌+◌, ◌-◌, ◌<◌, ◌≤◌, ◌∷◌, [], ◌++◌, ◌&&◌, ◌==◌, not, false, length, take, drop, slice_index_or};
 ghost use Rattle.codes3270.specs.Size.{cells_in};
 ghost use Rattle.std.specs.List.{flat_map, prefix_len};
@@ -32,7 +32,7 @@ fn put_bytes(out: &mut Vec<u8>, bytes: &[u8]) -> Result<(), Memory>
     out.extend_from_slice(bytes)
 }
 
-/// Bytes of which there often is one or none, which is then cheaper.
+/// Appends bytes; it is faster than `put_bytes` for one byte or none, which is frequent.
 fn put_few(out: &mut Vec<u8>, bytes: &[u8]) -> Result<(), Memory>
     ensures { AppendsSome out.old out.new result bytes.now }
 {
@@ -43,7 +43,7 @@ fn put_few(out: &mut Vec<u8>, bytes: &[u8]) -> Result<(), Memory>
     }
 }
 
-/// The bytes from a place to another.
+/// The bytes `from..to`.
 #[inline(always)]
 fn between(bytes: &[u8], from: usize, to: usize) -> &[u8]
     requires order { from ≤ to }
@@ -53,7 +53,7 @@ fn between(bytes: &[u8], from: usize, to: usize) -> &[u8]
     &bytes[from..to]
 }
 
-/// The byte at a place.
+/// The byte at an index.
 #[inline(always)]
 fn byte_at(bytes: &[u8], at: usize) -> u8
     requires { at < length bytes.now }
@@ -62,7 +62,7 @@ fn byte_at(bytes: &[u8], at: usize) -> u8
     bytes[at]
 }
 
-/// How many bytes come before the first null.
+/// How many bytes there are before the first null.
 fn count_before_null(bytes: &[u8]) -> usize
     ensures value { result ≡ prefix_len (λ byte. not (byte == 0)) bytes.now }
     ensures bound { result ≤ length bytes.now }
@@ -70,7 +70,7 @@ fn count_before_null(bytes: &[u8]) -> usize
     bytes.iter().take_while(|byte| **byte != 0).count()
 }
 
-/// What is left of bytes behind the first, if there is one.
+/// The bytes after the first; none if there are none.
 fn behind_first(bytes: &[u8]) -> &[u8]
     ensures { result.now ≡ drop 1 bytes.now }
 {
@@ -80,7 +80,7 @@ fn behind_first(bytes: &[u8]) -> &[u8]
     }
 }
 
-/// Bytes without the nulls among them, in the pieces between nulls.
+/// Appends bytes without their nulls, one run between nulls at a time.
 fn put_without_nulls(out: &mut Vec<u8>, bytes: &[u8]) -> Result<(), Memory>
     ensures { AppendsSome out.old out.new result (without_nulls bytes.now) }
 {
@@ -93,7 +93,8 @@ fn put_without_nulls(out: &mut Vec<u8>, bytes: &[u8]) -> Result<(), Memory>
     Ok(())
 }
 
-/// The text of a field, round the end, without nulls. `next` is the first attribute behind its own, or the number of cells.
+/// Appends the text of the field whose attribute is at `attr`, without nulls, wrapping at the end. `next` is the
+/// address of the first attribute after it, or the number of cells.
 fn put_field_text(
     out: &mut Vec<u8>,
     cells: &ScreenCells,
@@ -113,7 +114,7 @@ fn put_field_text(
     Ok(())
 }
 
-/// SBA, the field's first address and its text.
+/// Appends SBA, the address of the field's first cell, and its text without nulls.
 fn put_field(
     out: &mut Vec<u8>,
     cells: &ScreenCells,
@@ -142,7 +143,7 @@ fn is_modified_attribute(cell: Cell) -> bool
     }
 }
 
-/// A field, if it is modified.
+/// Appends a field, if its MDT is on.
 fn put_field_if_modified(
     out: &mut Vec<u8>,
     cells: &ScreenCells,
@@ -164,7 +165,7 @@ fn put_field_if_modified(
     }
 }
 
-/// The first attribute, whose field is listed first, or the number of cells.
+/// The address of the first attribute, whose field is returned first, or the number of cells.
 fn first_listed(cells: &ScreenCells) -> usize
     ensures place { result ≡ 0 + prefix_len is_char (drop 0 cells.now) }
     ensures within { result ≤ length cells.now }
@@ -172,7 +173,7 @@ fn first_listed(cells: &ScreenCells) -> usize
     cells.attribute_from(0)
 }
 
-/// The modified fields, by the addresses of their attributes.
+/// Appends the fields with MDT on, by the addresses of their attributes.
 fn put_modified_fields(out: &mut Vec<u8>, cells: &ScreenCells, size: Size) -> Result<(), Memory>
     requires { length cells.now ≡ cells_in size }
     ensures { let places = places_from is_modified 0 cells.now in
@@ -199,21 +200,21 @@ fn put_modified_text(out: &mut Vec<u8>, buffer: &Buffer) -> Result<(), Memory>
     }
 }
 
-/// Whether the AID stands alone.
+/// Whether the answer is the AID alone; `all`: to Read Modified All.
 fn is_short_form(aid: Aid, all: bool) -> bool
     ensures { result ≡ (is_short_aid aid && not all) }
 {
     aid.is_short() && !all
 }
 
-/// An attribute as SF and its code.
+/// Appends an attribute: SF and its code.
 fn put_attribute(out: &mut Vec<u8>, code: u8) -> Result<(), Memory>
     ensures { AppendsSome out.old out.new result (start_field ∷ code ∷ []) }
 {
     put_bytes(out, &[START_FIELD, code])
 }
 
-/// All cells: the characters between attributes as they are, and the attributes.
+/// Appends all cells: the characters as they are, nulls included, and each attribute as SF and its code.
 fn put_cells(out: &mut Vec<u8>, cells: &ScreenCells) -> Result<(), Memory>
     ensures { AppendsSome out.old out.new result (flat_map cell_bytes cells.now) }
 {
@@ -268,9 +269,9 @@ impl Buffer {
 }
 
 impl Screen {
-    /// Appends what Read Buffer answers (GA23-0059-07 on Read Buffer): the AID, the cursor's address, and every cell from
-    /// address 0 on, an attribute as SF and its code. It succeeds where `out` has room; where memory is refused nothing is
-    /// appended.
+    /// Appends the answer to Read Buffer (GA23-0059-07 on Read Buffer): the AID, the cursor's address, and every cell
+    /// from address 0 on, nulls included, an attribute as SF and its code. `Memory` if an allocation fails, which can't
+    /// happen if `out` has room; `out` has its old bytes then.
     pub fn put_read_buffer(&self, out: &mut Vec<u8>) -> Result<(), Memory>
         ensures appends { Appends out.old out.new result (read_buffer self.now.screen) }
         // It is read as this screen's cells.
@@ -284,14 +285,15 @@ impl Screen {
         put
     }
 
-    /// Appends what Read Modified answers, with `all` Read Modified All (GA23-0059-07 on Read Modified): the AID, the cursor's
-    /// address, and for each field with MDT on, by the address of its attribute, SBA, the address of its first cell and its
-    /// characters without nulls. On an unformatted screen all characters without nulls follow the cursor. After PA or Clear
-    /// Read Modified answers the AID alone. It succeeds where `out` has room; where memory is refused nothing is appended.
+    /// Appends the answer to Read Modified or, if `all`, Read Modified All (GA23-0059-07 on Read Modified): the AID,
+    /// the cursor's address, and for each field with MDT on, by the address of its attribute, SBA, the address of its
+    /// first cell and its characters without nulls; on an unformatted screen, all characters without nulls. After a PA
+    /// key or Clear, Read Modified is answered by the AID alone. `Memory` as for `put_read_buffer`.
     pub fn put_read_modified(&self, out: &mut Vec<u8>, all: bool) -> Result<(), Memory>
         ensures appends { Appends out.old out.new result (read_modified all self.now.screen) }
         // It is read as this screen's modified fields.
-        ensures inbound { IsInbound (modified_data (form_of all) self.now.size self.now.screen) (read_modified all self.now.screen) }
+        ensures inbound { IsInbound (modified_data (form_of all) self.now.size self.now.screen)
+            (read_modified all self.now.screen) }
     {
         let start = out.len();
         let put = self.buffer.put_modified(out, all);

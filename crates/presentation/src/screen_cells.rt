@@ -3,7 +3,7 @@ ghost use Rattle.std.specs.Prelude.{◌≡◌, ◌<◌, ◌≤◌, ◌+◌, ◌*
 ghost use Rattle.std.specs.Int.{bit_at};
 ghost use Rattle.std.specs.List.{list_all, prefix_len};
 ghost use Rattle.codes3270.specs.Size.{cells_in, most_cells};
-ghost use Rattle.codes3270.specs.declared.attribute.Cell.TheVariants.{Char, Attr as Held};
+ghost use Rattle.codes3270.specs.declared.attribute.Cell.TheVariants.{Char, Attr as AttrHere};
 ghost use Rattle.datastream.specs.CellBits.{bit_of};
 ghost use Rattle.datastream.specs.CellCodes.{code_in};
 ghost use Rattle.datastream.specs.Screen.{IsGoverned, is_char, is_char_at};
@@ -13,10 +13,10 @@ use codes3270::{Attr, Cell, Size};
 use datastream::{PackedCell, PackedCells};
 use std::marker::Model;
 
-/// How many cells' bits a word has.
+/// How many cells a word has a bit for.
 pub(crate) const BITS: usize = 64;
 
-/// The cells of a screen of any size, kept as a byte and a bit each. Contracts see their list.
+/// The cells of a screen, each as a byte (its code) and a bit (whether it is an attribute). Contracts see their list.
 #[derive(Clone, Debug, Drop)]
 pub(crate) struct ScreenCells {
     packed: PackedCells,
@@ -36,7 +36,7 @@ impl Model for ScreenCells {
 }
 
 impl ScreenCells {
-    /// A null in each cell of a screen of this size.
+    /// The cells of a screen of this size, all nulls.
     pub(crate) fn nulls(size: Size) -> ScreenCells
         ensures { result ≡ replicate (cells_in size) (Char 0) }
     {
@@ -45,14 +45,14 @@ impl ScreenCells {
         }
     }
 
-    /// A null in each cell of a screen of this size, which may be another than before.
+    /// Takes this size, which may differ from the old one, and nulls each cell.
     pub(crate) fn clear(&mut self, size: Size)
         ensures { self.new ≡ replicate (cells_in size) (Char 0) }
     {
         self.packed.clear(size);
     }
 
-    /// How many cells there are.
+    /// How many cells there are, at least 1.
     pub(crate) fn len(&self) -> usize
         ensures len { result ≡ length self.now }
         ensures few { result ≤ most_cells }
@@ -61,7 +61,7 @@ impl ScreenCells {
         self.packed.len()
     }
 
-    /// What a cell holds.
+    /// The cell at an address.
     #[inline(always)]
     pub(crate) fn get(&self, at: usize) -> Cell
         requires { at < length self.now }
@@ -70,7 +70,7 @@ impl ScreenCells {
         self.packed.get(at)
     }
 
-    /// The code of a cell's character.
+    /// The code of the character at an address, where there must be one.
     #[inline(always)]
     pub(crate) fn character(&self, at: usize) -> u8
         requires placed { at < length self.now }
@@ -80,17 +80,17 @@ impl ScreenCells {
         self.codes()[at]
     }
 
-    /// The attribute that a cell holds.
+    /// The attribute at an address, where there must be one.
     #[inline(always)]
     pub(crate) fn attribute(&self, at: usize) -> Attr
         requires placed { at < length self.now }
         requires attribute { is_char_at self.now at ≡ false }
-        ensures { slice_index_or self.now at (Char 0) ≡ Held result }
+        ensures { slice_index_or self.now at (Char 0) ≡ AttrHere result }
     {
         self.packed.attribute_at(at)
     }
 
-    /// Stores a cell.
+    /// Stores a cell at an address.
     #[inline(always)]
     pub(crate) fn set(&mut self, at: usize, cell: Cell)
         requires { at < length self.old }
@@ -99,7 +99,7 @@ impl ScreenCells {
         self.packed.set(at, PackedCell::new(cell));
     }
 
-    /// Stores characters from an address on.
+    /// Stores characters from an address on; they must fit before the end.
     #[inline(always)]
     pub(crate) fn put_characters(&mut self, from: usize, text: &[u8])
         requires { from + length text.now ≤ length self.old }
@@ -108,7 +108,7 @@ impl ScreenCells {
         self.packed.store_characters(from, text);
     }
 
-    /// The codes of the characters, and those that attributes are written as.
+    /// The code of each cell, by address: that of its character, or that of its attribute in an SF.
     pub(crate) fn codes(&self) -> &[u8]
         ensures codes { result.now ≡ map code_in self.now }
         ensures len { length result.now ≡ length self.now }
@@ -116,7 +116,7 @@ impl ScreenCells {
         self.packed.codes()
     }
 
-    /// The first attribute from an address on, or the number of cells.
+    /// The address of the first attribute at or after an address, or the number of cells.
     pub(crate) fn attribute_from(&self, from: usize) -> usize
         requires { from ≤ length self.now }
         ensures place { result ≡ from + prefix_len is_char (drop from self.now) }
@@ -125,26 +125,28 @@ impl ScreenCells {
         self.packed.attribute_from(from)
     }
 
-    /// A bit for each of 64 cells, set where an attribute is.
+    /// A bit for each of the 64 cells of a word, set if the cell holds an attribute. The word must be full.
     #[inline(always)]
     pub(crate) fn attribute_word(&self, word: usize) -> u64
         requires { 64 * word + 64 ≤ length self.now }
-        ensures { (place : ℕ) → place < 64 → bit_at result place ≡ bit_of (not (is_char_at self.now (64 * word + place))) }
+        ensures { (place : ℕ) → place < 64
+            → bit_at result place ≡ bit_of (not (is_char_at self.now (64 * word + place))) }
     {
         self.packed.attribute_word(word)
     }
 
-    /// The same of the last cells, at most 64. The bits behind the last cell are clear.
+    /// A bit for each cell of the last word, set if it holds an attribute. The bits after the last cell are clear.
     pub(crate) fn last_attribute_word(&self, word: usize) -> u64
         requires some { 64 * word < length self.now }
         requires last { length self.now ≤ 64 * word + 64 }
-        ensures { (place : ℕ) → place < 64 → bit_at result place ≡ bit_of (not (is_char_at self.now (64 * word + place))) }
+        ensures { (place : ℕ) → place < 64
+            → bit_at result place ≡ bit_of (not (is_char_at self.now (64 * word + place))) }
     {
         let left = self.packed.len() - BITS * word;
         self.packed.attribute_word(word) & ones_below(left)
     }
 
-    /// The attribute that governs a cell: the last up to it, itself included, or else the last of all. None if there is none.
+    /// The address of the attribute that governs a cell: the last at or before it, or else the last; `None` if none is.
     pub(crate) fn governing(&self, at: usize) -> Option<usize>
         requires { at < length self.now }
         ensures none { IfNone result (IsTrue (list_all is_char self.now)) }
@@ -158,7 +160,7 @@ impl ScreenCells {
     }
 }
 
-/// A word whose bits below a place are set, at least one.
+/// A word whose `place` lowest bits are set; `place` is in 1..=64.
 fn ones_below(place: usize) -> u64
     requires some { 0 < place }
     requires few { place ≤ 64 }

@@ -1,4 +1,4 @@
-//! What commands make of the screen.
+//! How commands change the screen.
 ghost use Rattle.std.specs.Prelude.{◌≡◌, ◌<◌, ◌≤◌, ◌+◌, All, drop, length, map, false, true};
 ghost use Rattle.std.specs.List.{prefix_len};
 ghost use Rattle.codes3270.specs.Size.{cells_in};
@@ -6,7 +6,7 @@ ghost use Rattle.codes3270.specs.Storable.{is_storable};
 ghost use Rattle.codes3270.specs.declared.attribute.Cell.TheVariants.{Char};
 ghost use Rattle.datastream.specs.Screen.{is_char};
 ghost use Rattle.datastream.specs.Grammar.{IsProper};
-ghost use Rattle.datastream.specs.declared.order.Order.TheVariants.{Sba, Ic, Ra, Eua, Pt, Char as Data};
+ghost use Rattle.datastream.specs.declared.order.Order.TheVariants.{Sba, Ic, Ra, Eua, Pt, Char as CharData};
 ghost use Rattle.datastream.specs.Meaning.{WriteProgress, filled, stored, executed, all_executed, prepared, restored, cleared, written, unprotected_erased};
 ghost use Rattle.presentation.specs.Applied.{asked_by, asked_by_wcc};
 ghost use Rattle.presentation.specs.Sizes.{HasSize, IsReadFor, applied};
@@ -20,14 +20,14 @@ use datastream::{Command, CommandCode, Order, Orders};
 /// What a command asks of the keyboard and the alarm (GA23-0059-07, "Write Control Character (WCC)").
 #[derive(Clone, Copy, Debug, PartialEq, Eq)]
 pub struct Applied {
-    /// Free the keyboard.
+    /// Whether to unlock the keyboard.
     pub restore: bool,
-    /// Sound the alarm.
+    /// Whether to sound the alarm.
     pub alarm: bool,
 }
 
 impl Applied {
-    /// Nothing is asked for.
+    /// Neither.
     const fn nothing() -> Applied
         ensures { result ≡ record { restore = false; alarm = false } }
     {
@@ -38,7 +38,7 @@ impl Applied {
     }
 }
 
-/// The position of a write: the current address, and whether a PT as the next order nulls.
+/// The position of a write: the buffer address, and whether a PT as the next order nulls up to the next attribute.
 #[derive(Clone, Copy)]
 struct WritePosition {
     address: Addr,
@@ -46,7 +46,7 @@ struct WritePosition {
 }
 
 impl WritePosition {
-    /// At an address behind data.
+    /// The position at an address after data.
     const fn after_data(address: Addr) -> WritePosition
         ensures { result ≡ record { address = address; nulls = true } }
     {
@@ -56,7 +56,7 @@ impl WritePosition {
         }
     }
 
-    /// At an address behind any other order.
+    /// The position at an address after any other order.
     const fn moved_to(address: Addr) -> WritePosition
         ensures { result ≡ record { address = address; nulls = false } }
     {
@@ -68,7 +68,7 @@ impl WritePosition {
 }
 
 impl Buffer {
-    /// All cells of a screen of a size null, the cursor at 0; the AID stays.
+    /// Takes a size, nulls all cells, and moves the cursor to 0; the AID stays.
     pub(crate) fn erase(&mut self, size: Size)
         requires { HasSize self.old.model size }
         ensures { self.new ≡ record self.old { size = size; screen = cleared (cells_in size) self.old.screen } }
@@ -78,14 +78,14 @@ impl Buffer {
         self.cursor = Addr::first();
     }
 
-    /// All cells null, the cursor at 0; the size and the AID stay.
+    /// Nulls all cells and moves the cursor to 0; the size and the AID stay.
     pub(crate) fn clear(&mut self)
         ensures { self.new ≡ record self.old { screen = cleared (cells_in self.old.size) self.old.screen } }
     {
         self.erase(self.size);
     }
 
-    /// The characters of unprotected fields null, MDT off in their attributes, the cursor at `home`.
+    /// Nulls the unprotected characters, turns MDT off in unprotected attributes, and moves the cursor to `home`.
     pub(crate) fn erase_unprotected(&mut self)
         ensures { self.new ≡ record self.old { screen = unprotected_erased self.old.screen } }
     {
@@ -95,7 +95,7 @@ impl Buffer {
         cells::reset_open_mdt(&mut self.cells);
     }
 
-    /// What a command says, and what it asks of the keyboard and the alarm.
+    /// Carries out a command, and returns what it asks of the keyboard and the alarm.
     pub(crate) fn apply(&mut self, command: &Command<'_>) -> Applied
         requires { IsReadFor self.old command.now }
         ensures screen { self.new ≡ applied command.now self.old }
@@ -121,7 +121,7 @@ impl Buffer {
         }
     }
 
-    /// A write from the cursor on.
+    /// Carries out the WCC and the orders of a write, from the cursor on.
     fn write(&mut self, wcc: Option<Wcc>, orders: Orders<'_>) -> Applied
         requires { All (IsProper (cells_in self.old.size)) orders }
         ensures screen { self.new ≡ record self.old { screen = written wcc orders.entry self.old.screen } }
@@ -155,13 +155,14 @@ impl Buffer {
         }
     }
 
-    /// The orders of a write, from the cursor on.
+    /// Carries out the orders of a write, from the cursor on.
     fn execute_all(&mut self, orders: Orders<'_>)
         requires { All (IsProper (cells_in self.old.size)) orders }
-        ensures { let start : WriteProgress = record { screen = self.old.screen; address = self.old.screen.cursor; after_data = false } in
+        ensures { let start : WriteProgress =
+            record { screen = self.old.screen; address = self.old.screen.cursor; after_data = false } in
             self.new ≡ record self.old { screen = (all_executed orders.entry start).screen } }
     {
-        // One value for all orders: it need not be read again behind each store.
+        // Read once for all orders, so that it needn't be read after each store.
         let size = self.size;
         let mut orders = orders;
         let start = WritePosition::moved_to(self.cursor());
@@ -172,14 +173,16 @@ impl Buffer {
         }
     }
 
-    /// The characters of a write that come one after another.
+    /// Stores a run of data characters, wrapping at the end, and returns the position after it.
     #[inline(always)]
     fn put_characters(&mut self, text: &[u8], position: WritePosition, size: Size) -> WritePosition
         requires same { size ≡ self.old.size }
         requires storable { All (λ byte. is_storable byte ≡ true) text.now }
         requires address { position.address < cells_in self.old.size }
-        ensures write { let write : WriteProgress = record { screen = self.old.screen; address = position.address; after_data = position.nulls } in
-            record { screen = self.new.screen; address = result.address; after_data = result.nulls } ≡ all_executed (map Data text.now) write }
+        ensures write { let write : WriteProgress =
+            record { screen = self.old.screen; address = position.address; after_data = position.nulls } in
+            record { screen = self.new.screen; address = result.address; after_data = result.nulls }
+            ≡ all_executed (map CharData text.now) write }
         ensures in_range { result.address < cells_in self.old.size }
         ensures size { self.new ≡ record self.old { screen = self.new.screen } }
     {
@@ -194,15 +197,17 @@ impl Buffer {
         }
     }
 
-    /// The same of some characters. Mostly there are cells for all of them up to the last cell.
+    /// Does the work of `put_characters` for at least one character. Usually all of them fit before the end.
     #[inline(always)]
     fn put_run(&mut self, text: &[u8], position: WritePosition, size: Size) -> WritePosition
         requires same { size ≡ self.old.size }
         requires storable { All (λ byte. is_storable byte ≡ true) text.now }
         requires some { 0 < length text.now }
         requires address { position.address < cells_in self.old.size }
-        ensures write { let write : WriteProgress = record { screen = self.old.screen; address = position.address; after_data = position.nulls } in
-            record { screen = self.new.screen; address = result.address; after_data = result.nulls } ≡ all_executed (map Data text.now) write }
+        ensures write { let write : WriteProgress =
+            record { screen = self.old.screen; address = position.address; after_data = position.nulls } in
+            record { screen = self.new.screen; address = result.address; after_data = result.nulls }
+            ≡ all_executed (map CharData text.now) write }
         ensures in_range { result.address < cells_in self.old.size }
         ensures size { self.new ≡ record self.old { screen = self.new.screen } }
     {
@@ -213,14 +218,16 @@ impl Buffer {
         }
     }
 
-    /// The same of characters that go on from the last cell at the first.
+    /// Does the work of `put_characters` for characters that may wrap at the end.
     #[inline(never)]
     fn put_round(&mut self, text: &[u8], position: WritePosition, size: Size) -> WritePosition
         requires same { size ≡ self.old.size }
         requires storable { All (λ byte. is_storable byte ≡ true) text.now }
         requires address { position.address < cells_in self.old.size }
-        ensures write { let write : WriteProgress = record { screen = self.old.screen; address = position.address; after_data = position.nulls } in
-            record { screen = self.new.screen; address = result.address; after_data = result.nulls } ≡ all_executed (map Data text.now) write }
+        ensures write { let write : WriteProgress =
+            record { screen = self.old.screen; address = position.address; after_data = position.nulls } in
+            record { screen = self.new.screen; address = result.address; after_data = result.nulls }
+            ≡ all_executed (map CharData text.now) write }
         ensures in_range { result.address < cells_in self.old.size }
         ensures size { self.new ≡ record self.old { screen = self.new.screen } }
     {
@@ -235,15 +242,17 @@ impl Buffer {
         position
     }
 
-    /// The same of characters for which there are cells up to the last.
+    /// Does the work of `put_characters` for at least one character, all of which must fit before the end.
     #[inline(always)]
     fn put_front(&mut self, text: &[u8], position: WritePosition, size: Size) -> WritePosition
         requires same { size ≡ self.old.size }
         requires storable { All (λ byte. is_storable byte ≡ true) text.now }
         requires some { 0 < length text.now }
         requires room { position.address + length text.now ≤ cells_in self.old.size }
-        ensures write { let write : WriteProgress = record { screen = self.old.screen; address = position.address; after_data = position.nulls } in
-            record { screen = self.new.screen; address = result.address; after_data = result.nulls } ≡ all_executed (map Data text.now) write }
+        ensures write { let write : WriteProgress =
+            record { screen = self.old.screen; address = position.address; after_data = position.nulls } in
+            record { screen = self.new.screen; address = result.address; after_data = result.nulls }
+            ≡ all_executed (map CharData text.now) write }
         ensures in_range { result.address < cells_in self.old.size }
         ensures size { self.new ≡ record self.old { screen = self.new.screen } }
     {
@@ -252,13 +261,15 @@ impl Buffer {
         WritePosition::after_data(address.forward(text.len() as u16, size))
     }
 
-    /// One order of a write.
+    /// Carries out one order of a write, and returns the position after it.
     fn execute(&mut self, order: Order, position: WritePosition, size: Size) -> WritePosition
         requires same { size ≡ self.old.size }
         requires proper { IsProper (cells_in self.old.size) order }
         requires address { position.address < cells_in self.old.size }
-        ensures write { let write : WriteProgress = record { screen = self.old.screen; address = position.address; after_data = position.nulls } in
-            record { screen = self.new.screen; address = result.address; after_data = result.nulls } ≡ executed order write }
+        ensures write { let write : WriteProgress =
+            record { screen = self.old.screen; address = position.address; after_data = position.nulls } in
+            record { screen = self.new.screen; address = result.address; after_data = result.nulls }
+            ≡ executed order write }
         ensures in_range { result.address < cells_in self.old.size }
         ensures size { self.new ≡ record self.old { screen = self.new.screen } }
     {
@@ -291,7 +302,8 @@ impl Buffer {
         requires same { size ≡ self.old.size }
         requires storable { IsStorableCell cell }
         requires address { address < cells_in self.old.size }
-        ensures write { let write : WriteProgress = record { screen = self.old.screen; address = address; after_data = false } in
+        ensures write { let write : WriteProgress =
+            record { screen = self.old.screen; address = address; after_data = false } in
             record { screen = self.new.screen; address = result; after_data = false } ≡ stored write cell }
         ensures in_range { result < cells_in self.old.size }
         ensures size { self.new ≡ record self.old { screen = self.new.screen } }
@@ -304,7 +316,8 @@ impl Buffer {
 
     fn place_cursor(&mut self, address: Addr)
         requires { address < cells_in self.old.size }
-        ensures write { let write : WriteProgress = record { screen = self.old.screen; address = address; after_data = false } in
+        ensures write { let write : WriteProgress =
+            record { screen = self.old.screen; address = address; after_data = false } in
             record { screen = self.new.screen; address = address; after_data = false } ≡ executed Ic write }
         ensures size { self.new ≡ record self.old { screen = self.new.screen } }
     {
@@ -315,7 +328,8 @@ impl Buffer {
         requires storable { is_storable byte ≡ true }
         requires address { address < cells_in self.old.size }
         requires stop { stop < cells_in self.old.size }
-        ensures write { let write : WriteProgress = record { screen = self.old.screen; address = address; after_data = false } in
+        ensures write { let write : WriteProgress =
+            record { screen = self.old.screen; address = address; after_data = false } in
             record { screen = self.new.screen; address = stop; after_data = false } ≡ executed (Ra stop byte) write }
         ensures size { self.new ≡ record self.old { screen = self.new.screen } }
     {
@@ -327,7 +341,8 @@ impl Buffer {
     fn erase_up_to(&mut self, address: Addr, stop: Addr)
         requires address { address < cells_in self.old.size }
         requires stop { stop < cells_in self.old.size }
-        ensures write { let write : WriteProgress = record { screen = self.old.screen; address = address; after_data = false } in
+        ensures write { let write : WriteProgress =
+            record { screen = self.old.screen; address = address; after_data = false } in
             record { screen = self.new.screen; address = stop; after_data = false } ≡ executed (Eua stop) write }
         ensures size { self.new ≡ record self.old { screen = self.new.screen } }
     {
@@ -338,8 +353,10 @@ impl Buffer {
 
     fn tab(&mut self, position: WritePosition) -> WritePosition
         requires { position.address < cells_in self.old.size }
-        ensures write { let write : WriteProgress = record { screen = self.old.screen; address = position.address; after_data = position.nulls } in
-            record { screen = self.new.screen; address = result.address; after_data = result.nulls } ≡ executed Pt write }
+        ensures write { let write : WriteProgress =
+            record { screen = self.old.screen; address = position.address; after_data = position.nulls } in
+            record { screen = self.new.screen; address = result.address; after_data = result.nulls }
+            ≡ executed Pt write }
         ensures in_range { result.address < cells_in self.old.size }
         ensures size { self.new ≡ record self.old { screen = self.new.screen } }
     {
@@ -359,7 +376,12 @@ impl Buffer {
     fn null_field_from(&mut self, address: Addr)
         requires { address < cells_in self.old.size }
         ensures { let old = self.old.screen.cells in
-            self.new ≡ record self.old { screen = record self.old.screen { cells = filled address (prefix_len is_char (drop address old)) (Char 0) old } } }
+            self.new ≡ record self.old {
+              screen =
+                  record self.old.screen {
+                    cells = filled address (prefix_len is_char (drop address old)) (Char 0) old;
+                  };
+            } }
     {
         let ahead = cells::characters_ahead(&self.cells, address);
         cells::fill(&mut self.cells, address, ahead, 0, self.size);

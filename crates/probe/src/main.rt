@@ -1,8 +1,8 @@
-//! The probe: makes public calls of the libraries as lines of standard input say, and prints what they answer.
+//! The probe: calls public functions of the libraries as the lines of standard input say, and prints their results.
 //!
-//! `probe SUBJECT` takes a command a line, and writes the lines of its answer and a line `.`. It answers a line that it
-//! doesn't understand by `? REASON`. It asserts nothing: the suites of `tests/` compare. The commands of a subject are the
-//! arms of its `take`; the head of its file has what these don't say.
+//! `probe SUBJECT` reads one command in each line, and writes the lines of its answer and a line `.`. The answer to an
+//! invalid line is `? REASON`. The probe asserts nothing: the suites of `tests/` compare its output. The commands of a
+//! subject are the arms of its `take`; the head of its file documents what these don't show.
 #![tactic(auto)]
 
 mod subjects;

@@ -1,4 +1,4 @@
-//! The subjects, each in a file, and the lines of standard input that they answer.
+//! The subjects, each in its own file, and the loop that answers the lines of standard input.
 mod belief;
 mod cells;
 mod codes;
@@ -26,13 +26,13 @@ use telnet_wire::Decoder;
 use term_core::Terminal;
 
 pub(crate) trait Subject {
-    /// Does the command of a line, and puts the lines of its answer, each with its newline.
+    /// Executes the command of a line, and adds the lines of its answer, each with its newline.
     fn take(&mut self, words: &mut Words<'_>, answer: &mut Answer) -> Done;
 }
 
-/// A subject that a command `new` makes, and other commands are done to.
+/// A subject that the command `new` creates, and on which the other commands act.
 pub(crate) trait Made {
-    /// Makes it as the words after `new` say.
+    /// Creates it from the words after `new`.
     fn new(words: &mut Words<'_>) -> Result<Self, Fault>;
 
     fn take(&mut self, word: &str, words: &mut Words<'_>, answer: &mut Answer) -> Done;
@@ -66,7 +66,7 @@ fn take_all<S: Subject>(subject: &mut S, words: &mut Words<'_>, answer: &mut Ans
     }
 }
 
-/// Does the command of a line, and puts the whole answer.
+/// Executes the command of a line, and adds the whole answer.
 fn put_answer<S: Subject>(subject: &mut S, mut words: Words<'_>, answer: &mut Answer) -> Put {
     answer.text.clear();
     if let Err(fault) = take_all(subject, &mut words, answer) {
@@ -76,11 +76,11 @@ fn put_answer<S: Subject>(subject: &mut S, mut words: Words<'_>, answer: &mut An
     answer.text.push_str(".\n")
 }
 
-/// Answers each line of standard input. A command after `! ` is done between the lines `begin` and `end` on standard
-/// error: so a library that is preloaded can tell the growths of memory in it.
+/// Answers each line of standard input. A command after `! ` is executed between the lines `begin` and `end` on
+/// standard error, so that a preloaded library can find its allocations.
 fn serve<S: Subject + Drop>(rt: &HostRuntime, mut subject: S) -> io::Result<bool> {
     let alloc = rt.alloc();
-    // Answers have room, so that want of memory is but that of calls.
+    // Room for answers is reserved, so that only the calls themselves can lack memory.
     let text = String::with_capacity(alloc, 1 << 16)?;
     let out = Vec::new(alloc);
     let mut answer = Answer { text, out };

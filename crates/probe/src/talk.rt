@@ -14,20 +14,20 @@ pub(crate) const MODELS: [Model; 4] = [Model::M2, Model::M3, Model::M4, Model::M
 
 #[derive(Debug, Drop, Error)]
 pub(crate) enum Fault {
-    /// The line is no command of the subject, with its words.
+    /// The line isn't a command of the subject. The text has its words.
     #[error("doesn't understand")]
     Line,
-    /// An allocation of the probe's own failed.
+    /// An allocation by the probe itself failed.
     #[error("no memory")]
     NoMemory(#[from(alloc)] AllocError),
 }
 
 pub(crate) type Done = Result<(), Fault>;
 
-/// Whether a call had the memory that it wanted.
+/// Whether a call got the memory that it needed.
 pub(crate) type Put = Result<(), AllocError>;
 
-/// The words of a line that weren't read yet.
+/// The words of a line that haven't been read yet.
 #[derive(Drop)]
 pub(crate) struct Words<'a> {
     pub(crate) alloc: Global,
@@ -44,7 +44,7 @@ impl<'a> Words<'a> {
         Ok(word)
     }
 
-    /// The rest of the line, as it is.
+    /// The rest of the line, unchanged.
     pub(crate) fn rest(&mut self) -> &'a str {
         mem::replace(&mut self.rest, "")
     }
@@ -53,7 +53,7 @@ impl<'a> Words<'a> {
         named(self.alloc, values, self.word()?)
     }
 
-    /// The next word as a number in decimal, or as `true` or `false`.
+    /// The next word as a decimal number, or as `true` or `false`.
     pub(crate) fn number<T: FromStr>(&mut self) -> Result<T, Fault>
     where
         T::Err: Drop,
@@ -62,7 +62,7 @@ impl<'a> Words<'a> {
         number.map_err(|_| Fault::Line)
     }
 
-    /// The next word as a number below a count.
+    /// The next word as a number below `count`.
     pub(crate) fn index(&mut self, count: usize) -> Result<usize, Fault>
         ensures { IfOk result (λ index. index < count) }
     {
@@ -86,7 +86,7 @@ impl<'a> Words<'a> {
         Ok(self.model()?.alternate())
     }
 
-    /// The bytes of all words that are left, one after the other.
+    /// The bytes of all remaining words, one after the other.
     pub(crate) fn bytes(&mut self) -> Result<Vec<u8>, Fault> {
         let mut bytes = Vec::new(self.alloc);
         for word in self.rest().split_whitespace() {
@@ -96,7 +96,7 @@ impl<'a> Words<'a> {
     }
 }
 
-/// The lines of an answer, and the vector that calls append to.
+/// The lines of an answer, and the vector to which calls append.
 #[derive(Drop)]
 pub(crate) struct Answer {
     pub(crate) text: String,
@@ -104,7 +104,7 @@ pub(crate) struct Answer {
 }
 
 impl Answer {
-    /// Does `vector ROOM BYTES`, `appended` or `capacity`, a command on the vector, if the line is one.
+    /// Executes `vector ROOM BYTES`, `appended` or `capacity`, the commands on the vector, if the line is one of them.
     pub(crate) fn take_vector(&mut self, words: &mut Words<'_>) -> Result<bool, Fault> {
         let line = words.rest;
         match words.word()? {
@@ -119,22 +119,22 @@ impl Answer {
         Ok(words.rest != line)
     }
 
-    /// Puts a line: a name, and bytes in hexadecimal, `-` for none.
+    /// Adds a line: a name, and bytes in hexadecimal, `-` for none.
     pub(crate) fn name(&mut self, name: &str, bytes: &[u8]) -> Done {
         Ok(put_bytes(&mut self.text, name, bytes)?)
     }
 
-    /// Puts a line: a value by `{:?}`.
+    /// Adds a line: a value, printed by `{:?}`.
     pub(crate) fn line<T: Debug>(&mut self, value: &T) -> Done {
         Ok(writeln!(self.text, "{value:?}")?)
     }
 
-    /// Puts a line: a value as it is printed.
+    /// Adds a line: a value, printed by `{}`.
     pub(crate) fn said<T: Display>(&mut self, value: &T) -> Done {
         Ok(writeln!(self.text, "{value}")?)
     }
 
-    /// Puts a line: what a call answers by `{:?}`, or its fault as it is printed.
+    /// Adds a line: the result of a call, printed by `{:?}`, or its fault, printed by `{}`.
     pub(crate) fn called<T: Debug, F: Display>(&mut self, called: &Result<T, F>) -> Done {
         match called {
             Ok(value) => self.line(value),
@@ -142,7 +142,7 @@ impl Answer {
         }
     }
 
-    /// Puts a line: a name, and each item by `{:?}`.
+    /// Adds a line: a name, and each item, printed by `{:?}`.
     pub(crate) fn each<T: Debug + Drop, I: Iterator<Item = T> + Drop>(
         &mut self,
         name: &str,
@@ -163,7 +163,7 @@ impl Answer {
         Ok(self.text.push_str(done)?)
     }
 
-    /// Puts the lines of a text, each after `|`, if there was memory for it.
+    /// Adds the lines of a text, each after `|`, if there was memory for it.
     pub(crate) fn page(&mut self, page: Result<String, AllocError>) -> Done {
         match page {
             Ok(text) => Ok(for line in text.lines() {
@@ -174,7 +174,7 @@ impl Answer {
     }
 }
 
-/// Puts bytes in hexadecimal, `-` for none.
+/// Adds bytes in hexadecimal, `-` for none.
 pub(crate) fn put_hex(answer: &mut String, bytes: &[u8]) -> Put {
     answer.push_str(if bytes.is_empty() { "-" } else { "" })?;
     for byte in bytes {
@@ -189,7 +189,7 @@ fn put_bytes(answer: &mut String, name: &str, bytes: &[u8]) -> Put {
     answer.push('\n')
 }
 
-/// The value that is printed so by `{:?}`, in any case.
+/// The value that `{:?}` prints as this word, in upper or lower case.
 pub(crate) fn named<T: Copy + Debug>(alloc: Global, values: &[T], name: &str) -> Result<T, Fault> {
     for value in values {
         if format!(in alloc; "{value:?}")?.eq_ignore_ascii_case(name) {
@@ -207,7 +207,7 @@ pub(crate) fn text_of(bytes: &[u8]) -> Result<&str, Fault> {
     str::from_utf8(bytes).map_err(|_| Fault::Line)
 }
 
-/// The bytes that a word says: pairs of hexadecimal digits, or `-` for none.
+/// The bytes that a word encodes: pairs of hexadecimal digits, or `-` for none.
 pub(crate) fn bytes_of(alloc: Global, word: &str) -> Result<Vec<u8>, Fault> {
     match hex::decode(alloc, if word == "-" { "" } else { word }) {
         Ok(bytes) => Ok(bytes),

@@ -1,4 +1,4 @@
-//! What is believed of a screen.
+//! What a host knows of a terminal's screen, kept as a list of fields.
 use crate::fields::{Cells, Chars, Fields, Known, fields_of, laid_out, mdt_state, push_chars};
 use crate::hearing::{after_attention, any_other, heard_fields};
 use crate::painting::{fits_fields, put_cells, wants_of};
@@ -12,18 +12,17 @@ use datastream::{
 use shadow::{HeardFault, MdtState, plain};
 use std::alloc::AllocError;
 
-/// What is believed of a screen.
+/// What a host knows of a terminal's screen.
 #[derive(Drop)]
 pub enum ReferenceBelief {
-    /// Nothing.
     Nothing,
-    /// The characters of a screen without attributes, as far as they are known.
+    /// The screen is unformatted. These are its characters, as far as they are known.
     Unformatted(Chars),
-    /// Its fields.
+    /// The screen is formatted. These are its fields.
     Formatted(Fields),
 }
 
-/// A cell that was just stored, or read.
+/// A cell that was stored by the current write, or read.
 fn stored_cell(cell: Cell) -> Known {
     match cell {
         Cell::Attr(attr) => Known::Attr(attr.with_mdt(false), mdt_state(attr.mdt)),
@@ -31,7 +30,7 @@ fn stored_cell(cell: Cell) -> Known {
     }
 }
 
-/// Stores what the orders store, and answers whether a cell is stored before the first address.
+/// Stores the cells of the orders. Answers whether a cell is stored before the first SBA.
 fn store(cells: &mut [Known], orders: Orders<'_>) -> bool {
     let mut place = None;
     let mut unplaced = false;
@@ -73,7 +72,7 @@ fn nulls_known() -> Chars {
     ArrayVec::from_array_in((), [Some(0); CELL_COUNT])
 }
 
-/// What these cells are, of whose fields some may keep the facts that they had.
+/// The belief that these cells give. A field keeps its fact if the write stored none of its characters.
 fn belief_of(before: &Fields, cells: &[Known]) -> ReferenceBelief {
     let after = fields_of(before, cells);
     if !after.heads().is_empty() {
@@ -88,7 +87,7 @@ fn belief_of(before: &Fields, cells: &[Known]) -> ReferenceBelief {
     ReferenceBelief::Unformatted(chars)
 }
 
-/// What is believed after a write on these cells.
+/// The belief after a Write to these cells.
 fn after_write(before: &Fields, cells: &mut Cells, command: &Command<'_>) -> ReferenceBelief {
     if command.wcc().is_some_and(|wcc| wcc.reset) {
         marks_off(cells.as_mut_slice());
@@ -106,7 +105,7 @@ fn after_erase(command: &Command<'_>) -> ReferenceBelief {
 }
 
 impl ReferenceBelief {
-    /// What is believed after a plain write.
+    /// The belief after a plain write.
     fn taken(&self, command: &Command<'_>) -> ReferenceBelief {
         match (command.code(), self) {
             (CommandCode::EraseWrite | CommandCode::EraseWriteAlternate, _) => after_erase(command),
@@ -172,7 +171,7 @@ impl ReferenceBelief {
         }
     }
 
-    /// All cells, as far as they are known; none if nothing is.
+    /// All cells, as far as they are known; empty if nothing is known.
     fn laid_out(&self) -> Cells {
         match self {
             ReferenceBelief::Nothing => ArrayVec::new(),
@@ -181,7 +180,7 @@ impl ReferenceBelief {
         }
     }
 
-    /// Takes in a write that a terminal carried out, if the bytes are one. Whether it is plain.
+    /// Takes a write that a terminal carried out, and answers whether it is plain; a fault if the bytes are no command.
     pub fn take(&mut self, bytes: &[u8]) -> Result<bool, CommandFault> {
         let command = read_command(bytes, Size::base(), Size::base())?;
         let is_taken = plain(&command);
@@ -191,7 +190,7 @@ impl ReferenceBelief {
         Ok(is_taken)
     }
 
-    /// Takes in what a terminal sent, or answers why it can't be.
+    /// Takes inbound data, or answers the fault for which the belief rules it out; an error if it is no inbound data.
     pub fn hear(&mut self, form: Form, bytes: &[u8]) -> Result<Option<HeardFault>, InboundFault> {
         match self.heard(&read_inbound(bytes, form, Size::base())?) {
             Ok(next) => {
@@ -202,12 +201,12 @@ impl ReferenceBelief {
         }
     }
 
-    /// Puts the cells as far as they are known, and a line for each field.
+    /// Prints the cells, as far as they are known, and a line for each field.
     pub fn put(&self, answer: &mut String) -> Result<(), AllocError> {
         answer.push_str("belief ")?;
         for cell in self.laid_out().as_slice() {
             let known = match *cell {
-                Known::Attr(attr, mark) => Some(Cell::Attr(attr.with_mdt(mark == MdtState::On))),
+                Known::Attr(attr, mdt) => Some(Cell::Attr(attr.with_mdt(mdt == MdtState::On))),
                 Known::Char(char, _) => char.map(Cell::Char),
             };
             put_cell(answer, known)?;
@@ -226,7 +225,7 @@ impl ReferenceBelief {
         Ok(())
     }
 
-    /// Whether Keep is only where it may be.
+    /// Whether Keep is wanted only where the belief allows it.
     pub fn fits(&self, wanted: &Wanted) -> bool {
         let wants = wants_of(wanted);
         match self {
@@ -235,7 +234,7 @@ impl ReferenceBelief {
         }
     }
 
-    /// Appends what paints a wanted screen, if it fits or keeps nothing.
+    /// Appends the command that paints a wanted screen; None if it keeps cells and doesn't fit.
     pub fn paint(&self, out: &mut Vec<u8>, wanted: &Wanted) -> Option<Result<(), Memory>> {
         if wanted.cells().any(|want| want == Want::Keep) && !self.fits(wanted) {
             return None;

@@ -1,4 +1,4 @@
-//! The list of fields that a belief is, the cells that it is laid out to, and the fields that cells make.
+//! A belief's list of fields, the cells that the fields lay out, and the fields that cells form.
 use arrayvec::ArrayVec;
 use codes3270::{Attr, CELL_COUNT};
 use shadow::{Fact, MdtState};
@@ -6,13 +6,13 @@ use shadow::{Fact, MdtState};
 /// What is known of a cell.
 #[derive(Clone, Copy)]
 pub(crate) enum Known {
-    /// An attribute, without its modified data tag, and what is known of that.
+    /// An attribute without its MDT bit, and what is known of that bit.
     Attr(Attr, MdtState),
-    /// A character, if it is known, and whether the write at hand stored it.
+    /// A character, if it is known, and whether the current write stored it.
     Char(Option<u8>, bool),
 }
 
-/// What is known of a modified data tag that is on, or off.
+/// The state of an MDT bit that is known.
 pub(crate) const fn mdt_state(is_on: bool) -> MdtState {
     if is_on { MdtState::On } else { MdtState::Off }
 }
@@ -23,25 +23,25 @@ impl Default for Known {
     }
 }
 
-/// A field. Its text lies from `start` to `end` among the texts; where its fact is `Any`, its characters lie so.
+/// A field. Its text is at `start` to `end` of the texts; if its fact is `Any`, its characters are at these places.
 #[derive(Clone, Copy)]
-pub(crate) struct Head {
+pub(crate) struct Field {
     pub(crate) place: usize,
     pub(crate) attr: Attr,
-    pub(crate) mark: MdtState,
+    pub(crate) mdt: MdtState,
     pub(crate) length: usize,
     pub(crate) fact: Fact,
     pub(crate) start: usize,
     pub(crate) end: usize,
 }
 
-impl Head {
-    /// A field of which nothing is known but where it is.
-    pub(crate) fn new(place: usize, attr: Attr, mark: MdtState, length: usize) -> Head {
-        Head {
+impl Field {
+    /// A field at a place, of whose characters nothing is known.
+    pub(crate) fn new(place: usize, attr: Attr, mdt: MdtState, length: usize) -> Field {
+        Field {
             place,
             attr,
-            mark,
+            mdt,
             length,
             fact: Fact::Any,
             start: 0,
@@ -50,9 +50,9 @@ impl Head {
     }
 }
 
-impl Default for Head {
-    fn default() -> Head {
-        Head::new(0, Attr::from_code(0x40), MdtState::Unknown, 0)
+impl Default for Field {
+    fn default() -> Field {
+        Field::new(0, Attr::from_code(0x40), MdtState::Unknown, 0)
     }
 }
 
@@ -60,9 +60,9 @@ impl Default for Head {
 #[derive(Clone, Copy)]
 pub(crate) struct Lent<'a> {
     pub(crate) fact: Fact,
-    /// What the fact speaks of, unless it is `Any`.
+    /// The text of the fact, unless that is `Any`.
     pub(crate) text: &'a [u8],
-    /// Where the fact is `Any`, each character that is known.
+    /// If the fact is `Any`, each character that is known.
     pub(crate) chars: &'a [Option<u8>],
 }
 
@@ -84,10 +84,10 @@ impl<'a> Lent<'a> {
     }
 }
 
-/// Fields, by the addresses of their attributes.
+/// Fields, in the order of the addresses of their attributes.
 #[derive(Drop)]
 pub struct Fields {
-    heads: ArrayVec<Head, CELL_COUNT>,
+    heads: ArrayVec<Field, CELL_COUNT>,
     texts: ArrayVec<u8, CELL_COUNT>,
     pub(crate) chars: ArrayVec<Option<u8>, CELL_COUNT>,
 }
@@ -101,12 +101,12 @@ impl Fields {
         }
     }
 
-    pub(crate) fn heads(&self) -> &[Head] {
+    pub(crate) fn heads(&self) -> &[Field] {
         self.heads.as_slice()
     }
 
     /// What is known of a field's characters.
-    pub(crate) fn lent(&self, head: Head) -> Lent<'_> {
+    pub(crate) fn lent(&self, head: Field) -> Lent<'_> {
         let span = head.start..head.end;
         if head.fact == Fact::Any {
             Lent::partly(self.chars.as_slice().get(span).unwrap_or(&[]))
@@ -115,8 +115,8 @@ impl Fields {
         }
     }
 
-    /// Adds a field, of whose characters that is known. There is room for as many as a screen has cells.
-    pub(crate) fn push(&mut self, head: Head, lent: Lent<'_>) {
+    /// Adds a field, with what is known of its characters. There is room for as many fields as a screen has cells.
+    pub(crate) fn push(&mut self, head: Field, lent: Lent<'_>) {
         let start = match lent.fact {
             Fact::Any => self.chars.len(),
             _ => self.texts.len(),
@@ -124,7 +124,7 @@ impl Fields {
         let _chars = self.chars.try_extend_from_slice(lent.chars);
         let _texts = self.texts.try_extend_from_slice(lent.text);
         let count = lent.text.len().max(lent.chars.len());
-        let _head = self.heads.try_push(Head {
+        let _head = self.heads.try_push(Field {
             fact: lent.fact,
             start,
             end: start.saturating_add(count),
@@ -146,9 +146,9 @@ pub(crate) fn push_chars(cells: &mut Cells, chars: &[Option<u8>]) {
     }
 }
 
-fn push_cells(cells: &mut Cells, fields: &Fields, head: Head) {
+fn push_cells(cells: &mut Cells, fields: &Fields, head: Field) {
     let lent = fields.lent(head);
-    let _full = cells.try_push(Known::Attr(head.attr, head.mark));
+    let _full = cells.try_push(Known::Attr(head.attr, head.mdt));
     match head.fact {
         Fact::Exact => {
             for char in lent.text {
@@ -164,7 +164,7 @@ fn push_cells(cells: &mut Cells, fields: &Fields, head: Head) {
     }
 }
 
-/// The fields' cells, by address.
+/// The cells of the fields, by buffer address.
 pub(crate) fn laid_out(fields: &Fields) -> Cells {
     let mut cells = ArrayVec::new();
     for head in fields.heads() {
@@ -178,16 +178,16 @@ pub(crate) fn laid_out(fields: &Fields) -> Cells {
     cells
 }
 
-/// The characters up to the first attribute, and their text as far as it is known.
+/// The characters up to the next attribute, and their text as far as it is known.
 #[derive(Drop)]
 struct Gathered {
     pub(crate) chars: Chars,
     pub(crate) text: ArrayVec<u8, CELL_COUNT>,
-    /// Whether one of them was just stored.
+    /// Whether the current write stored one of them.
     fresh: bool,
 }
 
-/// Gathers the characters behind an attribute, among these cells and then among all.
+/// Collects the characters after an attribute, up to the next attribute, round the end of the screen.
 fn gather(gathered: &mut Gathered, behind: &[Known], whole: &[Known]) {
     gathered.chars.clear();
     gathered.text.clear();
@@ -204,7 +204,7 @@ fn gather(gathered: &mut Gathered, behind: &[Known], whole: &[Known]) {
     }
 }
 
-/// What is known of the field that was gathered, if it doesn't keep what was known.
+/// What is known of the collected field from its characters alone.
 fn lent_now(gathered: &Gathered) -> Lent<'_> {
     if gathered.text.len() == gathered.chars.len() {
         Lent::told(Fact::Exact, gathered.text.as_slice())
@@ -213,18 +213,18 @@ fn lent_now(gathered: &Gathered) -> Lent<'_> {
     }
 }
 
-/// Adds the field that was gathered. It keeps its fact, where none of its characters was just stored.
-fn push_field(after: &mut Fields, gathered: &Gathered, before: &Fields, head: Head) {
+/// Adds the collected field. It keeps its earlier fact if the current write stored none of its characters.
+fn push_field(after: &mut Fields, gathered: &Gathered, before: &Fields, head: Field) {
     let length = gathered.chars.len();
     let mut heads = before.heads().iter();
     let lent = match heads.find(|old| old.place == head.place && old.length == length) {
         Some(old) if !gathered.fresh => before.lent(*old),
         _ => lent_now(gathered),
     };
-    after.push(Head { length, ..head }, lent);
+    after.push(Field { length, ..head }, lent);
 }
 
-/// The fields that the cells make, of which some may keep the facts that they had.
+/// The fields that the cells form. Some may keep their earlier facts.
 pub(crate) fn fields_of(fields: &Fields, cells: &[Known]) -> Fields {
     let mut gathered = Gathered {
         chars: ArrayVec::new(),
@@ -233,10 +233,10 @@ pub(crate) fn fields_of(fields: &Fields, cells: &[Known]) -> Fields {
     };
     let mut after = Fields::new();
     for (place, cell) in cells.iter().enumerate() {
-        if let Known::Attr(attr, mark) = *cell {
+        if let Known::Attr(attr, mdt) = *cell {
             let behind = cells.get(place.saturating_add(1)..).unwrap_or(&[]);
             gather(&mut gathered, behind, cells);
-            let head = Head::new(place, attr, mark, 0);
+            let head = Field::new(place, attr, mdt, 0);
             push_field(&mut after, &gathered, fields, head);
         }
     }

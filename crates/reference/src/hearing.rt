@@ -1,11 +1,11 @@
-//! The fields of a belief after what a terminal sent.
-use crate::fields::{Fields, Head, Lent, mdt_state};
+//! The fields of a belief after inbound data.
+use crate::fields::{Field, Fields, Lent, mdt_state};
 use arrayvec::ArrayVec;
 use codes3270::{CELL_COUNT, attr_code};
 use datastream::{Inbound, ReturnedFields};
 use shadow::{Fact, HeardFault, MdtState};
 
-/// The returned text of each field.
+/// The returned text of each field, if it was returned.
 type Texts<'a> = ArrayVec<Option<&'a [u8]>, CELL_COUNT>;
 
 static NULLS: [u8; CELL_COUNT] = [0; CELL_COUNT];
@@ -24,7 +24,7 @@ fn first_address(place: usize) -> usize {
     place.wrapping_add(1) % CELL_COUNT
 }
 
-/// Whether one of the returned fields begins where no field does.
+/// Whether one of the returned fields begins where there is no field.
 fn any_nowhere(fields: &Fields, returned: ReturnedFields<'_>) -> bool {
     for field in returned {
         let first = usize::from(field.first.get());
@@ -36,7 +36,7 @@ fn any_nowhere(fields: &Fields, returned: ReturnedFields<'_>) -> bool {
     false
 }
 
-/// Each field's text; None if the returned fields are out of order, or one is there twice.
+/// Each field's returned text. None if a returned field is out of order, or is returned twice.
 fn texts_of<'a>(fields: &Fields, returned: ReturnedFields<'a>) -> Option<Texts<'a>> {
     let mut rest = returned;
     let mut next = rest.next();
@@ -55,7 +55,7 @@ fn texts_of<'a>(fields: &Fields, returned: ReturnedFields<'a>) -> Option<Texts<'
     if next.is_some() { None } else { Some(texts) }
 }
 
-/// Whether a text without its nulls is this one.
+/// Whether `text` is `value` without its nulls.
 fn is_without_nulls(value: &[u8], text: &[u8]) -> bool {
     let mut rest = text;
     for char in value {
@@ -69,13 +69,13 @@ fn is_without_nulls(value: &[u8], text: &[u8]) -> bool {
     rest.is_empty()
 }
 
-/// Whether it can't be that a text, or none, came for a field.
-fn contradicts(head: Head, lent: Lent<'_>, came: Option<&[u8]>) -> bool {
+/// Whether the belief rules out that this text was returned for a field, or that none was.
+fn contradicts(head: Field, lent: Lent<'_>, came: Option<&[u8]>) -> bool {
     let Some(text) = came else {
-        return head.attr.protected && head.mark == MdtState::On;
+        return head.attr.protected && head.mdt == MdtState::On;
     };
     let denies = lent.fact == Fact::Exact && !is_without_nulls(lent.text, text);
-    head.length < text.len() || head.attr.protected && (head.mark == MdtState::Off || denies)
+    head.length < text.len() || head.attr.protected && (head.mdt == MdtState::Off || denies)
 }
 
 fn any_contradicts(fields: &Fields, texts: &Texts<'_>) -> bool {
@@ -86,14 +86,14 @@ fn any_contradicts(fields: &Fields, texts: &Texts<'_>) -> bool {
     ))
 }
 
-/// Whether some field's input was erased, since it was on and isn't returned.
+/// Whether input was erased: an unprotected field whose MDT was on isn't returned.
 fn any_erased(fields: &Fields, texts: &Texts<'_>) -> bool {
     fields.heads().iter().zip(texts.as_slice()).any(|(head, text)| text.is_none()
         && !head.attr.protected
-        && head.mark == MdtState::On)
+        && head.mdt == MdtState::On)
 }
 
-/// What is known of a field that a terminal didn't return.
+/// What is known of a field that wasn't returned.
 fn or_nulls<'a>(length: usize, lent: Lent<'a>) -> Lent<'a> {
     match lent.fact {
         Fact::Exact if lent.text.iter().any(|char| *char != 0) => {
@@ -105,8 +105,8 @@ fn or_nulls<'a>(length: usize, lent: Lent<'a>) -> Lent<'a> {
     }
 }
 
-/// What is known of a field after its data was heard.
-fn lent_after<'a>(head: Head, lent: Lent<'a>, erased: bool, came: Option<&'a [u8]>) -> Lent<'a> {
+/// What is known of a field after inbound data.
+fn lent_after<'a>(head: Field, lent: Lent<'a>, erased: bool, came: Option<&'a [u8]>) -> Lent<'a> {
     match came {
         _ if head.attr.protected => lent,
         Some([]) => null(head.length),
@@ -116,19 +116,19 @@ fn lent_after<'a>(head: Head, lent: Lent<'a>, erased: bool, came: Option<&'a [u8
     }
 }
 
-/// The fields after data that lists those with MDT on.
+/// The fields after inbound data that returns the fields with MDT on.
 fn after_long(fields: &Fields, texts: &Texts<'_>) -> Fields {
     let erased = any_erased(fields, texts);
     let mut after = Fields::new();
     for (head, text) in fields.heads().iter().zip(texts.as_slice()) {
-        let mark = mdt_state(text.is_some());
+        let mdt = mdt_state(text.is_some());
         let lent = lent_after(*head, fields.lent(*head), erased, *text);
-        after.push(Head { mark, ..*head }, lent);
+        after.push(Field { mdt, ..*head }, lent);
     }
     after
 }
 
-/// The fields after a key that sends none.
+/// The fields after a key that returns no fields.
 pub(crate) fn after_attention(fields: &Fields) -> Fields {
     let mut after = Fields::new();
     for head in fields.heads() {
@@ -136,17 +136,17 @@ pub(crate) fn after_attention(fields: &Fields) -> Fields {
             after.push(*head, fields.lent(*head));
             continue;
         }
-        let mark = MdtState::Unknown;
-        // Of no characters all is known.
+        let mdt = MdtState::Unknown;
+        // A field of length 0 is fully known.
         match head.length {
-            0 => after.push(Head { mark, ..*head }, null(0)),
-            length => after.push(Head { mark, ..*head }, unknown(length)),
+            0 => after.push(Field { mdt, ..*head }, null(0)),
+            length => after.push(Field { mdt, ..*head }, unknown(length)),
         }
     }
     after
 }
 
-/// The fields after those came that have MDT on.
+/// The fields after the modified fields were returned; a fault if the belief rules the data out.
 pub(crate) fn heard_fields(fields: &Fields, inbound: &Inbound<'_>) -> Result<Fields, HeardFault> {
     if any_nowhere(fields, inbound.returned()) {
         return Err(HeardFault::NoSuchField);
@@ -160,7 +160,7 @@ pub(crate) fn heard_fields(fields: &Fields, inbound: &Inbound<'_>) -> Result<Fie
     }
 }
 
-/// Whether the characters that are known aren't those that were read.
+/// Whether known characters differ from those that were read.
 fn denies_read(length: usize, lent: Lent<'_>, read: Lent<'_>) -> bool {
     match lent.fact {
         Fact::Exact => lent.text != read.text,
@@ -173,7 +173,7 @@ fn denies_read(length: usize, lent: Lent<'_>, read: Lent<'_>) -> bool {
     }
 }
 
-/// Whether the fields that were read aren't those that are believed.
+/// Whether the fields that were read differ from those of the belief.
 pub(crate) fn any_other(fields: &Fields, read: &Fields) -> bool {
     if fields.heads().len() != read.heads().len() {
         return true;

@@ -1,6 +1,5 @@
-//! The screen and the belief as lists, in 24 by 80: a screen is its cells, which are searched for attributes, and a
-//! belief is a list of fields, made again whenever something is heard or taken. The tests compare them with presentation
-//! and shadow, which answer the same from packed cells.
+//! A second implementation of the screen and of the host's belief, for screens of 24 by 80, as plain lists. Tests
+//! compare it with `presentation` and `shadow`, which use packed cells. Only tests use this crate, through the probe.
 #![tactic(auto)]
 
 mod belief;
@@ -14,7 +13,7 @@ use codes3270::{Addr, Cell, Size, attr_code};
 pub use screen::ReferenceScreen;
 use std::alloc::AllocError;
 
-/// Puts a cell: `C1` a character, `1D60` an attribute, `??` if it isn't known.
+/// Prints a cell: `C1` for a character, `1D60` for an attribute, `??` if it isn't known.
 pub fn put_cell(answer: &mut String, cell: Option<Cell>) -> Result<(), AllocError> {
     match cell {
         Some(Cell::Char(code)) => write!(answer, "{code:02X}"),
@@ -23,7 +22,7 @@ pub fn put_cell(answer: &mut String, cell: Option<Cell>) -> Result<(), AllocErro
     }
 }
 
-/// The address of a cell; the first one's beyond the screen.
+/// The buffer address of a cell; 0 if it is beyond the screen.
 fn at(place: u16) -> Addr {
     match Addr::new(place, Size::base()) {
         Some(addr) => addr,

@@ -1,10 +1,10 @@
-//! The bytes of a paint, and whether what is to be kept is believed to be there.
+//! The bytes that paint a wanted screen, and whether a belief has the cells to be kept.
 use crate::at;
 use crate::fields::{Fields, Known, mdt_state};
 use codes3270::{Addr, Attr, CELL_COUNT, CELLS, Cell, attr_code, storable};
 use datastream::{CommandWriter, Memory, Want, Wanted};
 
-/// What is wanted of each cell of a screen of 24 by 80.
+/// The want of each cell of a screen of 24 by 80.
 pub(crate) fn wants_of(wanted: &Wanted) -> [Want; CELL_COUNT] {
     let mut wants = [Want::Keep; CELL_COUNT];
     for (cell, want) in wants.iter_mut().zip(wanted.cells()) {
@@ -13,13 +13,13 @@ pub(crate) fn wants_of(wanted: &Wanted) -> [Want; CELL_COUNT] {
     wants
 }
 
-/// Whether there is a Keep before the first attribute, in these and then in all wants.
+/// Whether a Keep comes before the next attribute, round the end of the screen.
 fn keeps_round(behind: &[Want], whole: &[Want]) -> bool {
     let ends = |want: &&Want| !matches!(want, Want::Char(_));
     matches!(behind.iter().chain(whole).find(ends), Some(Want::Keep))
 }
 
-/// The number of cells before the first attribute, in these and then in all wants.
+/// The number of cells before the next attribute, round the end of the screen.
 fn count_round(behind: &[Want], whole: &[Want]) -> usize {
     let all = behind.iter().chain(whole);
     all.take_while(|want| !matches!(want, Want::Attr(_)))
@@ -30,14 +30,14 @@ fn same_attr(one: Attr, other: Attr) -> bool {
     attr_code(one.with_mdt(false)) == attr_code(other.with_mdt(false))
 }
 
-/// Whether a field is believed to be.
+/// Whether the belief has a field with this place, attribute and length.
 fn any_field(fields: &Fields, place: usize, attr: Attr, count: usize) -> bool {
     fields.heads().iter().any(|head| {
         head.place == place && same_attr(head.attr, attr) && head.length == count
     })
 }
 
-/// Whether there is a Keep only in fields, and each of these fits.
+/// Whether Keep is wanted only in unprotected fields that the belief has.
 pub(crate) fn fits_fields(fields: &Fields, wants: &[Want]) -> bool {
     let mut keeps = false;
     let mut attributes = false;
@@ -55,18 +55,18 @@ pub(crate) fn fits_fields(fields: &Fields, wants: &[Want]) -> bool {
     !keeps || attributes
 }
 
-/// Whether a cell is known to be the wanted one.
+/// Whether a cell is known to be as wanted.
 fn is_there(known: Known, cell: Cell) -> bool {
     match (known, cell) {
-        (Known::Attr(believed, mark), Cell::Attr(attr)) => {
-            same_attr(believed, attr) && mark == mdt_state(attr.mdt)
+        (Known::Attr(believed, mdt), Cell::Attr(attr)) => {
+            same_attr(believed, attr) && mdt == mdt_state(attr.mdt)
         }
         (Known::Char(char, _), Cell::Char(byte)) => char == Some(byte),
         _ => false,
     }
 }
 
-/// What a paint stores in a cell; `behind` has the wants of the cells after it.
+/// The cell that a paint stores for a want, if any; `behind` has the wants of the cells after it.
 fn cell_to_store(want: Want, known: Known, behind: &[Want], whole: &[Want]) -> Option<Cell> {
     let cell = match want {
         Want::Keep => return None,
@@ -81,7 +81,7 @@ fn cell_to_store(want: Want, known: Known, behind: &[Want], whole: &[Want]) -> O
     }
 }
 
-/// Puts a cell, with its address unless the write is at it.
+/// Appends a cell, after an SBA unless the write is already at its address.
 fn put_store(out: &mut Vec<u8>, next: Option<u16>, place: u16, cell: Cell) -> Result<(), Memory> {
     let mut writer = CommandWriter::new(out);
     if next != Some(place) {
@@ -94,7 +94,7 @@ fn put_store(out: &mut Vec<u8>, next: Option<u16>, place: u16, cell: Cell) -> Re
     }
 }
 
-/// Puts the cells that aren't known to be right, and then the cursor.
+/// Appends the cells that aren't known to be as wanted, and then the cursor.
 pub(crate) fn put_cells(
     out: &mut Vec<u8>,
     wants: &[Want],

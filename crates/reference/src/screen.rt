@@ -25,17 +25,17 @@ fn put(cells: &mut [Cell], place: u16, cell: Cell) {
     }
 }
 
-/// The cells from a place on.
+/// The cells from an address on.
 fn cells_from(cells: &[Cell], place: u16) -> &[Cell] {
     cells.get(usize::from(place)..).unwrap_or(&[])
 }
 
-/// The cells before a place.
+/// The cells before an address.
 fn cells_before(cells: &[Cell], place: u16) -> &[Cell] {
     cells.get(..usize::from(place)).unwrap_or(&[])
 }
 
-/// The distance from one address up to another, round the end; all cells if they are equal.
+/// The distance from one address forward to another, with wrap-round; all cells if they are equal.
 fn distance_to(from: u16, stop: u16) -> u16 {
     if from == stop {
         CELLS
@@ -44,14 +44,14 @@ fn distance_to(from: u16, stop: u16) -> u16 {
     }
 }
 
-/// Writes a cell at `count` addresses from one on, round the end.
+/// Stores a cell at `count` addresses from `from` on, with wrap-round.
 fn fill(cells: &mut [Cell], from: u16, count: u16, new: Cell) {
     for step in 0..count {
         put(cells, from.wrapping_add(step) % CELLS, new);
     }
 }
 
-/// The address of the last attribute among cells from the first one on.
+/// The address of the last attribute among these cells.
 fn last_attribute(cells: &[Cell]) -> Option<u16> {
     let mut last = None;
     for (place, cell) in (0..CELLS).zip(cells) {
@@ -62,7 +62,7 @@ fn last_attribute(cells: &[Cell]) -> Option<u16> {
     last
 }
 
-/// The address of the nearest attribute before a cell or at it, round the end.
+/// The address of the nearest attribute at a cell or before it, with wrap-round.
 fn attribute_place(cells: &[Cell], at: u16) -> Option<u16> {
     match last_attribute(cells_before(cells, at.saturating_add(1))) {
         Some(place) => Some(place),
@@ -70,12 +70,12 @@ fn attribute_place(cells: &[Cell], at: u16) -> Option<u16> {
     }
 }
 
-/// The attribute that governs a cell.
+/// The attribute of the field that a cell belongs to; None on an unformatted screen.
 fn attribute_over(cells: &[Cell], at: u16) -> Option<Attr> {
     cell_at(cells, attribute_place(cells, at)?).attribute()
 }
 
-/// Nulls the unprotected characters at `count` addresses from one on, round the end.
+/// Nulls the unprotected characters at `count` addresses from `from` on, with wrap-round.
 fn erase_unprotected_in(cells: &mut [Cell], from: u16, count: u16) {
     let mut over = attribute_over(cells, from);
     for step in 0..count {
@@ -88,7 +88,7 @@ fn erase_unprotected_in(cells: &mut [Cell], from: u16, count: u16) {
     }
 }
 
-/// The least address of a character after the attribute of an unprotected field, round the end; else 0.
+/// The least address of a character directly after the attribute of an unprotected field; 0 if there is none.
 fn home_of(cells: &[Cell]) -> u16 {
     let mut before = cell_at(cells, CELLS.saturating_sub(1));
     for place in 0..CELLS {
@@ -101,7 +101,7 @@ fn home_of(cells: &[Cell]) -> u16 {
     0
 }
 
-/// The field whose attribute is at an address.
+/// The field whose attribute is at this address.
 fn field_of(cells: &[Cell], attr: u16) -> Field {
     let back = cells_from(cells, attr.saturating_add(1));
     let all = back.iter().chain(cells);
@@ -116,7 +116,7 @@ const fn asked(restore: bool, alarm: bool) -> Applied {
     Applied { restore, alarm }
 }
 
-/// A screen of 24 by 80: its cells, the cursor and the AID.
+/// A screen of 24 by 80: its cells, the cursor address and the AID.
 #[derive(Drop)]
 pub struct ReferenceScreen {
     cells: [Cell; CELL_COUNT],
@@ -124,14 +124,14 @@ pub struct ReferenceScreen {
     pub aid: Aid,
 }
 
-/// Where a write is, and whether a PT nulls that comes next.
+/// The current buffer address of a write, and whether a PT as the next order stores nulls.
 #[derive(Clone, Copy)]
 struct Pen {
     place: u16,
     nulls: bool,
 }
 
-/// Behind an order other than data.
+/// The position after an order that isn't a character.
 const fn moved_to(place: u16) -> Pen {
     Pen {
         place,
@@ -140,7 +140,7 @@ const fn moved_to(place: u16) -> Pen {
 }
 
 impl ReferenceScreen {
-    /// A screen of nulls.
+    /// A screen of nulls, with the cursor at address 0 and no AID.
     pub fn blank() -> ReferenceScreen {
         ReferenceScreen {
             cells: [Cell::Char(0); CELL_COUNT],
@@ -149,7 +149,7 @@ impl ReferenceScreen {
         }
     }
 
-    /// Executes a command, if the bytes are one.
+    /// Executes a command; a fault if the bytes are no command.
     pub fn apply(&mut self, bytes: &[u8]) -> Result<Applied, CommandFault> {
         let command = read_command(bytes, Size::base(), Size::base())?;
         match command.code() {
@@ -168,7 +168,8 @@ impl ReferenceScreen {
         })
     }
 
-    /// Stores characters from an address on, as far as the cells have characters, and sets MDT in the first one's field.
+    /// Stores characters from an address on, as far as the cells are characters, and sets the MDT bit of the first
+    /// one's field.
     pub fn store(&mut self, first: u16, chars: &[u8]) {
         let mut place = first;
         for char in chars {
@@ -184,13 +185,13 @@ impl ReferenceScreen {
         }
     }
 
-    /// The Clear key.
+    /// The effect of the Clear key.
     pub fn clear(&mut self) {
         fill(&mut self.cells, 0, CELLS, Cell::Char(0));
         self.cursor = 0;
     }
 
-    /// The Erase Input key.
+    /// The effect of the Erase Input key.
     pub fn erase_unprotected(&mut self) {
         self.cursor = home_of(&self.cells);
         erase_unprotected_in(&mut self.cells, 0, CELLS);
@@ -201,13 +202,13 @@ impl ReferenceScreen {
         }
     }
 
-    /// Size, cursor, where Home goes, and AID.
+    /// The size, the cursor address, the address to which Home moves the cursor, and the AID.
     pub fn shown(&self) -> (Size, Addr, Addr, Aid) {
         let home = at(home_of(&self.cells));
         (Size::base(), at(self.cursor), home, self.aid)
     }
 
-    /// A cell, its field, the attribute that governs it, and the number of the character that is displayed.
+    /// A cell, its field, the attribute that governs it, and the code point of the character that it displays.
     pub fn look(&self, place: u16) -> (Cell, Option<Field>, Option<Attr>, u32) {
         let cell = cell_at(&self.cells, place);
         let attr = attribute_place(&self.cells, place);
@@ -218,7 +219,7 @@ impl ReferenceScreen {
         (cell, field, over, glyph.into())
     }
 
-    /// Appends what a read is answered.
+    /// Appends the inbound data that a read command gets.
     pub fn put_read(&self, out: &mut Vec<u8>, form: Form) -> Result<(), Memory> {
         out.push(aid_byte(self.aid))?;
         if form == Form::Modified && self.aid.is_short() {
@@ -256,7 +257,7 @@ impl ReferenceScreen {
         }
     }
 
-    /// One order of a write.
+    /// Executes one order of a write.
     fn obey(&mut self, order: Order, pen: Pen) -> Pen {
         let place = pen.place;
         match order {
@@ -290,7 +291,7 @@ impl ReferenceScreen {
         }
     }
 
-    /// Behind the next attribute of an unprotected field, else to the first cell.
+    /// Executes PT: moves to the cell after the next unprotected attribute, or to the first cell if there is none.
     fn tab(&mut self, pen: Pen) -> Pen {
         let ahead = cells_from(&self.cells, pen.place);
         let (place, mut cells) = (usize::from(pen.place), ahead.iter());
@@ -320,7 +321,7 @@ fn glyph_of(cell: Cell) -> char {
     }
 }
 
-/// The characters before the first attribute, in some cells and then in others, without nulls.
+/// Appends the characters before the next attribute, without nulls, from `cells` and then from `others`.
 fn put_text(out: &mut Vec<u8>, cells: &[Cell], others: &[Cell]) -> Result<(), Memory> {
     for cell in cells.iter().chain(others) {
         match *cell {
@@ -332,7 +333,7 @@ fn put_text(out: &mut Vec<u8>, cells: &[Cell], others: &[Cell]) -> Result<(), Me
     Ok(())
 }
 
-/// SBA, the first address and the text of each field with MDT, round the end.
+/// Appends SBA, the first address and the text of each field with MDT on, in the order of their attributes.
 fn put_modified_fields(out: &mut Vec<u8>, cells: &[Cell]) -> Result<(), Memory> {
     for place in 0..CELLS {
         let attr = cell_at(cells, place).attribute();
@@ -346,7 +347,7 @@ fn put_modified_fields(out: &mut Vec<u8>, cells: &[Cell]) -> Result<(), Memory> 
     Ok(())
 }
 
-/// Each cell as Read Buffer is answered.
+/// Appends each cell as Read Buffer returns it.
 fn put_buffer(out: &mut Vec<u8>, cells: &[Cell]) -> Result<(), Memory> {
     for cell in cells {
         match *cell {

@@ -3,9 +3,9 @@ use Rattle.std.proofs.Common.{◌≡◌, ◌∙◌, ℕ, Bool, true, false, List
 use Rattle.std.proofs.lemmas.List.{length-set}
 use Rattle.tn3270e_msg.specs.declared.cause.Stop.{Stop}
 use Rattle.tn3270e_msg.specs.declared.cause.Stop.TheVariants as stop
-use Rattle.world3270.specs.ByteRuns.{AllHappen, refused_at}
-use Rattle.world3270.specs.ByteSteps.{Connects, Happens, HappensIf, Presses, Steps, GoesDown, ConnectsIf, down_came, has_place, host_gone, host_gone_below, host_gone_if, host_told, saw_loss, terminal_anew, terminal_gone_if, terminal_told}
-use Rattle.world3270.specs.ByteWorld.{ByteWorld, TerminalSlot, alone, host_there, is_senders, model_at, new_slot, slot_at, terminal_at, transits_at, with_slot}
+use Rattle.world3270.specs.model.ByteRuns.{AllHappen, refused_at}
+use Rattle.world3270.specs.model.ByteSteps.{Connects, IsStep, IsStepIf, Presses, Steps, GoesDown, ConnectsIf, down_came, is_enabled, host_gone, host_gone_below, host_gone_if, host_told, saw_loss, terminal_anew, terminal_gone_if, terminal_told}
+use Rattle.world3270.specs.model.ByteWorld.{ByteWorld, TerminalSlot, alone, host_there, is_senders, model_at, new_slot, slot_at, terminal_at, transits_at, with_slot}
 use Rattle.world3270.specs.declared.event.Event.{Event}
 use Rattle.world3270.specs.declared.event.Event.TheVariants as event
 use Rattle.world3270.specs.declared.event.Stepped.{Stepped}
@@ -91,28 +91,28 @@ begins_anew : (terminal : ℕ) (at : Option ℕ) (old : ByteWorld) → AsMany ol
 begins_anew terminal None old = one_sits terminal (new_slot (model_at terminal old)) old
 begins_anew terminal (Some number) old = one_sits terminal (new_slot (model_at terminal old)) old
 
-happens : (event : Event) (old : ByteWorld) (answer : Stepped) (new : ByteWorld) → Happens event old answer new → AsMany old new
-happens (event.Key terminal key) old answer new made = pressed terminal key old answer new made
-happens (event.Up number count) old answer new comes =
+stepped_by : (event : Event) (old : ByteWorld) (answer : Stepped) (new : ByteWorld) → IsStep event old answer new → AsMany old new
+stepped_by (event.Key terminal key) old answer new made = pressed terminal key old answer new made
+stepped_by (event.Up number count) old answer new comes =
     as_many _ old new comes.leaves
     (host_is_gone comes.fed.stop number _ ∙ terminal_is_told (is_senders (transits_at number old).up) comes.fed.taken (terminal_at number old.slots) _)
-happens (event.Down number count) old answer new comes = came_down (terminal_at number old.slots) number _ old answer new comes
-happens (event.Act number) old answer new acts = as_many _ old new acts.leaves refl
-happens (event.Answer number ticket said) old answer new acts = as_many _ old new acts.leaves refl
-happens (event.Note number text) old answer new acts = as_many _ old new acts.leaves refl
-happens (event.KeepAlive number) old answer new is = as_many _ old new is.1 refl
-happens (event.Lose number) old answer new is = as_many _ old new is.1 refl
-happens (event.HostSees number) old answer new is = as_many _ old new is.1 refl
-happens (event.TermSees terminal) old answer new is = as_many _ old new is.1 (sees terminal (slot_at terminal old).at old)
-happens (event.Connect terminal wanted) old answer new made = connects terminal wanted _ old answer new made
-happens (event.RestartTerm terminal) old answer new is = as_many _ old new is.1 (begins_anew terminal (slot_at terminal old).at old)
-happens event.RestartHost old answer new is = as_many _ old new is.1 (host_leaves_all _ old)
+stepped_by (event.Down number count) old answer new comes = came_down (terminal_at number old.slots) number _ old answer new comes
+stepped_by (event.Act number) old answer new acts = as_many _ old new acts.leaves refl
+stepped_by (event.Answer number ticket said) old answer new acts = as_many _ old new acts.leaves refl
+stepped_by (event.Note number text) old answer new acts = as_many _ old new acts.leaves refl
+stepped_by (event.KeepAlive number) old answer new is = as_many _ old new is.1 refl
+stepped_by (event.Lose number) old answer new is = as_many _ old new is.1 refl
+stepped_by (event.HostSees number) old answer new is = as_many _ old new is.1 refl
+stepped_by (event.TermSees terminal) old answer new is = as_many _ old new is.1 (sees terminal (slot_at terminal old).at old)
+stepped_by (event.Connect terminal wanted) old answer new made = connects terminal wanted _ old answer new made
+stepped_by (event.RestartTerm terminal) old answer new is = as_many _ old new is.1 (begins_anew terminal (slot_at terminal old).at old)
+stepped_by event.RestartHost old answer new is = as_many _ old new is.1 (host_leaves_all _ old)
 
-happens_if : (place : Bool) (event : Event) (old : ByteWorld) (answer : Stepped) (new : ByteWorld) → HappensIf place event old answer new → AsMany old new
-happens_if true event old answer new made = happens event old answer new made
+happens_if : (place : Bool) (event : Event) (old : ByteWorld) (answer : Stepped) (new : ByteWorld) → IsStepIf place event old answer new → AsMany old new
+happens_if true event old answer new made = stepped_by event old answer new made
 happens_if false event old answer new same = as_many old old new same.1 refl
 
 pub slots_stay : (happenings : List Happening) (old new : ByteWorld) → TakePlace happenings old new → length new.slots ≡ length old.slots
 slots_stay [] old new none = as_many old old new none refl
 slots_stay (first ∷ others) old new all =
-    slots_stay others all.0 new all.3 ∙ happens_if (has_place first.event old) first.event old first.answer all.0 all.1
+    slots_stay others all.0 new all.3 ∙ happens_if (is_enabled first.event old) first.event old first.answer all.0 all.1

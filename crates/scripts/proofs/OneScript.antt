@@ -5,11 +5,11 @@ use Rattle.lu_pool.specs.Reading.{IsReadFrom as IsPoolReadFrom}
 use Rattle.lu_pool.specs.declared.entry.Entry.{Entry}
 use Rattle.panels.specs.Defines.{DefinesOnce}
 use Rattle.panels.specs.Panel.{Panels}
-use Rattle.world3270.specs.ByteRuns.{refused_at}
-use Rattle.world3270.specs.ByteSteps.{Steps}
+use Rattle.world3270.specs.model.ByteRuns.{refused_at}
+use Rattle.world3270.specs.model.ByteSteps.{Steps}
 use Rattle.host_core.specs.declared.terminals.Terminals.{Terminals}
-use Rattle.world3270.specs.ByteWorld.{ByteWorld, new_byte_world}
-use Rattle.world3270.specs.OneOutcome.{StepsAreOne}
+use Rattle.world3270.specs.model.ByteWorld.{ByteWorld, new_byte_world}
+use Rattle.world3270.specs.statement.OneOutcome.{StepsAreOne}
 use Rattle.world3270.specs.declared.event.Event.{Event}
 use Rattle.world3270.specs.declared.event.Stepped.{Stepped}
 use Rattle.scripts.specs.Happenings.{AreRounds, AreTyped, Happening, OthersIf, TakePlace, all_skipped, events_of, is_refused, most_rounds}

@@ -3,9 +3,9 @@ use Rattle.std.proofs.Common.{◌≡◌, ◌∙◌, ◌<◌, ◌≤◌, ◌+◌,
 use Rattle.std.proofs.lemmas.List.{map-append}
 use Rattle.std.proofs.lemmas.List.Folds.{list_all-append}
 use Rattle.host_core.specs.State.{most_connections}
-use Rattle.world3270.specs.ByteRuns.{refused_at}
-use Rattle.world3270.specs.ByteSteps.{Steps}
-use Rattle.world3270.specs.ByteWorld.{ByteWorld}
+use Rattle.world3270.specs.model.ByteRuns.{refused_at}
+use Rattle.world3270.specs.model.ByteSteps.{Steps}
+use Rattle.world3270.specs.model.ByteWorld.{ByteWorld}
 use Rattle.world3270.specs.declared.event.Event.{Event}
 use Rattle.world3270.specs.declared.event.Event.TheVariants as event
 use Rattle.world3270.specs.declared.event.Stepped.{Stepped}

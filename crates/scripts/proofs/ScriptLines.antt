@@ -3,7 +3,7 @@ use Rattle.std.proofs.Common.{◌≡◌, refl, sym, ap, ◌∙◌, arith, ℕ, �
 use Rattle.std.specs.List.{list_all}
 use Rattle.codes3270.specs.CodePage.{code_of}
 use Rattle.host_core.specs.Notes.{longest_note, is_graphic}
-use Rattle.world3270.specs.NoteTexts.{note_text}
+use Rattle.world3270.specs.model.NoteTexts.{note_text}
 use Rattle.jobs.specs.HexLines.{words_of}
 use Rattle.scripts.specs.ScriptLines.{code_before, coded, note_of, typed_text, command_of_verb, command_of_number, command_of_text, command_of_words, script_command}
 use Rattle.jobs.specs.LineParts.{behind, number_of}

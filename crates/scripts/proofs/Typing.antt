@@ -2,9 +2,9 @@
 use Rattle.std.proofs.Common.{◌≡◌, ◌∙◌, ℕ, Bool, true, false, List, [], ◌∷◌, ◌++◌, None, refl, sym, ap, subst, append_assoc, append-nil}
 use Rattle.std.proofs.lemmas.Grind.{flat_map-append}
 use Rattle.keyboard.specs.declared.key.Key.TheVariants as key
-use Rattle.world3270.specs.ByteRuns.{refused_at}
-use Rattle.world3270.specs.ByteSteps.{Steps}
-use Rattle.world3270.specs.ByteWorld.{ByteWorld}
+use Rattle.world3270.specs.model.ByteRuns.{refused_at}
+use Rattle.world3270.specs.model.ByteSteps.{Steps}
+use Rattle.world3270.specs.model.ByteWorld.{ByteWorld}
 use Rattle.world3270.specs.declared.event.Event.TheVariants as event
 use Rattle.world3270.specs.declared.event.Stepped.{Stepped}
 use Rattle.scripts.specs.Happenings.{AreTyped, Happening, OthersIf, TakePlace, answer_text, answers_text, is_refused}

@@ -14,8 +14,8 @@ use Rattle.term_core.specs.State.{Link, Terminal, Detached, Attached, Closed, lo
 use Rattle.job_streams.specs.Counting.{CutShort, Output, Written, bytes_given}
 use Rattle.scripts.specs.Operating.{IsWaitOver, is_wait_over}
 use Rattle.scripts.specs.Waits.{Exchanges, GaveOn, GoesOn, HasClosed, HasExchanged, HasWaited, IsFed, SendsAll, SendsLast, ended, is_memory, most_waits, sound, unsent, read_room}
-use Rattle.scripts.specs.declared.operator.Exchanged.{Exchanged}
-use Rattle.scripts.specs.declared.operator.Exchanged.TheVariants.{Over, ReadsUsedUp}
+use Rattle.scripts.specs.declared.operator.WaitEnd.{WaitEnd}
+use Rattle.scripts.specs.declared.operator.WaitEnd.TheVariants.{Over, ReadsUsedUp}
 use Rattle.job_streams.specs.declared.streams.Answer.{Answer}
 use Rattle.job_streams.specs.declared.streams.Answer.TheVariants.{Ended, Failed}
 use Rattle.job_streams.proofs.ReadsOn.{reads_nothing, reads_on}
@@ -233,7 +233,7 @@ module _ {D : Type 0} (gave : D → ℕ → List ℕ → Answer → D → Type 0
     after_all false new up_new sends all = absurd (true≢false (sym all))
 
   -- the last send ends the wait
-  pub has_waited : (exchanged : Exchanged) (old mid new : Terminal) (down_old down_new : D) (up_old up_mid up_new : Output)
+  pub has_waited : (exchanged : WaitEnd) (old mid new : Terminal) (down_old down_new : D) (up_old up_mid up_new : Output)
       → HasExchanged gave exchanged old mid down_old down_new up_old up_mid → SendsLast exchanged mid new up_mid up_new
       → HasWaited gave old new down_old down_new up_old up_new
   has_waited Over old mid new down_old down_new up_old up_mid up_new has sends =

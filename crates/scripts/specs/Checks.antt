@@ -10,39 +10,43 @@ use Rattle.job_streams.specs.Runs.{IsSilent, NotRead, OnInput}
 use Rattle.job_streams.specs.declared.fault.Fault.{Fault}
 use Rattle.job_streams.specs.declared.fault.Fault.TheVariants.{InputNotRead, NoMemory, OutputFailed}
 
--- a report on the panel text of an input; `clean`: it has no fault
+-- holds for a report on the panel text of an input; `clean`: it has no fault
 pub record IsReportOf (input : List ℕ) (report : Report) (clean : Bool) : Type 0 where
   pub faultless : IsFaultlessIfAccepted (panel_text input) report.findings.items
   pub reason : HasFirstCause (panel_text input) report.findings.items
   pub clean_is : clean ≡ (fault_count report.findings.items == 0)
 
--- its page was written
+-- holds if the whole report was written
 pub record WritesReport (name input : List ℕ) (clean : Bool) (old new : Output) : Type 0 where
   pub report : Report
   pub is_report : IsReportOf input report clean
   pub written : Written old new (page_text name report)
 
--- the first bytes of its page were written, and the write failed
+-- holds if the first bytes of the report were written, and then the write failed
 pub record WritesReportInPart (name input : List ℕ) (old new : Output) : Type 0 where
   pub report : Report
   pub clean : Bool
   pub is_report : IsReportOf input report clean
   pub cut_short : CutShort old new (page_text name report)
 
--- what the printing of the report on an input did if it ends well, or by a fault
+-- holds for the effect of printing the report: it ends well, or by a fault
 abbrev pub EndsReporting : Result Bool Fault → (name input : List ℕ) → (old new : Output) → Type 0
 EndsReporting (Ok clean) name input old new = WritesReport name input clean old new
 EndsReporting (Err NoMemory) name input old new = Untouched old new
 EndsReporting (Err OutputFailed) name input old new = WritesReportInPart name input old new
 EndsReporting (Err _) name input old new = ⊥
 
--- What a run did if it ends well, or by a fault. `Came bytes`: the reads gave these bytes.
-abbrev pub HasCheckCause : (Came : List ℕ → Type 0) → Result Bool Fault → (name : List ℕ) → (in_old in_new : Input) (out_old out_new : Output) → Type 0
-HasCheckCause Came (Err InputNotRead) name in_old in_new out_old out_new = NotRead in_old in_new × ((bytes : List ℕ) × Came bytes) × Untouched out_old out_new
-HasCheckCause Came (Err NoMemory) name in_old in_new out_old out_new = ((bytes : List ℕ) × Came bytes) × Untouched out_old out_new
-HasCheckCause Came ending name in_old in_new out_old out_new = OnInput Came in_old in_new (λ input. EndsReporting ending name input out_old out_new)
+-- Holds for the effect of a run that ends well, or by a fault. `Came bytes` holds if the reads gave these bytes.
+abbrev pub HasCheckCause : (Came : List ℕ → Type 0) → Result Bool Fault → (name : List ℕ)
+    → (in_old in_new : Input) (out_old out_new : Output) → Type 0
+HasCheckCause Came (Err InputNotRead) name in_old in_new out_old out_new = NotRead in_old in_new
+    × ((bytes : List ℕ) × Came bytes) × Untouched out_old out_new
+HasCheckCause Came (Err NoMemory) name in_old in_new out_old out_new = ((bytes : List ℕ) × Came bytes)
+    × Untouched out_old out_new
+HasCheckCause Came ending name in_old in_new out_old out_new =
+    OnInput Came in_old in_new (λ input. EndsReporting ending name input out_old out_new)
 
--- the fault that ends a run, if any
+-- the fault that ends a run; None if it ends well
 abbrev pub check_fault : Result Bool Fault → Option Fault
 check_fault (Ok clean) = None
 check_fault (Err fault) = Some fault
@@ -53,8 +57,9 @@ check_status (Ok true) = 0
 check_status (Ok false) = 1
 check_status (Err fault) = status_of fault
 
--- the end of a run
-pub record IsCheckEnd (Came : List ℕ → Type 0) (name : List ℕ) (in_old in_new : Input) (out_old out_new faults_old faults_new : Output) (status : ℕ) : Type 0 where
+-- holds for the end of a run
+pub record IsCheckEnd (Came : List ℕ → Type 0) (name : List ℕ) (in_old in_new : Input)
+    (out_old out_new faults_old faults_new : Output) (status : ℕ) : Type 0 where
   pub ending : Result Bool Fault
   pub has_cause : HasCheckCause Came ending name in_old in_new out_old out_new
   pub is_silent : IsSilent (check_fault ending) faults_old faults_new

@@ -1,5 +1,5 @@
--- What a script does to a world: events one after another, what is printed of them, typed text, and rounds until the world is idle
--- (our profile). world3270's specs/ByteSteps says what an event does.
+-- What a script does to a world (our profile): events one after another, their output, typed text, and rounds until the
+-- world is idle. The effect of an event is defined in world3270's specs/ByteSteps.
 use Rattle.std.specs.Prelude.{◌≡◌, ◌-◌, ◌^◌, ℕ, zero, suc, Bool, true, false, List, [], ◌∷◌, ◌++◌, None, codes, is_some, map}
 use Rattle.std.specs.Fmt.{decimal}
 use Rattle.std.specs.List.{flat_map, list_all}
@@ -7,9 +7,9 @@ use Rattle.host_core.specs.State.{most_connections}
 use Rattle.keyboard.specs.Names.{refusal_number}
 use Rattle.keyboard.specs.declared.key.Key.TheVariants as key
 use Rattle.term_core.specs.ScreenText.{newline}
-use Rattle.world3270.specs.ByteRuns.{refused_at}
-use Rattle.world3270.specs.ByteSteps.{Steps}
-use Rattle.world3270.specs.ByteWorld.{ByteWorld}
+use Rattle.world3270.specs.model.ByteRuns.{refused_at}
+use Rattle.world3270.specs.model.ByteSteps.{Steps}
+use Rattle.world3270.specs.model.ByteWorld.{ByteWorld}
 use Rattle.world3270.specs.declared.event.Event.{Event}
 use Rattle.world3270.specs.declared.event.Event.TheVariants as event
 use Rattle.world3270.specs.declared.event.Stepped.{Stepped}
@@ -22,13 +22,14 @@ pub record Happening : Type 0 where
   pub event : Event
   pub answer : Stepped
 
--- These take place one after another, and memory isn't refused.
+-- Holds if these events take place one after another, and memory isn't refused.
 abbrev pub TakePlace : List Happening → ByteWorld → ByteWorld → Type 0
 TakePlace [] old new = new ≡ old
 TakePlace (first ∷ others) old new =
-    (mid : ByteWorld) × Steps first.event old first.answer mid × (refused_at first.answer ≡ None) × TakePlace others mid new
+    (mid : ByteWorld) × Steps first.event old first.answer mid × (refused_at first.answer ≡ None)
+    × TakePlace others mid new
 
--- After some that took place, memory was refused to the next event: to all of it, or to a part of its bytes.
+-- Holds if memory was refused for an event, wholly or after a part of its bytes, after others that took place.
 pub record IsStopped (old new : ByteWorld) : Type 0 where
   pub happenings : List Happening
   pub mid : ByteWorld
@@ -41,9 +42,9 @@ pub record IsStopped (old new : ByteWorld) : Type 0 where
 abbrev pub events_of : List Happening → List Event
 events_of happenings = map (λ happening. happening.event) happenings
 
--- ---- what is printed of them
+-- ---- their output
 
--- a refused key, by the number of the refusal, and a skipped event
+-- the line for a refused key, with the number of the reason, or for a skipped event
 abbrev pub answer_text : Stepped → List ℕ
 answer_text stepped.Done = []
 answer_text (stepped.Refused why) = codes "refused " ++ decimal (refusal_number why) ++ newline ∷ []
@@ -63,29 +64,30 @@ is_refused stepped.Skipped = false
 is_refused (stepped.Part taken) = false
 is_refused stepped.Memory = false
 
--- if the run ends here there are no others; if it goes on, the others are right
+-- holds if the run ends here and there are no others, or if it continues and the others satisfy `Rightly`
 abbrev pub OthersIf : Bool → List Happening → Type 0 → Type 0
 OthersIf true others Rightly = others ≡ []
 OthersIf false others Rightly = Rightly
 
--- Keys at a terminal, one for each character in turn, up to the first that is refused.
+-- Holds for the keys of a text, one for each character, up to the first that is refused.
 abbrev pub AreTyped : ℕ → List ℕ → List Happening → Type 0
 AreTyped terminal [] happenings = happenings ≡ []
 AreTyped terminal (char ∷ text) [] = ⊥
 AreTyped terminal (char ∷ text) (first ∷ others) =
-    (first.event ≡ event.Key terminal (key.Char char)) × OthersIf (is_refused first.answer) others (AreTyped terminal text others)
+    (first.event ≡ event.Key terminal (key.Char char))
+    × OthersIf (is_refused first.answer) others (AreTyped terminal text others)
 
 -- ---- until the world is idle
 
--- at least as many bytes as are ever under way
+-- at least as many bytes as can ever be in transit
 abbrev pub all_bytes : ℕ
 all_bytes = 2 ^ 64 - 1
 
--- on a connection: everything is delivered to the host, the host acts, and everything is delivered to the terminal
+-- the events of an exchange on a connection: deliver all to the host, let it act, deliver all to the terminal
 abbrev pub exchange_events : ℕ → List Event
 exchange_events number = event.Up number all_bytes ∷ event.Act number ∷ event.Down number all_bytes ∷ []
 
--- an exchange on each connection below this number, from 0 on
+-- an exchange on each connection below this number, in order
 unfoldable pub round_below : ℕ → List Event
 round_below zero = []
 round_below (suc number) = round_below number ++ exchange_events number
@@ -100,7 +102,7 @@ is_skipped stepped.Memory = false
 abbrev pub all_skipped : List Happening → Bool
 all_skipped happenings = list_all (λ happening. is_skipped happening.answer) happenings
 
--- Rounds over all connections, at most this number of them; a round in which every event is skipped is the last.
+-- Holds for at most this number of rounds over all connections; a round in which every event is skipped is the last.
 unfoldable pub AreRounds : ℕ → List Happening → Type 0
 AreRounds zero happenings = happenings ≡ []
 AreRounds (suc left) happenings =
@@ -111,7 +113,7 @@ AreRounds (suc left) happenings =
 abbrev pub most_rounds : ℕ
 most_rounds = 64
 
--- These events took place; `quiet` says whether all were skipped.
+-- Holds if these events took place; `quiet`: all of them were skipped.
 pub record RunsEvents (events : List Event) (old : ByteWorld) (quiet : Bool) (new : ByteWorld) : Type 0 where
   pub happenings : List Happening
   pub are : events_of happenings ≡ events

@@ -4,7 +4,7 @@ pub mod ScriptLines
 pub mod Happenings
 pub mod Plays
 pub mod Scripts
-pub mod TaskRuns
+pub mod PageJobRuns
 pub mod Checks
 pub mod TermLines
 pub mod Operating

@@ -1,4 +1,4 @@
--- An input with a panel text and a script, and the page that is printed of it (our profile).
+-- An input with a panel text and a script, and the page that is printed for it (our profile).
 use Rattle.std.specs.Prelude.{◌≡◌, ℕ, ◌+◌, ◌==◌, ◌&&◌, ◌||◌, Bool, true, List, [], ◌∷◌, codes, bytes_eq, nat_eq, Option, take, drop, if◌then◌else◌}
 use Rattle.std.specs.List.{after_first, starts_with}
 use Rattle.host_core.specs.declared.terminals.Terminals.{Terminals}
@@ -7,22 +7,23 @@ use Rattle.lu_pool.specs.declared.entry.Entry.{Entry}
 use Rattle.panels.specs.Defines.{IsReadFrom}
 use Rattle.panels.specs.Panel.{Panels as PanelsRead}
 use Rattle.term_core.specs.ScreenText.{newline}
-use Rattle.world3270.specs.ByteWorld.{ByteWorld, new_byte_world}
+use Rattle.world3270.specs.model.ByteWorld.{ByteWorld, new_byte_world}
 use Rattle.scripts.specs.Plays.{IsPlayed, terminal_models}
 use Rattle.applications.specs.PanelHosts.{lus_of}
 
 -- ---- the two parts of an input
 
--- the text begins with a line `%%`
+-- whether the text begins with a line `%%`
 abbrev pub is_at_mark : List ℕ → Bool
 is_at_mark text = bytes_eq text (codes "%%") || starts_with nat_eq text (codes "%%\n")
 
--- The index of the first line `%%`; the text's length if there is no such line. `begins`: a line begins here.
+-- The index of the first line `%%`; the text's length if there is no such line. `begins`: a line begins at this index.
 abbrev pub mark_place : Bool → List ℕ → ℕ
 mark_place begins [] = 0
-mark_place begins (char ∷ text) = if begins && is_at_mark (char ∷ text) then 0 else 1 + mark_place (char == newline) text
+mark_place begins (char ∷ text) = if begins && is_at_mark (char ∷ text) then 0
+    else 1 + mark_place (char == newline) text
 
--- the panel text, before that line
+-- the panel text: the text before that line
 abbrev pub panel_text : List ℕ → List ℕ
 panel_text input = take (mark_place true input) input
 
@@ -30,14 +31,14 @@ panel_text input = take (mark_place true input) input
 abbrev pub behind_line : List ℕ → List ℕ
 behind_line text = after_first (λ char. char == newline) text
 
--- the script, after that line
+-- the script: the text after that line
 abbrev pub script_text : List ℕ → List ℕ
 script_text input = behind_line (drop (mark_place true input) input)
 
 -- ---- the world in which a script begins
 
--- the text's panels, a pool of their LUs, a host that serves such terminals, and terminals of models 2 to 5; the text and the names have
--- no fault
+-- holds for a world of the text's panels, with a pool of their LUs, a host for these terminals, and terminals of models
+-- 2 to 5; neither the text nor the LU names have a fault
 pub record IsWorldOf (serves : Terminals) (text : List ℕ) (world : ByteWorld) : Type 0 where
   pub panels : PanelsRead
   pub panels_read : IsReadFrom text panels
@@ -48,15 +49,15 @@ pub record IsWorldOf (serves : Terminals) (text : List ℕ) (world : ByteWorld) 
 
 -- ---- the page
 
--- The page of an input, with a host that serves such terminals: the output of its script, up to the first line that isn't understood, if
--- any.
+-- Holds for the page of an input, with a host for these terminals: the output up to the first invalid line, if any.
 pub record IsScriptPage (serves : Terminals) (input page : List ℕ) (stopped : Option ℕ) : Type 0 where
   pub old : ByteWorld
   pub begins : IsWorldOf serves (panel_text input) old
   pub new : ByteWorld
   pub is_played : IsPlayed (script_text input) old page stopped new
 
--- An input has one page, and one number of the line that isn't understood, if any.
+-- An input has only one page, and only one number of its first invalid line, if any.
 abbrev pub ScriptsHaveOnePage : Type 0
-ScriptsHaveOnePage = (serves : Terminals) (input page other : List ℕ) (stopped ended : Option ℕ) → IsScriptPage serves input page stopped → IsScriptPage serves input other ended
+ScriptsHaveOnePage = (serves : Terminals) (input page other : List ℕ) (stopped ended : Option ℕ)
+    → IsScriptPage serves input page stopped → IsScriptPage serves input other ended
     → (page ≡ other) × (stopped ≡ ended)

@@ -1,5 +1,5 @@
--- The commands of a terminal's script as text (our profile): those of a script (ScriptLines) without the number, since there
--- is one terminal; and one to wait for the host.
+-- The commands of a terminal's script as text (our profile): those of a script (ScriptLines) without the number, since
+-- there is only one terminal; and one that waits for the host.
 use Rattle.std.specs.Prelude.{ℕ, List, [], ◌∷◌, Option, Some, None, if◌then◌else◌, bytes_eq, codes}
 use Rattle.std.specs.Option.{option_map}
 use Rattle.keyboard.specs.KeyNames.{key_named}
@@ -8,7 +8,7 @@ use Rattle.jobs.specs.LineParts.{behind}
 use Rattle.scripts.specs.declared.term_line.TerminalCommand.{TerminalCommand}
 use Rattle.scripts.specs.declared.term_line.TerminalCommand.TheVariants.{Nothing, TypeText, Press, Wait, Show, Status}
 
--- a verb alone
+-- the command of a verb without an operand
 abbrev pub command_of_verb : List ℕ → Option TerminalCommand
 command_of_verb verb =
     if bytes_eq verb (codes "") then Some Nothing else
@@ -17,18 +17,19 @@ command_of_verb verb =
     if bytes_eq verb (codes "status") then Some Status else
     None
 
--- a verb and the text after the first blank
+-- the command of a verb and the text after the first blank
 abbrev pub command_of_text : List ℕ → List ℕ → Option TerminalCommand
 command_of_text verb text =
     if bytes_eq verb (codes "type") then Some TypeText else
     if bytes_eq verb (codes "key") then option_map Press (key_named text) else
     None
 
--- The command of a line with these words; none if there is no such command. `text` is the text after the first blank.
+-- The command of a line with these words; None if there is no such command. `text` is the text after the first blank.
 abbrev pub command_of_words : List (List ℕ) → (text : List ℕ) → Option TerminalCommand
 command_of_words [] text = None
 command_of_words (verb ∷ []) text = command_of_verb verb
 command_of_words (verb ∷ next ∷ more) text = command_of_text verb text
 
+-- the command of a line; None if the line is invalid
 unfoldable pub terminal_command : List ℕ → Option TerminalCommand
 terminal_command line = command_of_words (words_of line) (behind line)

@@ -1,4 +1,4 @@
--- How an operator waits for the host: the terminal sends its output, is fed what is read, and so on (our profile).
+-- How an operator waits for the host (our profile): the terminal sends its output, is fed one read, and so on.
 use Rattle.std.specs.Prelude.{◌≡◌, ◌≤◌, ◌⊎◌, ⊤, ℕ, Bool, true, false, List, [], ◌++◌}
 use Rattle.tn3270e_msg.specs.declared.cause.Fed.{Fed}
 use Rattle.tn3270e_msg.specs.declared.cause.Stop.{Stop}
@@ -8,8 +8,8 @@ use Rattle.term_core.specs.Feeds.{Feeds}
 use Rattle.term_core.specs.State.{Link, Terminal, Detached, Attached, Closed, lost}
 use Rattle.job_streams.specs.Counting.{CutShort, Output, Reads, Written}
 use Rattle.scripts.specs.Operating.{IsWaitOver}
-use Rattle.scripts.specs.declared.operator.Exchanged.{Exchanged}
-use Rattle.scripts.specs.declared.operator.Exchanged.TheVariants.{Over, ReadsUsedUp}
+use Rattle.scripts.specs.declared.operator.WaitEnd.{WaitEnd}
+use Rattle.scripts.specs.declared.operator.WaitEnd.TheVariants.{Over, ReadsUsedUp}
 use Rattle.job_streams.specs.declared.streams.Answer.{Answer}
 use Rattle.job_streams.specs.declared.streams.Answer.TheVariants.{Gave, Ended, Interrupted, Failed}
 
@@ -17,29 +17,30 @@ use Rattle.job_streams.specs.declared.streams.Answer.TheVariants.{Gave, Ended, I
 abbrev pub most_waits : ℕ
 most_waits = 1000
 
--- the size of the buffer of each of them
+-- the size of the buffer of each read, in bytes
 abbrev pub read_room : ℕ
 read_room = 16384
 
--- after this answer there may be more to read
+-- holds if there may be more to read after this answer
 abbrev pub GoesOn : Answer → Type 0
 GoesOn (Gave count) = ⊤
 GoesOn Interrupted = ⊤
 GoesOn Ended = ⊥
 GoesOn Failed = ⊥
 
+-- holds if the terminal has closed the connection
 abbrev pub HasClosed : Link → Type 0
 HasClosed Detached = ⊥
 HasClosed (Attached rest talk) = ⊥
 HasClosed (Closed cause) = ⊤
 
--- memory was refused
+-- whether memory was refused
 abbrev pub is_memory : Stop → Bool
 is_memory Memory = true
 is_memory Going = false
 is_memory (ClosedStop cause) = false
 
--- A terminal is fed bytes: it takes all of them, or closes the connection at one of them.
+-- Holds if a terminal is fed bytes: it takes all of them, or closes the connection at one of them.
 pub record IsFed (old : Terminal) (bytes : List ℕ) (new : Terminal) : Type 0 where
   pub front : List ℕ
   pub rest : List ℕ
@@ -47,19 +48,19 @@ pub record IsFed (old : Terminal) (bytes : List ℕ) (new : Terminal) : Type 0 w
   pub takes : TakesBytes old front new
   pub whole : (rest ≡ []) ⊎ HasClosed new.link
 
--- A terminal is fed bytes, and this stops it.
+-- Holds if a terminal is fed bytes and stops for this reason.
 pub record FeedsAll (room : ℕ) (stop : Stop) (old : Terminal) (bytes : List ℕ) (new : Terminal) : Type 0 where
   pub fed : Fed
   pub feeds : Feeds room old bytes fed new
   pub stop_is : stop ≡ fed.stop
 
--- All output of a terminal is sent; or the write fails, and the terminal is detached.
+-- Holds if all output of a terminal is sent, or if the write fails and the terminal is detached.
 abbrev pub SendsAll : Bool → (old new : Terminal) (up_old up_new : Output) → Type 0
 SendsAll true old new up_old up_new = Written up_old up_new old.out × (new ≡ record old { out = [] })
 SendsAll false old new up_old up_new = CutShort up_old up_new old.out × (new ≡ lost old)
 
--- The last send of a wait: all output, if the reads are used up.
-abbrev pub SendsLast : Exchanged → (old new : Terminal) (up_old up_new : Output) → Type 0
+-- Holds for the last send of a wait: all output, if the wait used all of its reads.
+abbrev pub SendsLast : WaitEnd → (old new : Terminal) (up_old up_new : Output) → Type 0
 SendsLast Over old new up_old up_new = (new ≡ old) × (up_new ≡ up_old)
 SendsLast ReadsUsedUp old new up_old up_new = (all_sent : Bool) × SendsAll all_sent old new up_old up_new
 
@@ -67,25 +68,30 @@ module _ {D : Type 0} (gave : D → ℕ → List ℕ → Answer → D → Type 0
   abbrev pub GaveOn : D → ℕ → List ℕ → Answer → D → Type 0
   GaveOn old room bytes answer new = gave old room bytes answer new × GoesOn answer
 
-  -- The terminal was fed all bytes of `count` reads. `fed.out` is its output, before and since.
+  -- Holds if the terminal was fed the bytes of `count` reads. `fed.out` has its output from before and since.
   pub record Exchanges (count : ℕ) (old : Terminal) (down_old : D) (fed : Terminal) (down_new : D) : Type 0 where
     pub bytes : List ℕ
     pub few : count ≤ most_waits
     pub reads : Reads GaveOn read_room count down_old bytes down_new
     pub is_fed : IsFed old bytes fed
 
-  -- How a wait ends. `sound`: all output is sent, and the wait is over, or the reads are used up. `ended`: all output is sent, and
-  -- the next read finds the end or fails; the terminal is detached. `unsent`: a write fails; the terminal is detached.
+  -- Holds for the end of a wait. `sound`: all output is sent, and either the wait is over or it used all of its reads.
+  -- `ended`: all output is sent, the next read found the end or failed, and the terminal is detached. `unsent`: a write
+  -- failed, and the terminal is detached.
   pub data HasWaited (old new : Terminal) (down_old down_new : D) (up_old up_new : Output) : Type 0 where
     sound : (count : ℕ) (fed : Terminal) → Exchanges count old down_old fed down_new → Written up_old up_new fed.out
-        → new ≡ record fed { out = [] } → IsWaitOver new ⊎ (count ≡ most_waits) → HasWaited old new down_old down_new up_old up_new
-    ended : (count : ℕ) (fed : Terminal) (mid : D) (answer : Answer) → Exchanges count old down_old fed mid → Written up_old up_new fed.out
-        → gave mid read_room [] answer down_new → (GoesOn answer → ⊥) → new ≡ lost fed → HasWaited old new down_old down_new up_old up_new
+        → new ≡ record fed { out = [] } → IsWaitOver new ⊎ (count ≡ most_waits)
+        → HasWaited old new down_old down_new up_old up_new
+    ended : (count : ℕ) (fed : Terminal) (mid : D) (answer : Answer) → Exchanges count old down_old fed mid
+        → Written up_old up_new fed.out
+        → gave mid read_room [] answer down_new → (GoesOn answer → ⊥) → new ≡ lost fed
+        → HasWaited old new down_old down_new up_old up_new
     unsent : (count : ℕ) (fed : Terminal) → Exchanges count old down_old fed down_new → CutShort up_old up_new fed.out
         → new ≡ lost fed → HasWaited old new down_old down_new up_old up_new
 
-  -- A wait before its last send. If all reads are used up, the wait ends as that send does.
-  abbrev pub HasExchanged : Exchanged → (old new : Terminal) (down_old down_new : D) (up_old up_new : Output) → Type 0
+  -- Holds for a wait before its last send. If it used all of its reads, it ends as that send does.
+  abbrev pub HasExchanged : WaitEnd → (old new : Terminal) (down_old down_new : D) (up_old up_new : Output) → Type 0
   HasExchanged ReadsUsedUp old new down_old down_new up_old up_new =
-      (all_sent : Bool) (last : Terminal) (up_last : Output) → SendsAll all_sent new last up_new up_last → HasWaited old last down_old down_new up_old up_last
+      (all_sent : Bool) (last : Terminal) (up_last : Output) → SendsAll all_sent new last up_new up_last
+      → HasWaited old last down_old down_new up_old up_last
   HasExchanged Over old new down_old down_new up_old up_new = HasWaited old new down_old down_new up_old up_new

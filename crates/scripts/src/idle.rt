@@ -1,8 +1,8 @@
-//! A world runs until it is idle: everything under way is delivered, and the host acts, until no such event can happen.
+//! Runs a world until it is idle: delivers all bytes in transit and lets the host act, until that has no effect.
 ghost use Rattle.std.specs.Prelude.{◌≡◌, ◌<◌, ℕ, List, None, IfOk, OnErr, OnOk};
 ghost use Rattle.host_core.specs.State.{most_connections};
-ghost use Rattle.world3270.specs.ByteRuns.{refused_at};
-ghost use Rattle.world3270.specs.ByteSteps.{Steps};
+ghost use Rattle.world3270.specs.model.ByteRuns.{refused_at};
+ghost use Rattle.world3270.specs.model.ByteSteps.{Steps};
 ghost use Rattle.scripts.specs.Happenings.{AreRounds, Happening, IsStopped, RunsEvents, TakePlace, exchange_events, is_skipped, most_rounds, round_below};
 
 use host_core::MOST_CONNECTIONS;
@@ -12,10 +12,10 @@ use world3270::{Event, Stepped, World};
 /// The most rounds of one run.
 const MOST_ROUNDS: u32 = 64;
 
-/// More bytes than are ever under way.
+/// More bytes than can ever be in transit.
 const ALL_BYTES: usize = usize::MAX;
 
-/// Makes an event happen, unless it is skipped. An error if memory is refused, also if a part of a delivery happened.
+/// Takes one event, unless it is skipped. An error if memory is refused, even if a part of a delivery took place.
 pub(crate) fn step_whole(world: &mut World, event: Event) -> Result<Stepped, AllocError>
     ensures steps { IfOk result (λ answer. Steps event world.old answer world.new) }
     ensures whole { IfOk result (λ answer. refused_at answer ≡ None) }
@@ -36,8 +36,8 @@ fn is_skipped(answer: Stepped) -> bool
     matches!(answer, Stepped::Skipped)
 }
 
-/// On one connection, delivers everything to the host, lets the host act, and delivers everything to the terminal. Answers
-/// whether all three events were skipped.
+/// On one connection, delivers all bytes to the host, lets the host act, and delivers all bytes to the terminal.
+/// Answers whether all three events were skipped.
 fn exchange(world: &mut World, number: usize) -> Result<bool, AllocError>
     ensures stopped { OnErr result (IsStopped world.old world.new) }
     ensures runs { IfOk result (λ quiet. RunsEvents (exchange_events number) world.old quiet world.new) }
@@ -60,11 +60,11 @@ fn run_round(world: &mut World) -> Result<bool, AllocError>
     Ok(quiet)
 }
 
-/// Runs rounds up to the first in which all events are skipped, and at most `MOST_ROUNDS`. An error only if memory is refused to an
-/// event.
+/// Runs rounds until all events of one are skipped, at most `MOST_ROUNDS`. An error only if memory is refused.
 pub(crate) fn run_until_idle(world: &mut World) -> Result<(), AllocError>
     ensures stopped { OnErr result (IsStopped world.old world.new) }
-    ensures rounds { OnOk result ((happenings : List Happening) × AreRounds most_rounds happenings × TakePlace happenings world.old world.new) }
+    ensures rounds { OnOk result
+        ((happenings : List Happening) × AreRounds most_rounds happenings × TakePlace happenings world.old world.new) }
 {
     for _ in 0..MOST_ROUNDS {
         if run_round(world)? {

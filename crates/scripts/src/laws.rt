@@ -1,7 +1,7 @@
 //! Laws: each is proved as the contract of a function that does nothing.
 ghost use Rattle.scripts.specs.Scripts.{ScriptsHaveOnePage};
 
-/// An input of `script` has one page, and one number of the line that isn't understood, if any.
+/// Holds if an input of `script` has only one page, and only one number of its first invalid line, if any.
 pub fn a_script_has_one_page()
     ensures { ScriptsHaveOnePage }
 {

@@ -1,10 +1,11 @@
-//! The jobs that print what operators see: commands on a blank screen (`show`), scripts in a world of a host and terminals
-//! (`script`), checks of panel texts (`check`), and scripts of one terminal of a host (`term`).
+//! The jobs that print what operators see: `show` (commands on a blank screen), `script` (a script in a world of a host
+//! and terminals), `check` (the faults of a panel text), and `term` (a script of one terminal at a host).
 //!
-//! None but `term` opens a socket. The others read their whole input, make the page, and write it in one piece.
-//! [`page_of`] is the page of commands; [`ScriptCommand`] and [`TerminalCommand`] are the commands of a line of a script of
-//! either kind. `specs/Pages`, `Scripts` and `Checks` define the pages, and `TaskRuns` how a run ends; `DoneLines` says
-//! what a line of `term` does, `Operating` what its keys do and print, and `Waits` what a wait reads and sends.
+//! Only `term` opens a socket. The other jobs read their whole input, build the page, and write it in one piece. This
+//! crate defines no terminal and no world (crates `term_core` and `world3270` do). [`page_of`] builds the page of
+//! `show`; [`ScriptCommand`] and [`TerminalCommand`] are the commands of the two kinds of script. `specs/Pages`,
+//! `Scripts` and `Checks` define the pages, and `PageJobRuns` how a run ends; `DoneLines` defines what a line of `term`
+//! does, `Operating` what its keys do and print, and `Waits` what a wait reads and sends.
 #![tactic(auto)]
 
 mod check;
@@ -12,19 +13,19 @@ mod idle;
 pub mod laws;
 mod operator;
 mod page;
+mod page_job;
 mod player;
 mod script;
 mod script_line;
-mod task;
 mod term;
 mod term_line;
 
 pub use check::run_check;
 pub use operator::{put_display, put_phase};
 pub use page::{Page, page_of};
+pub use page_job::{run_script, run_show};
 pub use player::{MODELS, command_in_range, put_answer};
 pub use script::parted;
 pub use script_line::{ScriptCommand, typed_text};
-pub use task::{run_script, run_show};
 pub use term::run_term;
 pub use term_line::TerminalCommand;

@@ -1,4 +1,4 @@
-//! An operator at a terminal: presses keys, types text, waits for the host, and prints what is on the screen.
+//! An operator at a terminal: presses keys, types text, waits for the host, and prints the screen.
 ghost use Rattle.std.specs.Prelude.{◌≡◌, ◌++◌, IfOk, OnOk, chars, false, length, string_bytes};
 ghost use Rattle.term_core.specs.Presses.{after_key, answer_to_key};
 ghost use Rattle.term_core.specs.ScreenText.{screen_text};
@@ -16,12 +16,13 @@ use tn3270e_msg::Stop;
 /// The most reads of one wait.
 const MOST_READS: usize = 1000;
 
-/// The size of the buffer of each read of a wait: as many bytes as a record may have, so that a screen mostly comes in one read.
+/// The size of the buffer of each read of a wait, in bytes: as large as a record may be, so that one read usually gets
+/// a screen.
 const READ_ROOM: usize = 16_384;
 
 // ---- keys
 
-/// Why a key was refused, if it was.
+/// The reason for which a key was refused; None if it wasn't.
 fn refusal_in(pressed: &Pressed) -> Option<Refusal>
     ensures { result ≡ refusal_in pressed.now }
 {
@@ -31,7 +32,7 @@ fn refusal_in(pressed: &Pressed) -> Option<Refusal>
     }
 }
 
-/// Presses a key. Answers why it was refused, if it was.
+/// Presses a key. Returns the reason if it is refused. An error if memory is refused.
 fn press_once(terminal: &mut Terminal, key: Key) -> Result<Option<Refusal>, AllocError>
     ensures pressed { OnOk result (terminal.new.terminal ≡ after_key key terminal.old.terminal) }
     ensures refusal { IfOk result (λ refusal. refusal ≡ refusal_in (answer_to_key key terminal.old.terminal)) }
@@ -42,7 +43,7 @@ fn press_once(terminal: &mut Terminal, key: Key) -> Result<Option<Refusal>, Allo
     }
 }
 
-/// Adds the line of a refused key: `refused N`, with the number of the refusal.
+/// Adds the line of a refused key: `refused N`, with the number of the reason.
 pub(crate) fn put_refusal(text: &mut String, why: Refusal) -> Result<(), AllocError>
     ensures { OnOk result (string_bytes text.new ≡ string_bytes text.old ++ refusal_text why) }
 {
@@ -53,7 +54,8 @@ pub(crate) fn put_refusal(text: &mut String, why: Refusal) -> Result<(), AllocEr
 /// Presses a key, and adds `refused N` if it is refused.
 pub(crate) fn press(terminal: &mut Terminal, key: Key, text: &mut String) -> Result<(), AllocError>
     ensures pressed { OnOk result (terminal.new.terminal ≡ after_key key terminal.old.terminal) }
-    ensures said { OnOk result (string_bytes text.new ≡ string_bytes text.old ++ said_of_key (answer_to_key key terminal.old.terminal)) }
+    ensures said { OnOk result
+        (string_bytes text.new ≡ string_bytes text.old ++ said_of_key (answer_to_key key terminal.old.terminal)) }
 {
     match press_once(terminal, key)? {
         Some(why) => put_refusal(text, why),
@@ -61,14 +63,15 @@ pub(crate) fn press(terminal: &mut Terminal, key: Key, text: &mut String) -> Res
     }
 }
 
-/// Presses the characters of a text in turn, up to the first that is refused, and adds `refused N` for that one.
+/// Types the characters of a text, up to the first that is refused, and adds `refused N` for that one.
 pub(crate) fn type_text(
     terminal: &mut Terminal,
     typed: &str,
     text: &mut String,
 ) -> Result<(), AllocError>
     ensures typed { OnOk result (terminal.new.terminal ≡ after_text (chars typed.now) terminal.old.terminal) }
-    ensures said { OnOk result (string_bytes text.new ≡ string_bytes text.old ++ said_of_text (chars typed.now) terminal.old.terminal) }
+    ensures said { OnOk result
+        (string_bytes text.new ≡ string_bytes text.old ++ said_of_text (chars typed.now) terminal.old.terminal) }
 {
     for letter in typed.chars() {
         if let Some(why) = press_once(terminal, Key::Char(letter))? {
@@ -78,7 +81,7 @@ pub(crate) fn type_text(
     Ok(())
 }
 
-/// Adds the terminal's screen.
+/// Adds the rows of the terminal's screen and the line of its cursor. An error if memory is refused.
 pub fn put_display(alloc: Global, terminal: &Terminal, text: &mut String) -> Result<(), AllocError>
     ensures { OnOk result (string_bytes text.new ≡ string_bytes text.old ++ screen_text terminal.now.terminal.station) }
 {
@@ -88,7 +91,8 @@ pub fn put_display(alloc: Global, terminal: &Terminal, text: &mut String) -> Res
 
 /// Adds the line of the terminal's phase: `idle`, `talking`, `bound LU`, `refused N` or `closed N`.
 pub fn put_phase(terminal: &Terminal, text: &mut String) -> Result<(), AllocError>
-    ensures { OnOk result (string_bytes text.new ≡ string_bytes text.old ++ phase_line (phase_of terminal.now.terminal.link)) }
+    ensures { OnOk result
+        (string_bytes text.new ≡ string_bytes text.old ++ phase_line (phase_of terminal.now.terminal.link)) }
 {
     let phase = terminal.phase();
     write!(text, "{phase}\n")
@@ -96,7 +100,8 @@ pub fn put_phase(terminal: &Terminal, text: &mut String) -> Result<(), AllocErro
 
 // ---- waits for the host
 
-/// Whether a wait is over: the keyboard isn't waiting, the host refused the terminal an LU, or the connection is closed or lost.
+/// Whether a wait is over: the keyboard is not locked to wait for the host, the host refused an LU, or the connection
+/// is closed or lost.
 fn is_wait_over(terminal: &Terminal) -> bool
     ensures { result ≡ is_wait_over (phase_of terminal.now.terminal.link) terminal.now.terminal.station.keyboard.lock }
 {
@@ -107,7 +112,7 @@ fn is_wait_over(terminal: &Terminal) -> bool
     }
 }
 
-/// Sends all output of a terminal, and returns true. If the write fails, detaches the terminal, and returns false.
+/// Sends all output of a terminal. If the write fails, detaches the terminal from the connection and returns false.
 fn send_all<U: Sink>(terminal: &mut Terminal, up: &mut U) -> bool
     ensures { SendsAll result terminal.old.terminal terminal.new.terminal (U.seen up.old) (U.seen up.new) }
 {
@@ -134,7 +139,7 @@ fn is_memory(stop: Stop) -> bool
     }
 }
 
-/// Feeds a terminal bytes, and answers what stopped it.
+/// Feeds bytes to a terminal, and returns why it stopped.
 fn feed_all(terminal: &mut Terminal, bytes: &[u8]) -> Stop
     ensures { FeedsAll terminal.new.room result terminal.old.terminal bytes.now terminal.new.terminal }
 {
@@ -151,7 +156,7 @@ fn read_host<D: Source>(down: &mut D, buffer: &mut [u8]) -> Answer
     down.read(buffer)
 }
 
-/// Feeds a terminal, during a wait, the bytes that a read gave. An error if memory is refused.
+/// Feeds a terminal the bytes of one read, during a wait. An error if memory is refused.
 fn take(terminal: &mut Terminal, bytes: &[u8]) -> Result<(), AllocError>
     requires { is_wait_over (phase_of terminal.old.terminal.link) terminal.old.terminal.station.keyboard.lock ≡ false }
     ensures { OnOk result (IsFed terminal.old.terminal bytes.now terminal.new.terminal) }
@@ -164,62 +169,65 @@ fn take(terminal: &mut Terminal, bytes: &[u8]) -> Result<(), AllocError>
 
 /// How the reads of a wait ended.
 #[derive(Clone, Copy)]
-pub(crate) enum Exchanged {
+pub(crate) enum WaitEnd {
     /// The wait is over, or the connection is.
     Over,
-    /// All reads are used up. The output since the last one isn't sent yet.
+    /// The wait used all of its reads. The output since the last read isn't sent yet.
     ReadsUsedUp,
 }
 
-/// Sends all output of a terminal, reads once and feeds the terminal the bytes, and so on, until the wait is over or
-/// `MOST_READS` reads are used up.
+/// Repeats: sends all output of a terminal, reads once, and feeds the terminal the bytes. Ends when the wait is over or
+/// after `MOST_READS` reads.
 fn exchange<D: Source, U: Sink>(
     terminal: &mut Terminal,
     down: &mut D,
     up: &mut U,
-) -> Result<Exchanged, AllocError>
-    ensures { IfOk result (λ exchanged. HasExchanged D.gave exchanged terminal.old.terminal terminal.new.terminal down.old down.new (U.seen up.old) (U.seen up.new)) }
+) -> Result<WaitEnd, AllocError>
+    ensures { IfOk result (λ exchanged. HasExchanged D.gave exchanged terminal.old.terminal terminal.new.terminal
+        down.old down.new (U.seen up.old) (U.seen up.new)) }
 {
     let mut buffer = [0; READ_ROOM];
     for _ in 0..MOST_READS {
         if !send_all(terminal, up) {
-            return Ok(Exchanged::Over);
+            return Ok(WaitEnd::Over);
         }
         if is_wait_over(terminal) {
-            return Ok(Exchanged::Over);
+            return Ok(WaitEnd::Over);
         }
         match read_host(down, &mut buffer) {
             Answer::Gave(count) => take(terminal, &buffer[..count])?,
             Answer::Interrupted => {}
             Answer::Ended | Answer::Failed => {
                 terminal.lost();
-                return Ok(Exchanged::Over);
+                return Ok(WaitEnd::Over);
             }
         }
     }
-    Ok(Exchanged::ReadsUsedUp)
+    Ok(WaitEnd::ReadsUsedUp)
 }
 
-/// Sends all output of a terminal if the reads of a wait are used up.
-fn send_last<U: Sink>(exchanged: Exchanged, terminal: &mut Terminal, up: &mut U)
+/// Sends all output of a terminal if the wait used all of its reads.
+fn send_last<U: Sink>(exchanged: WaitEnd, terminal: &mut Terminal, up: &mut U)
     ensures { SendsLast exchanged terminal.old.terminal terminal.new.terminal (U.seen up.old) (U.seen up.new) }
 {
     match exchanged {
-        Exchanged::Over => {}
-        Exchanged::ReadsUsedUp => {
+        WaitEnd::Over => {}
+        WaitEnd::ReadsUsedUp => {
             let _ = send_all(terminal, up);
         }
     }
 }
 
-/// Waits for the host: until the operator may go on, the host refuses an LU or closes the connection, the connection is lost,
-/// or 1,000 reads are used up. All output is sent then. A terminal whose connection ends or fails is detached from it.
+/// Waits for the host until the keyboard is free, the host refuses an LU or closes the connection, the connection is
+/// lost, or 1,000 reads are made. After that all output has been sent. A terminal is detached if its connection ends or
+/// fails.
 pub(crate) fn wait<D: Source, U: Sink>(
     terminal: &mut Terminal,
     down: &mut D,
     up: &mut U,
 ) -> Result<(), AllocError>
-    ensures { OnOk result (HasWaited D.gave terminal.old.terminal terminal.new.terminal down.old down.new (U.seen up.old) (U.seen up.new)) }
+    ensures { OnOk result (HasWaited D.gave terminal.old.terminal terminal.new.terminal down.old down.new
+        (U.seen up.old) (U.seen up.new)) }
 {
     let exchanged = exchange(terminal, down, up)?;
     send_last(exchanged, terminal, up);

@@ -3,8 +3,8 @@ ghost use Rattle.std.specs.Prelude.{◌≡◌, ◌++◌, ℕ, List, Option, IfOk
 ghost use Rattle.job_streams.specs.Runs.{ending_of};
 ghost use Rattle.scripts.specs.Pages.{first_screen, sense_text, TakesCommand, IsPage};
 ghost use Rattle.scripts.specs.ScreenText.{screen_text};
-ghost use Rattle.scripts.specs.TaskRuns.{EndsPrinting};
-ghost use Rattle.scripts.specs.declared.task.Task.TheVariants.{Show};
+ghost use Rattle.scripts.specs.PageJobRuns.{EndsPrinting};
+ghost use Rattle.scripts.specs.declared.page_job.PageJob.TheVariants.{Show};
 
 use codes3270::Model;
 use datastream::{Sense, read_command};
@@ -17,9 +17,9 @@ use term_core::screen_lines;
 /// The page of an input.
 #[derive(Drop)]
 pub struct Page {
-    /// A line for each refused command; then the screen and its cursor, if all lines are hexadecimal.
+    /// A line for each refused command; then the screen and its cursor, unless a line isn't hexadecimal.
     pub text: String,
-    /// The number, from 1 on, of the first line that isn't hexadecimal. It ends the run.
+    /// The 1-based number of the first line that isn't hexadecimal. The run ends there.
     pub not_hex: Option<usize>,
 }
 
@@ -30,7 +30,7 @@ fn first_screen(model: Model) -> Screen
     Screen::blank(model)
 }
 
-/// The name of a negative response (RFC 1647, section 10.4).
+/// The name of a negative response's sense code (RFC 1647, section 10.4).
 fn sense_text(sense: Sense) -> &'static str
     ensures { result.now ≡ sense_text sense }
 {
@@ -40,7 +40,8 @@ fn sense_text(sense: Sense) -> &'static str
     }
 }
 
-/// Applies the command that the bytes spell, read for the screen's sizes. If it has a fault, changes nothing, and adds the refusal to the text.
+/// Applies the command that the bytes encode, for the screen's current and alternate sizes. If it has a fault, changes
+/// nothing, and adds the refusal to the text.
 fn take_command(screen: &mut Screen, bytes: &[u8], text: &mut String) -> Result<(), AllocError>
     ensures { OnOk result ((said : List ℕ) × TakesCommand bytes.now screen.old screen.new said
         × (string_bytes text.new ≡ string_bytes text.old ++ said)) }
@@ -57,7 +58,8 @@ fn take_command(screen: &mut Screen, bytes: &[u8], text: &mut String) -> Result<
     }
 }
 
-/// Adds the screen: a line for each row, without the blanks at its end, and the line `cursor N`.
+/// Adds the screen: a line for each row, without trailing blanks, and the line `cursor N`, with the 0-based buffer
+/// address.
 fn put_screen(alloc: Global, text: &mut String, screen: &Screen) -> Result<(), AllocError>
     ensures { OnOk result (string_bytes text.new ≡ string_bytes text.old ++ screen_text screen.now) }
 {
@@ -67,12 +69,12 @@ fn put_screen(alloc: Global, text: &mut String, screen: &Screen) -> Result<(), A
     write!(text, "cursor {cursor}\n")
 }
 
-/// Applies the commands of an input, one a line in hexadecimal, in order to one blank screen of a model, and prints the
-/// refusals, the screen, a line for each row of its size, and its cursor. Ends at a line that isn't hexadecimal, without a
-/// screen.
+/// Applies the commands of an input, one in each line, in order to a blank screen of a model. The page has a line for
+/// each refused command, a line for each row of the screen, and its cursor. It ends at the first line that isn't
+/// hexadecimal, without a screen. An error if memory is refused.
 ///
-/// A line ends with a newline, which the last line may lack. It is pairs of hexadecimal digits in either case, with blanks
-/// before, between and after them; a line without digits is a command of no bytes.
+/// A line ends with a newline, which the last line may lack. It is pairs of hexadecimal digits in either case, with
+/// blanks before, between and after them. A line without digits is a command of no bytes.
 pub fn page_of(alloc: Global, model: Model, input: &str) -> Result<Page, AllocError>
     ensures found { IfOk result (λ page. IsPage model input.now (string_bytes page.text) page.not_hex) }
     // There is no other page.
@@ -97,7 +99,7 @@ pub fn page_of(alloc: Global, model: Model, input: &str) -> Result<Page, AllocEr
     })
 }
 
-/// Prints the page of a text, on a screen of this model.
+/// Prints the page of a text, for a screen of this model.
 pub(crate) fn print_page<O: Sink>(
     alloc: Global,
     model: Model,

@@ -1,7 +1,7 @@
-//! Plays the lines of a script in a world, and adds what they print to a text.
+//! Plays the lines of a script in a world, and adds their output to a text.
 ghost use Rattle.std.specs.Prelude.{◌≡◌, ◌<◌, ◌++◌, ℕ, List, None, Some, IfOk, OnOk, chars, length, string_bytes, true};
-ghost use Rattle.world3270.specs.ByteRuns.{refused_at};
-ghost use Rattle.world3270.specs.ByteSteps.{Steps};
+ghost use Rattle.world3270.specs.model.ByteRuns.{refused_at};
+ghost use Rattle.world3270.specs.model.ByteSteps.{Steps};
 ghost use Rattle.scripts.specs.Happenings.{AreTyped, Happening, TakePlace, answer_text, answers_text, is_refused};
 ghost use Rattle.scripts.specs.Plays.{GivesAnswer, IsPlayed, PrintsIf, command_in_range, is_in_range, terminal_count};
 ghost use Rattle.applications.specs.QuestionLines.{question_on, question_text};
@@ -15,10 +15,10 @@ use keyboard::Key;
 use std::alloc::{AllocError, Global};
 use world3270::{Event, Stepped, World};
 
-/// The models of the terminals of a script, by their numbers.
+/// The models of the terminals of a script, by terminal number.
 pub static MODELS: [Model; 4] = [Model::M2, Model::M3, Model::M4, Model::M5];
 
-/// Adds the line of an event's answer: `refused N` for a refused key, with the number of the refusal, `skipped`, or none.
+/// Adds the line for an event's answer: `refused N` for a refused key, `skipped` for a skipped event, or no line.
 pub fn put_answer(text: &mut String, answer: Stepped) -> Result<(), AllocError>
     ensures { OnOk result (string_bytes text.new ≡ string_bytes text.old ++ answer_text answer) }
 {
@@ -29,7 +29,7 @@ pub fn put_answer(text: &mut String, answer: Stepped) -> Result<(), AllocError>
     }
 }
 
-/// Makes an event happen, unless it is skipped, and adds the line of its answer.
+/// Takes an event, unless it is skipped, and adds the line for its answer.
 fn happen(world: &mut World, event: Event, text: &mut String) -> Result<Stepped, AllocError>
     ensures steps { IfOk result (λ answer. Steps event world.old answer world.new) }
     ensures whole { IfOk result (λ answer. refused_at answer ≡ None) }
@@ -54,7 +54,8 @@ fn type_text(
     typed: &str,
     text: &mut String,
 ) -> Result<(), AllocError>
-    ensures { OnOk result ((happenings : List Happening) × AreTyped terminal (chars typed.now) happenings × TakePlace happenings world.old world.new
+    ensures { OnOk result ((happenings : List Happening) × AreTyped terminal (chars typed.now) happenings
+        × TakePlace happenings world.old world.new
         × (string_bytes text.new ≡ string_bytes text.old ++ answers_text happenings)) }
 {
     for letter in typed.chars() {
@@ -66,8 +67,8 @@ fn type_text(
     Ok(())
 }
 
-/// Answers the question that is open on a connection by what a text says, and adds the line of the event's answer. False if the text
-/// isn't understood: then nothing happens.
+/// Answers the open question of a connection with the answer in a text, and adds the line for the event's answer. False
+/// if the text is invalid: then nothing happens.
 fn give_answer(
     alloc: Global,
     world: &mut World,
@@ -75,7 +76,8 @@ fn give_answer(
     said: &str,
     text: &mut String,
 ) -> Result<bool, AllocError>
-    ensures { IfOk result (λ given. GivesAnswer given conn said.now world.old world.new (string_bytes text.old) (string_bytes text.new)) }
+    ensures { IfOk result
+        (λ given. GivesAnswer given conn said.now world.old world.new (string_bytes text.old) (string_bytes text.new)) }
 {
     let Some(answer) = answer_in(alloc, world.host().panels(), said)? else {
         return Ok(false);
@@ -85,15 +87,16 @@ fn give_answer(
     Ok(true)
 }
 
-/// Adds the lines of the question that is open on a connection.
+/// Adds the lines of the open question of a connection.
 fn ask(alloc: Global, world: &World, conn: usize, text: &mut String) -> Result<(), AllocError>
-    ensures { OnOk result (string_bytes text.new ≡ string_bytes text.old ++ question_text world.now.host.panels (question_on conn world.now.host)) }
+    ensures { OnOk result (string_bytes text.new ≡ string_bytes text.old
+        ++ question_text world.now.host.panels (question_on conn world.now.host)) }
 {
     let question = question_on(world.host(), conn)?;
     put_question(alloc, text, world.host().panels(), &question)
 }
 
-/// Whether the world has the terminal of a `show` or `status`.
+/// Whether the terminal of a `show` or `status` exists. True for other commands.
 fn is_in_range(command: &ScriptCommand) -> bool
     ensures { result ≡ is_in_range terminal_count command.now }
 {
@@ -110,7 +113,7 @@ fn is_in_range(command: &ScriptCommand) -> bool
     }
 }
 
-/// The command of a line; None if the line isn't understood. What an `answer` says isn't read yet.
+/// The command of a line; None if the line is invalid. The operand of an `answer` isn't checked yet.
 pub fn command_in_range(line: &str) -> Option<ScriptCommand>
     ensures { result ≡ command_in_range terminal_count line.now }
 {
@@ -122,7 +125,7 @@ pub fn command_in_range(line: &str) -> Option<ScriptCommand>
     }
 }
 
-/// Does a command, and adds its output. False if its line isn't understood: then nothing happens.
+/// Executes a command, and adds its output. False if its line is invalid: then nothing happens.
 fn play_line(
     alloc: Global,
     world: &mut World,
@@ -132,7 +135,8 @@ fn play_line(
 ) -> Result<bool, AllocError>
     requires terminals { length world.old.slots ≡ terminal_count }
     requires in_range { is_in_range terminal_count command ≡ true }
-    ensures { IfOk result (λ understood. PrintsIf understood command line.now world.old world.new (string_bytes text.old) (string_bytes text.new)) }
+    ensures { IfOk result (λ understood. PrintsIf understood command line.now world.old world.new
+        (string_bytes text.old) (string_bytes text.new)) }
 {
     match command {
         ScriptCommand::Nothing => {}
@@ -151,8 +155,8 @@ fn play_line(
     Ok(true)
 }
 
-/// Plays a script, one command a line, and adds its output. Ends at the first line that isn't understood, and answers its
-/// number, from 1 on; the lines before it are done.
+/// Plays a script, one command in each line, and adds its output. Ends at the first invalid line, and returns its
+/// 1-based number. The lines before it have taken effect.
 ///
 /// A line ends with a newline, which the last line may lack.
 pub(crate) fn play(

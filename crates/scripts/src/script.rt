@@ -2,10 +2,10 @@
 ghost use Rattle.std.specs.Prelude.{◌≡◌, true, string_bytes, IfOk, IfErr};
 ghost use Rattle.std.specs.Str.{IsCharBoundary};
 ghost use Rattle.job_streams.specs.Runs.{ending_of};
-ghost use Rattle.scripts.specs.TaskRuns.{EndsPrinting};
+ghost use Rattle.scripts.specs.PageJobRuns.{EndsPrinting};
 ghost use Rattle.applications.specs.PanelHosts.{HasNoWorld};
 ghost use Rattle.scripts.specs.Scripts.{IsScriptPage, IsWorldOf, behind_line, is_at_mark, mark_place, panel_text, script_text};
-ghost use Rattle.scripts.specs.declared.task.Task.TheVariants.{Script};
+ghost use Rattle.scripts.specs.declared.page_job.PageJob.TheVariants.{Script};
 
 use crate::player::{MODELS, play};
 use applications::application_of;
@@ -40,7 +40,7 @@ pub(crate) fn print_script<O: Sink>(
 #[derive(Drop)]
 struct ScriptPage {
     text: String,
-    /// The number of the first line that isn't understood, if there is one.
+    /// The 1-based number of the first invalid line, if there is one.
     stopped: Option<usize>,
 }
 
@@ -95,7 +95,7 @@ fn behind_line(text: &str) -> &str
     }
 }
 
-/// The panel text and the script.
+/// The panel text and the script of an input.
 pub fn parted(input: &str) -> (&str, &str)
     ensures panels { result.0.now ≡ panel_text input.now }
     ensures script { result.1.now ≡ script_text input.now }
@@ -106,7 +106,7 @@ pub fn parted(input: &str) -> (&str, &str)
 
 // ---- what a panel text defines
 
-/// The world of a panel text: its panels, a pool of their LUs, a host that serves such terminals, and the terminals of a script.
+/// The world of a panel text: its panels, a pool of their LUs, a host for these terminals, and a script's terminals.
 fn world_of(alloc: Global, terminals: Terminals, text: &str) -> Result<World, Fault>
     ensures world { IfOk result (IsWorldOf terminals text.now) }
     ensures fault { IfErr result (HasNoWorld text.now) }

@@ -1,4 +1,4 @@
-//! The commands of a script, one a line, as text.
+//! The commands of a script, one in each line.
 ghost use Rattle.std.specs.Prelude.{◌≡◌};
 ghost use Rattle.scripts.specs.ScriptLines.{typed_text, note_of, command_of_verb, command_of_number, command_of_text, script_command};
 
@@ -8,24 +8,24 @@ use keyboard::Key;
 use tn3270e_msg::Lu;
 use world3270::{Event, NoteText};
 
-/// A command of a script. The number of a terminal or a connection may be any, in range or not.
+/// A command of a script. The number of a terminal or a connection may be out of range.
 #[derive(Drop)]
 pub enum ScriptCommand {
-    /// An empty line: nothing happens.
+    /// An empty line: does nothing.
     Nothing,
-    /// This event happens.
+    /// Takes this event of the world.
     Happen(Event),
-    /// The operator of the terminal with this number types the line's text.
+    /// Types the text of the line at the terminal with this number.
     TypeText(usize),
-    /// The question that is open on the connection with this number is answered by what the line's text says.
+    /// Answers the open question of the connection with this number, as the text of the line says.
     Answer(usize),
-    /// The world runs until no event can happen.
+    /// Runs the world until no event has an effect.
     Settle,
-    /// The screen of the terminal with this number is printed.
+    /// Prints the screen of the terminal with this number.
     Show(usize),
-    /// The phase of the terminal with this number is printed.
+    /// Prints the phase of the terminal with this number.
     Status(usize),
-    /// The question that is open on the connection with this number is printed.
+    /// Prints the open question of the connection with this number.
     Question(usize),
 }
 
@@ -39,7 +39,7 @@ pub fn typed_text(line: &str) -> &str
     behind(behind(line))
 }
 
-/// The note with this text; None if a character has no code in code page 037, or a note can't have the text.
+/// The note with this text; None if a character has no code in code page 037, or if a note can't contain the text.
 fn note_of(text: &str) -> Option<NoteText>
     ensures { result ≡ note_of text.now }
 {
@@ -55,7 +55,7 @@ fn note_of(text: &str) -> Option<NoteText>
     NoteText::new(&codes[..count])
 }
 
-/// The command of a verb alone.
+/// The command of a verb without operands.
 fn command_of_verb(verb: &str) -> Option<ScriptCommand>
     ensures { result ≡ command_of_verb verb.now }
 {
@@ -103,8 +103,8 @@ fn command_of_text(verb: &str, number: usize, text: &str) -> Option<ScriptComman
 }
 
 impl ScriptCommand {
-    /// The command of a line. None if there is no such verb, if the line has too few words or too many, or if a word isn't a
-    /// number, an LU's name, a key's name or a note's text where the verb needs one.
+    /// The command of a line. None if there is no such verb, if the line has too few or too many words, or if a word
+    /// isn't the number, LU name, key name or note text that the verb requires.
     pub fn read(line: &str) -> Option<ScriptCommand>
         ensures { result ≡ script_command line.now }
     {

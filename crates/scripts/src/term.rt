@@ -1,11 +1,13 @@
-//! `term`: runs a terminal of a host, and does the commands of a script there.
+//! `term`: runs a terminal at a host, and executes the commands of a script there.
 ghost use Rattle.std.specs.Prelude.{◌≡◌, ◌++◌, ℕ, List, OnOk, string_bytes};
 ghost use Rattle.scripts.specs.DoneLines.{DoesLine};
 
 use crate::operator::{press, put_display, put_phase, type_text, wait};
 use crate::term_line::TerminalCommand;
 use codes3270::Model;
-use job_streams::{CountedReader, CountedWriter, Fault, Sink, Source, end_by, read_whole};
+use job_streams::{
+    CountedReader, CountedWriter, Fault, Sink, Source, read_whole, report_and_exit_code,
+};
 use jobs::{Port, behind};
 use std::alloc::{AllocError, Global};
 use std::net::{Ipv4Addr, TcpStream};
@@ -19,7 +21,7 @@ struct Wire<D, U> {
     up: U,
 }
 
-/// Does a command, and adds its output.
+/// Executes a command, and adds its output.
 fn do_line<D: Source, U: Sink>(
     alloc: Global,
     terminal: &mut Terminal,
@@ -29,7 +31,8 @@ fn do_line<D: Source, U: Sink>(
     text: &mut String,
 ) -> Result<(), AllocError>
     ensures { OnOk result ((said : List ℕ)
-        × DoesLine D.gave command line.now terminal.old.terminal terminal.new.terminal wire.old.down wire.new.down (U.seen wire.old.up) (U.seen wire.new.up) said
+        × DoesLine D.gave command line.now terminal.old.terminal terminal.new.terminal wire.old.down wire.new.down
+        (U.seen wire.old.up) (U.seen wire.new.up) said
         × (string_bytes text.new ≡ string_bytes text.old ++ said)) }
 {
     match command {
@@ -42,7 +45,7 @@ fn do_line<D: Source, U: Sink>(
     }
 }
 
-/// Does the commands of a script, one a line, and prints the output of each as soon as it is done.
+/// Executes the commands of a script, one in each line, and prints the output of each before the next.
 fn do_lines<D: Source, U: Sink, O: Sink>(
     alloc: Global,
     script: &str,
@@ -64,7 +67,7 @@ fn do_lines<D: Source, U: Sink, O: Sink>(
     Ok(())
 }
 
-/// Reads the script, connects to the host, and does the commands.
+/// Reads the script, connects to the host, and executes the commands.
 fn term<I: Source, O: Sink>(
     rt: &HostRuntime,
     port: Port,
@@ -86,13 +89,13 @@ fn term<I: Source, O: Sink>(
     do_lines(rt.alloc(), script.as_str(), &mut terminal, &mut wire, out)
 }
 
-/// Connects a terminal of a model to the host on a port of 127.0.0.1, and does the commands of the input there, one a line: presses
-/// keys, waits for the host, and prints what the operator sees. The terminal requests this LU, if there is one. Writes a fault that
-/// ends the run to `faults` as one line.
+/// Connects a terminal of a model to the host on a port of 127.0.0.1, and executes the commands of the input there, one
+/// in each line: presses keys, waits for the host, and prints what the operator sees. The terminal requests this LU, if
+/// one is given. A fault that ends the run is written to `faults` as one line.
 ///
-/// Returns the exit status: 0 if all lines were done, whatever the host did; 1 if the input can't be read (as by
-/// [`read_whole`]), or if a line isn't understood, after the output of the lines before it; 3 if memory is refused; 4
-/// if nothing listens on the port; 6 if the output fails.
+/// Returns the exit status: 0 if all lines were executed, whatever the host did; 1 if the input can't be read (as by
+/// [`read_whole`]), or if a line is invalid, after the output of the lines before it; 3 if memory is refused; 4 if the
+/// host can't be connected to; 6 if the output fails.
 pub fn run_term<I: Source, O: Sink, E: Sink>(
     rt: &HostRuntime,
     port: Port,
@@ -104,6 +107,6 @@ pub fn run_term<I: Source, O: Sink, E: Sink>(
 ) -> u8 {
     match term(rt, port, model, lu, input, out) {
         Ok(()) => 0,
-        Err(fault) => end_by(fault, faults),
+        Err(fault) => report_and_exit_code(fault, faults),
     }
 }

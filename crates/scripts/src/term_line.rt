@@ -1,27 +1,27 @@
-//! The commands of a terminal's script, one a line, as text.
+//! The commands of a terminal's script, one in each line.
 ghost use Rattle.std.specs.Prelude.{◌≡◌};
 ghost use Rattle.scripts.specs.TermLines.{command_of_verb, command_of_text, terminal_command};
 
 use keyboard::Key;
 
-/// A command to a terminal's operator.
+/// A command to the operator of a terminal.
 #[derive(Clone, Copy, Debug)]
 pub enum TerminalCommand {
-    /// An empty line: nothing happens.
+    /// An empty line: does nothing.
     Nothing,
-    /// The operator types the line's text.
+    /// Types the text of the line.
     TypeText,
-    /// The operator presses this key.
+    /// Presses this key.
     Press(Key),
-    /// The operator waits for the host.
+    /// Waits for the host.
     Wait,
-    /// The screen is printed.
+    /// Prints the screen.
     Show,
-    /// The phase is printed.
+    /// Prints the phase of the connection.
     Status,
 }
 
-/// The command of a verb alone.
+/// The command of a verb without an operand.
 fn command_of_verb(verb: &str) -> Option<TerminalCommand>
     ensures { result ≡ command_of_verb verb.now }
 {
@@ -46,8 +46,8 @@ fn command_of_text(verb: &str, text: &str) -> Option<TerminalCommand>
 }
 
 impl TerminalCommand {
-    /// The command of a line. None if there is no such verb, if the line has too few words or too many, or if a key's name isn't
-    /// one.
+    /// The command of a line. None if there is no such verb, if the line has too few or too many words, or if a key
+    /// name is invalid.
     pub fn read(line: &str) -> Option<TerminalCommand>
         ensures { result ≡ terminal_command line.now }
     {

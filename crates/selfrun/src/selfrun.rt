@@ -1,8 +1,8 @@
-//! `selfrun`: serves panels to the terminals of a script over loopback sockets, in one process, by turns.
+//! `selfrun`: plays a script with a server and terminals in one process, over loopback sockets, by turns.
 use crate::socket_terminal::SocketTerminal;
 use applications::{answer_in, put_question, question_on, ticket_on};
 use host_core::{Acted, Answer, MOST_CONNECTIONS};
-use job_streams::{Fault, Sink, Source, end_by, read_whole};
+use job_streams::{Fault, Sink, Source, read_whole, report_and_exit_code};
 use jobs::Turns;
 use keyboard::Key;
 use mio::net::TcpStream;
@@ -10,13 +10,13 @@ use scripts::{
     MODELS, ScriptCommand, command_in_range, parted, put_answer, put_display, put_phase, typed_text,
 };
 use service::{Server, Unwatched, server_of};
-use socket_links::patience;
+use socket_links::poll_timeout;
 use std::alloc::{AllocError, Global};
 use std::net::Net;
 use tn3270e_msg::Lu;
 use world3270::{Event, Stepped};
 
-/// A server, the terminals of a script, and the number of turns that they may still take.
+/// A server, the terminals of a script, and the number of turns that are left.
 #[derive(Drop)]
 struct LoopbackRun {
     server: Server,
@@ -36,14 +36,14 @@ fn idle_terminals(alloc: Global) -> Result<Vec<SocketTerminal>, AllocError> {
 impl LoopbackRun {
     /// One turn of the server, and one of each terminal. Answers whether a byte was read or written, or the host acted.
     fn turn(&mut self) -> Result<bool, Fault> {
-        let mut moved = self.server.turn(patience(false), &mut Unwatched)?;
+        let mut moved = self.server.turn(poll_timeout(false), &mut Unwatched)?;
         for number in 0..self.terminals.len() {
             moved |= self.terminals[number].turn()?;
         }
         Ok(moved)
     }
 
-    /// Takes turns up to the first in which nothing is done.
+    /// Takes turns until one in which nothing is done. TurnsOver if no turns are left.
     fn run_until_idle(&mut self) -> Result<(), Fault> {
         for _ in 0..self.turns {
             self.turns = self.turns.saturating_sub(1);
@@ -54,7 +54,7 @@ impl LoopbackRun {
         Err(Fault::TurnsOver)
     }
 
-    /// Connects an idle terminal, which requests this LU, if there is one.
+    /// Connects an idle terminal, which requests this LU, if one is given.
     fn connect(
         &mut self,
         net: &impl Net,
@@ -70,7 +70,7 @@ impl LoopbackRun {
         let Ok(mut socket) = TcpStream::connect(net, address) else {
             return Err(Fault::SocketFailed);
         };
-        // As where the server accepts: if one of these calls fails, the socket is used anyway.
+        // As in the server: if one of these calls fails, the socket is used anyway.
         let _ = socket.set_nodelay(true);
         let _ = self
             .server
@@ -99,7 +99,8 @@ impl LoopbackRun {
         Ok(())
     }
 
-    /// Closes the socket of the terminal on a connection. The server accepts waiting connections first, so that each has its number.
+    /// Closes the socket of the terminal on a connection. The server accepts waiting connections first, so that each
+    /// has its number.
     fn lose(&mut self, conn: usize) -> Result<Stepped, Fault> {
         self.server.accept_all(&mut Unwatched)?;
         let Some(address) = self.server.peer(conn) else {
@@ -114,8 +115,8 @@ impl LoopbackRun {
         Ok(Stepped::Skipped)
     }
 
-    /// Makes an event happen, unless it is skipped. None if it isn't for a script over sockets, which themselves deliver bytes and
-    /// losses.
+    /// Takes an event, unless it is skipped. None if scripts over sockets don't have this event: there the sockets
+    /// deliver bytes and losses.
     fn happen(&mut self, net: &impl Net, event: &Event) -> Result<Option<Stepped>, Fault> {
         let stepped = match event {
             Event::Connect(terminal, wanted) => self.connect(net, *terminal, *wanted)?,
@@ -126,7 +127,7 @@ impl LoopbackRun {
         Ok(Some(stepped))
     }
 
-    /// Hands the host an answer to the question that is open on a connection.
+    /// Hands the host an answer to the open question of a connection.
     fn answer(&mut self, conn: usize, answer: &Answer) -> Result<Stepped, Fault> {
         if conn >= MOST_CONNECTIONS {
             return Ok(Stepped::Skipped);
@@ -139,7 +140,8 @@ impl LoopbackRun {
         }
     }
 
-    /// Does a command, and adds its output. False if its line isn't understood, or isn't for a script over sockets.
+    /// Executes a command, and adds its output. False if its line is invalid, or if scripts over sockets don't have
+    /// this command.
     fn play_line(
         &mut self,
         net: &impl Net,
@@ -185,7 +187,7 @@ impl LoopbackRun {
         Ok(true)
     }
 
-    /// Does the commands of a script, one a line, and adds their output.
+    /// Executes the commands of a script, one in each line, and adds their output.
     fn play(
         &mut self,
         net: &impl Net,
@@ -206,7 +208,7 @@ impl LoopbackRun {
     }
 }
 
-/// Plays a script, and writes its output, even if it ends early, unless memory is refused.
+/// Plays a script, and writes its output, even if it ends early. Writes nothing if memory is refused.
 fn play_and_write<O: Sink>(
     net: &impl Net,
     alloc: Global,
@@ -225,7 +227,7 @@ fn play_and_write<O: Sink>(
     ending
 }
 
-/// Plays the script of the input, with a server on any free port.
+/// Plays the script of the input, with a server on any free port of 127.0.0.1.
 fn selfrun<N: Net, I: Source, O: Sink>(
     net: &N,
     alloc: Global,
@@ -243,14 +245,14 @@ fn selfrun<N: Net, I: Source, O: Sink>(
     play_and_write(net, alloc, &mut run, script, out)
 }
 
-/// Plays a script like [`run_script`](scripts::run_script), but with loopback sockets between the host and the terminals. The script may have
-/// the commands `connect`, `type`, `key`, `lose`, `answer`, `question`, `settle`, `show` and `status`. `lose` closes the
-/// terminal's socket, which the host sees in a later turn. `settle` takes turns, each with one turn of the host and one read and one
-/// write of each terminal, until one in which no byte is read or written and the host doesn't act. Writes a fault that ends the run to
-/// `faults` as one line.
+/// Plays a script like [`run_script`](scripts::run_script), but with loopback sockets between the host and the
+/// terminals. The script may have the commands `connect`, `type`, `key`, `lose`, `answer`, `question`, `settle`, `show`
+/// and `status`. `lose` closes the terminal's socket, which the host notices in a later turn. `settle` takes turns
+/// until one in which no byte is read or written and the host doesn't act; a turn is one turn of the host, and one read
+/// and one write of each terminal. A fault that ends the run is written to `faults` as one line.
 ///
-/// Returns the exit status: 0 if the whole page was printed; 1, 3 and 6 as `script` does; 4 if the system refuses a socket; 5 if the
-/// turns are used up, after the output up to there.
+/// Returns the exit status: 0 if the whole page was printed; 1, 3 and 6 as `script` does; 4 if the system can't open or
+/// connect a socket; 5 if no turns are left, after the output so far.
 pub fn run_selfrun<N: Net, I: Source, O: Sink, E: Sink>(
     net: &N,
     alloc: Global,
@@ -261,6 +263,6 @@ pub fn run_selfrun<N: Net, I: Source, O: Sink, E: Sink>(
 ) -> u8 {
     match selfrun(net, alloc, turns, input, out) {
         Ok(()) => 0,
-        Err(fault) => end_by(fault, faults),
+        Err(fault) => report_and_exit_code(fault, faults),
     }
 }

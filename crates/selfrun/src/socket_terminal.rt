@@ -1,7 +1,7 @@
 //! A terminal with the socket of its connection.
 ghost use Rattle.std.specs.Prelude.{◌≡◌, length};
 ghost use Rattle.host_core.specs.Serves.{GotWithin};
-ghost use Rattle.world3270.specs.ByteSteps.{answer_pressed};
+ghost use Rattle.world3270.specs.model.ByteSteps.{answer_pressed};
 
 use codes3270::Model;
 use host_core::{LinkRead, LinkWrite};
@@ -15,7 +15,7 @@ use term_core::{TermPhase, Terminal};
 use tn3270e_msg::{Lu, Stop};
 use world3270::Stepped;
 
-/// The answer of a key's event, by the keyboard's answer.
+/// The answer to the event of a key, from the keyboard's answer.
 fn pressed_as(pressed: Pressed) -> Stepped
     ensures { result ≡ answer_pressed pressed }
 {
@@ -69,7 +69,7 @@ impl SocketTerminal {
         self.socket = None;
     }
 
-    /// Presses a key, and returns the answer of that event.
+    /// Presses a key, and returns the answer to that event.
     pub(crate) fn press(&mut self, key: Key) -> Result<Stepped, Fault> {
         match self.terminal.press(key) {
             Ok(pressed) => Ok(pressed_as(pressed)),
@@ -77,7 +77,7 @@ impl SocketTerminal {
         }
     }
 
-    /// Reads the socket once; NotNow without a connection.
+    /// Reads the socket once; NotNow if there is no connection.
     fn read(&mut self, buffer: &mut [u8]) -> LinkRead
         ensures { GotWithin result (length buffer.new) }
     {
@@ -87,7 +87,7 @@ impl SocketTerminal {
         }
     }
 
-    /// Writes the terminal's output once. Answers whether a byte was taken. A read finds out whether the connection failed.
+    /// Writes the terminal's output once. Answers whether a byte was taken. A failed connection is noticed by a read.
     fn send(&mut self) -> bool {
         if self.terminal.out().is_empty() {
             return false;
@@ -104,8 +104,8 @@ impl SocketTerminal {
         }
     }
 
-    /// Reads once, feeds the terminal the bytes, and writes once. If the connection ended or failed, or the terminal closes it,
-    /// ends it. Answers whether a byte was read or written.
+    /// Reads once, feeds the terminal the bytes, and writes once. Ends the connection if it ended or failed, or if the
+    /// terminal closes it. Answers whether a byte was read or written.
     pub(crate) fn turn(&mut self) -> Result<bool, Fault> {
         let mut buffer = [0; CHUNK];
         let count = match self.read(&mut buffer) {

@@ -14,7 +14,7 @@ use Rattle.service.specs.Watching.{Noticed, Told}
 use Rattle.service.specs.declared.accepting.Accepted.{Accepted}
 use Rattle.service.specs.declared.server_core.ServerCore.{ServerCore}
 
--- a listener, a server and a watcher, as an accepted connection finds them
+-- the listener, the server and the watcher at one moment of accepting
 pub record Door (L S W : Type 0) : Type 0 where
   pub listener : L
   pub core : ServerCore S
@@ -27,18 +27,18 @@ door listener core watcher = record { listener = listener; core = core; watcher 
 abbrev pub most_accepted : ℕ
 most_accepted = 65536
 
--- the least number that is free
+-- holds if `conn` is the least free connection number
 pub record IsLeastFree (conn : ℕ) (host : Host) : Type 0 where
   pub is_number : conn < most_connections
   pub is_free : phase_of (service_at conn host) ≡ phase.Free
   pub least : AreTaken conn host
 
 module _ {S : Type 0} where
-  -- the client that connected, with the next session's name
+  -- the client on connection `conn`, with the name of the next session
   abbrev pub client_of : ℕ → Accepted S → ServerCore S → Client
   client_of conn accepted core = record { conn = conn; session = core.next_session; peer = accepted.peer }
 
-  -- a connection begins on a number, with that session
+  -- the server once a connection has begun on number `conn`
   abbrev pub begun : ℕ → Accepted S → ServerCore S → ServerCore S
   begun conn accepted core = record core {
     host = with_opened conn core.host;
@@ -47,27 +47,36 @@ module _ {S : Type 0} where
     next_session = session_after core.next_session;
   }
 
-module _ {S W : Type 0} (noticed : W → Notice → Result Unit Fault → W → Type 0) (showed : W → Host → ℕ → Result Unit Fault → W → Type 0) where
-  -- What is accepted gets the least free number, and the watcher hears that it connected. If no number is free, the socket is dropped,
-  -- and the watcher hears that it was turned away. If memory is refused nothing has changed, but that the socket is dropped.
-  pub data Admits (accepted : Accepted S) (old : ServerCore S) (watcher : W) (answer : Result Unit Fault) (new : ServerCore S) (after : W) : Type 0 where
-    turned_away : AreTaken most_connections old.host → new ≡ old → Told noticed showed (Noticed (notice.TurnedAway accepted.peer) ∷ []) watcher answer after
+module _ {S W : Type 0} (noticed : W → Notice → Result Unit Fault → W → Type 0)
+    (showed : W → Host → ℕ → Result Unit Fault → W → Type 0) where
+  -- Holds if an accepted connection gets the least free number, and the watcher receives `Connected`. If no number is
+  -- free, the socket is dropped, and the watcher receives `TurnedAway`. If memory is refused, only the socket is
+  -- dropped.
+  pub data Admits (accepted : Accepted S) (old : ServerCore S) (watcher : W) (answer : Result Unit Fault)
+      (new : ServerCore S) (after : W) : Type 0 where
+    turned_away : AreTaken most_connections old.host → new ≡ old
+        → Told noticed showed (Noticed (notice.TurnedAway accepted.peer) ∷ []) watcher answer after
         → Admits accepted old watcher answer new after
-    starved : (conn : ℕ) → IsLeastFree conn old.host → new ≡ old → answer ≡ Err fault.NoMemory → after ≡ watcher → Admits accepted old watcher answer new after
+    starved : (conn : ℕ) → IsLeastFree conn old.host → new ≡ old → answer ≡ Err fault.NoMemory → after ≡ watcher
+        → Admits accepted old watcher answer new after
     begins : (conn : ℕ) → IsLeastFree conn old.host → new ≡ begun conn accepted old
         → Told noticed showed (Noticed (notice.Connected (client_of conn accepted old)) ∷ []) watcher answer after
         → Admits accepted old watcher answer new after
 
   module _ {L : Type 0} (gave : L → Option (Accepted S) → L → Type 0) where
-    -- the listener gave a number of connections, and each was admitted, one after another
+    -- holds if the listener gave `count` connections, and each was admitted, one after another
     unfoldable pub AdmitsSome : (count : ℕ) → Door L S W → Door L S W → Type 0
     AdmitsSome zero old new = new ≡ old
     AdmitsSome (suc count) old new = (mid : Door L S W) × (accepted : Accepted S) × AdmitsSome count old mid
-        × gave mid.listener (Some accepted) new.listener × Admits accepted mid.core mid.watcher (Ok tt) new.core new.watcher
+        × gave mid.listener (Some accepted) new.listener
+        × Admits accepted mid.core mid.watcher (Ok tt) new.core new.watcher
 
-    -- All connections that wait are admitted, at most `most`. Where one can't be, no other is accepted after it.
+    -- Holds if all waiting connections are admitted, at most `most`. After a failure no other is accepted.
     abbrev pub AdmitsAll : (most : ℕ) → Door L S W → Result Unit Fault → Door L S W → Type 0
     AdmitsAll most old (Ok _) new = (count : ℕ) × (mid : Door L S W) × (count ≤ most) × AdmitsSome count old mid
-        × (((count ≡ most) × (new ≡ mid)) ⊎ (gave mid.listener None new.listener × (new.core ≡ mid.core) × (new.watcher ≡ mid.watcher)))
-    AdmitsAll most old (Err why) new = (count : ℕ) × (mid : Door L S W) × (accepted : Accepted S) × (count < most) × AdmitsSome count old mid
-        × gave mid.listener (Some accepted) new.listener × Admits accepted mid.core mid.watcher (Err why) new.core new.watcher
+        × (((count ≡ most) × (new ≡ mid))
+        ⊎ (gave mid.listener None new.listener × (new.core ≡ mid.core) × (new.watcher ≡ mid.watcher)))
+    AdmitsAll most old (Err why) new = (count : ℕ) × (mid : Door L S W) × (accepted : Accepted S) × (count < most)
+        × AdmitsSome count old mid
+        × gave mid.listener (Some accepted) new.listener
+        × Admits accepted mid.core mid.watcher (Err why) new.core new.watcher

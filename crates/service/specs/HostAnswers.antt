@@ -1,4 +1,4 @@
--- What a server does for an exchange with an application: it asks its host, hands it an answer, and reports (our profile).
+-- What a server does for an exchange with an application (our profile): the question, the answer, and the reports.
 use Rattle.std.specs.Prelude.{◌≡◌, ℕ, Option, Some, None, Result, Ok, Err, slice_index_or, slice_set}
 use Rattle.std.specs.Option.{option_map}
 use Rattle.applications.specs.Applications.{first_replaced}
@@ -27,46 +27,58 @@ use Rattle.service.specs.Watching.{FailsAmong, HearsEach}
 use Rattle.service.specs.declared.connection_info.ConnectionInfo.{ConnectionInfo}
 use Rattle.service.specs.declared.server_core.ServerCore.{ServerCore}
 
--- the question that is open on a connection, if one is; what its texts need of memory may be refused
+-- Holds if the answer is the open question of a connection, or None. Memory is refused only if the question has texts.
 abbrev pub AsksHost : (conn : ℕ) → Host → Result (Option Question) Fault → Type 0
-AsksHost conn host (Ok question) = question ≡ question_of (application_of host.panels) (session_at conn host) (service_at conn host)
+AsksHost conn host (Ok question) =
+    question ≡ question_of (application_of host.panels) (session_at conn host) (service_at conn host)
 AsksHost conn host (Err why) =
-    (why ≡ fault.NoMemory) × HasTexts (question_of (application_of host.panels) (session_at conn host) (service_at conn host))
+    (why ≡ fault.NoMemory)
+    × HasTexts (question_of (application_of host.panels) (session_at conn host) (service_at conn host))
 
--- The host takes the answer to the question with a ticket, and shows what it says, if that question is open. No other connection changes.
-pub record TakesAnswer (conn : ℕ) (ticket : Ticket) (answer : Answer) (old : Host) (acted : Acted) (new : Host) : Type 0 where
+-- Holds if the host takes the answer to the question with this ticket. The answer is shown only if that question is
+-- still open. No other connection changes.
+pub record TakesAnswer (conn : ℕ) (ticket : Ticket) (answer : Answer) (old : Host) (acted : Acted)
+    (new : Host) : Type 0 where
   pub does : DoesAnswer (application_of old.panels) answer
-      (answered_by (application_of old.panels) (session_at conn old) ticket answer (service_at conn old)) (connection_at conn old) acted (connection_at conn new)
+      (answered_by (application_of old.panels) (session_at conn old) ticket answer (service_at conn old))
+      (connection_at conn old) acted (connection_at conn new)
   pub others : new ≡ with_connection conn (connection_at conn new) old
 
 module _ {S : Type 0} where
-  -- the server once its host took an answer, and all that it kept of it was reported
+  -- the server once its host took an answer, and all of the host's reports were handed on
   abbrev pub core_answered : ℕ → ConnectionInfo → (old : ServerCore S) → Host → ServerCore S
-  core_answered conn info old host = record old { host = reported conn host; infos = slice_set old.infos conn (Some (info_after conn host info)) }
+  core_answered conn info old host =
+      record old { host = reported conn host; infos = slice_set old.infos conn (Some (info_after conn host info)) }
 
   -- the client of a number's last connection, if it ever had one
   abbrev pub client_at : ℕ → ServerCore S → Option Client
   client_at conn core = option_map (λ info. info.client) (slice_index_or core.infos conn None)
 
-  -- what an open connection took so far
+  -- what an open connection has used so far
   abbrev pub usage_at : ℕ → ServerCore S → Option Usage
   usage_at conn core =
-      option_map (usage_of core.now (slot_at conn core.sockets).sent (slot_at conn core.sockets).received) (open_at conn core)
+      option_map (usage_of core.now (slot_at conn core.sockets).sent (slot_at conn core.sockets).received)
+      (open_at conn core)
 
-module _ {S W : Type 0} (noticed : W → Notice → Result Unit Fault → W → Type 0) (showed : W → Host → ℕ → Result Unit Fault → W → Type 0) where
-  -- What happened on a number's last connection is handed to the watcher, each event once and in order, and is known then; nothing, if the
-  -- number never had a connection. The first fault of the watcher ends that, and nothing is known of it.
-  abbrev pub ReportsOf : Option ConnectionInfo → (conn : ℕ) → ServerCore S → Host → W → Result Unit Fault → ServerCore S → W → Type 0
+module _ {S W : Type 0} (noticed : W → Notice → Result Unit Fault → W → Type 0)
+    (showed : W → Host → ℕ → Result Unit Fault → W → Type 0) where
+  -- Holds if the watcher receives each event of a number's last connection, once and in order, and the events are
+  -- recorded. Nothing is reported if the number never had a connection. The first fault of the watcher ends the call,
+  -- and then nothing is recorded.
+  abbrev pub ReportsOf : Option ConnectionInfo → (conn : ℕ) → ServerCore S → Host → W → Result Unit Fault → ServerCore S
+      → W → Type 0
   ReportsOf None conn old host watcher (Ok done) new after = (new ≡ record old { host = host }) × (after ≡ watcher)
   ReportsOf None conn old host watcher (Err why) new after = ⊥
   ReportsOf (Some info) conn old host watcher (Ok done) new after =
-      HearsEach noticed showed (reports_of info.client conn host) watcher after × (new ≡ core_answered conn info old host)
+      HearsEach noticed showed (reports_of info.client conn host) watcher after
+      × (new ≡ core_answered conn info old host)
   ReportsOf (Some info) conn old host watcher (Err why) new after =
       FailsAmong noticed showed (reports_of info.client conn host) watcher why after
       × ((reports : Reports) × (new ≡ record old { host = with_reports conn reports host }))
 
-  -- The host takes an answer. What happened then is handed to the watcher; a fault of the watcher is returned.
-  pub record HandsAnswer (conn : ℕ) (ticket : Ticket) (answer : Answer) (old : ServerCore S) (watcher : W) (result : Result Acted Fault) (new : ServerCore S) (after : W)
+  -- Holds if the host takes an answer, and the watcher receives what happened then. A fault of the watcher is returned.
+  pub record HandsAnswer (conn : ℕ) (ticket : Ticket) (answer : Answer) (old : ServerCore S) (watcher : W)
+      (result : Result Acted Fault) (new : ServerCore S) (after : W)
       : Type 0 where
     pub acted : Acted
     pub host : Host
@@ -76,19 +88,20 @@ module _ {S W : Type 0} (noticed : W → Notice → Result Unit Fault → W → 
     pub result_is : result ≡ unless_failed acted heard
 
 module _ {W : Type 0} (reported : W → Client → ApplicationFault → Result Unit Fault → W → Type 0) where
-  -- the watcher hears why a client's question has no answer; if there is no client it hears nothing
+  -- holds if the watcher receives why a client's question has no answer, or nothing if there is no client
   abbrev pub HearsFault : Option Client → ApplicationFault → W → Result Unit Fault → W → Type 0
   HearsFault (Some client) why old answer new = reported old client why answer new
   HearsFault None why old answer new = (answer ≡ Ok tt) × (new ≡ old)
 
 module _ {W : Type 0} (noted : W → Client → Replaced → Result Unit Fault → W → Type 0) where
-  -- the watcher hears what was replaced in the reply to a client's question, if anything was
+  -- holds if the watcher receives what was replaced in the reply to a client's question, or nothing if nothing was
   abbrev pub HearsReplaced : Option Client → Option Replaced → W → Result Unit Fault → W → Type 0
   HearsReplaced (Some client) (Some replaced) old answer new = noted old client replaced answer new
   HearsReplaced (Some client) None old answer new = (answer ≡ Ok tt) × (new ≡ old)
   HearsReplaced None replaced old answer new = (answer ≡ Ok tt) × (new ≡ old)
 
-  -- the watcher hears what was replaced in this reply
+  -- holds if the watcher receives what was replaced in this reply
   abbrev pub HearsReply : Option Client → Reply → W → Result Unit Fault → W → Type 0
   HearsReply client reply old answer new =
-      (replaced : Option Replaced) × (option_map (λ it. it.key.now) replaced ≡ first_replaced reply) × HearsReplaced client replaced old answer new
+      (replaced : Option Replaced) × (option_map (λ it. it.key.now) replaced ≡ first_replaced reply)
+      × HearsReplaced client replaced old answer new

@@ -1,4 +1,4 @@
--- A turn of one connection (our profile): it is served, what happened is reported, and it is given back if it is over.
+-- A turn of one connection (our profile): it is served, what happened is reported, and it is ended if it is over.
 use Rattle.std.specs.Prelude.{◌≡◌, ◌≢◌, ◌==◌, not, ℕ, Bool, false, List, ◌++◌, length, map, slice_index_or, slice_set, Option, Some, None, Result, Ok, Err, if◌then◌else◌}
 use Rattle.std.specs.declared.io.Error.{Error}
 use Rattle.host_core.specs.Reports.{Reports, events_of, no_reports}
@@ -23,11 +23,11 @@ use Rattle.service.specs.declared.server_core.ServerCore.{ServerCore}
 
 -- ---- reports
 
--- nothing is left to report of a connection; all else is as it was
+-- the host with nothing left to report of a connection; all else is unchanged
 abbrev pub reported : ℕ → Host → Host
 reported conn host = with_reports conn no_reports host
 
--- What the watcher hears of an event on a connection. `host`: the one that it sees.
+-- What the watcher receives for an event on a connection. `host` is the host that it sees.
 abbrev pub told_of : Client → ℕ → Host → HostEvent → Event
 told_of client conn host (event.Rejected rejection) = Noticed (notice.Rejected client rejection)
 told_of client conn host (event.Bound lu) = Noticed (notice.Bound client lu)
@@ -35,93 +35,116 @@ told_of client conn host (event.KeyDropped key) = Noticed (notice.KeyDropped cli
 told_of client conn host (event.RuleBroken broken) = Noticed (notice.RuleBroken client broken)
 told_of client conn host event.Shown = Showed host conn
 
--- what it hears of a connection: each event that the host kept, in its order
+-- what the watcher receives for a connection: each event that the host kept, in its order
 abbrev pub reports_of : Client → ℕ → Host → List Event
 reports_of client conn host = map (told_of client conn (reported conn host)) (events_of (reports_at conn host))
 
--- what is known of the connection then
+-- the connection's record after these events
 abbrev pub info_after : ℕ → Host → ConnectionInfo → ConnectionInfo
 info_after conn host info = with_events (events_of (reports_at conn host)) info
 
--- ---- a connection that is open, and how it ends
+-- ---- an open connection, and its end
 
 module _ {S : Type 0} where
-  -- what is known of a connection that is open: its number has a socket
+  -- the record of an open connection: its number has a socket
   abbrev pub open_at : ℕ → ServerCore S → Option ConnectionInfo
   open_at conn core = if is_connected (slot_at conn core.sockets) then slice_index_or core.infos conn None else None
 
-  -- the sockets, with the number of bytes that wait to be sent on a connection
+  -- the sockets, with the number of unsent bytes of a connection
   abbrev pub with_unsent : ℕ → ServerCore S → Sockets S
-  with_unsent conn core = with_slot conn (with_waiting (length (connection_at conn core.host).out) (slot_at conn core.sockets)) core.sockets
+  with_unsent conn core =
+      with_slot conn (with_waiting (length (connection_at conn core.host).out) (slot_at conn core.sockets)) core.sockets
 
-  -- A connection is given back: its number and its LU are free at the host, and its socket is closed. All else is as it was.
+  -- The server after a connection's end: its number and its LU are free, and its socket is closed. All else is
+  -- unchanged.
   abbrev pub given_back : ℕ → ServerCore S → ServerCore S
   given_back conn core =
-      record core { host = given_up conn core.host; sockets = with_slot conn (emptied (slot_at conn core.sockets)) core.sockets }
+      record core {
+        host = given_up conn core.host;
+        sockets = with_slot conn (emptied (slot_at conn core.sockets)) core.sockets;
+      }
 
+  -- the server after a connection's end, if it ended
   abbrev pub given_back_if : Option Ending → ℕ → ServerCore S → ServerCore S
   given_back_if None conn core = core
   given_back_if (Some ending) conn core = given_back conn core
 
-  -- the watcher hears that a connection is over, why, and what it took
+  -- the report that a connection is over, why, and what it used
   abbrev pub ended : ℕ → ConnectionInfo → ServerCore S → Ending → Event
-  ended conn info core ending = Noticed (notice.Ended info.client ending (usage_of core.now (slot_at conn core.sockets).sent (slot_at conn core.sockets).received info))
+  ended conn info core ending = Noticed (notice.Ended info.client ending
+      (usage_of core.now (slot_at conn core.sockets).sent (slot_at conn core.sockets).received info))
 
 -- ---- a turn of one connection
 
--- why the connection is over after the turn, if it is
+-- why the connection is over after the turn; None if it continues
 abbrev pub ending_after : ℕ → Served → (after : Host) → Option Ending
 ending_after conn answer after = ending_of (phase_of (service_at conn after)) answer
 
 module _ {S : Type 0} where
-  -- the server once the host has served a connection, and all was reported
+  -- the server once the host has served a connection, and all of it was reported
   abbrev pub core_reported : ℕ → ConnectionInfo → (old : ServerCore S) → Host → Sockets S → ServerCore S
   core_reported conn info old host sockets =
-      record old { host = reported conn host; sockets = sockets; infos = slice_set old.infos conn (Some (info_after conn host info)) }
+      record old {
+        host = reported conn host;
+        sockets = sockets;
+        infos = slice_set old.infos conn (Some (info_after conn host info));
+      }
 
-  -- the watcher hears last that the connection is over
+  -- the last report of a turn: the connection's end, if it is over
   abbrev pub end_in_turn : ℕ → ConnectionInfo → (old : ServerCore S) → Served → Host → Sockets S → List Event
   end_in_turn conn info old answer host sockets =
-      if_any (ended conn (info_after conn host info) (core_reported conn info old host sockets)) (ending_after conn answer host)
+      if_any (ended conn (info_after conn host info) (core_reported conn info old host sockets))
+      (ending_after conn answer host)
 
-module _ {S W : Type 0} (gave : S → ℕ → List ℕ → Result ℕ Error → S → Type 0) (took : S → List ℕ → Result ℕ Error → S → Type 0)
-    (noticed : W → Notice → Result Unit Fault → W → Type 0) (showed : W → Host → ℕ → Result Unit Fault → W → Type 0) where
-  -- The host serves a connection, by one read, one act and one write: this is its answer, and these are host and sockets after it.
+module _ {S W : Type 0} (gave : S → ℕ → List ℕ → Result ℕ Error → S → Type 0)
+    (took : S → List ℕ → Result ℕ Error → S → Type 0)
+    (noticed : W → Notice → Result Unit Fault → W → Type 0)
+    (showed : W → Host → ℕ → Result Unit Fault → W → Type 0) where
+  -- Holds if the host serves a connection, by one read, one act and one write, with this answer, and these are the host
+  -- and the sockets after it.
   abbrev pub IsServed : ℕ → ServerCore S → Served → Host → Sockets S → Type 0
-  IsServed conn old answer host sockets = Serves (GivesAt gave) (TakesAt took) conn old.host (with_unsent conn old) answer host sockets
+  IsServed conn old answer host sockets = Serves (GivesAt gave) (TakesAt took) conn old.host
+      (with_unsent conn old) answer host sockets
 
-  -- A connection is served once. What happened is handed to the watcher, each event once and in order. If the connection is over it is
-  -- given back, and the watcher hears so.
-  pub record ServesNumber (conn : ℕ) (info : ConnectionInfo) (old : ServerCore S) (watcher : W) (acted : Bool) (new : ServerCore S) (after : W) : Type 0 where
+  -- Holds if a connection is served once, and the watcher receives each event, once and in order. If the connection is
+  -- over, it is ended, and the watcher receives that.
+  pub record ServesNumber (conn : ℕ) (info : ConnectionInfo) (old : ServerCore S) (watcher : W) (acted : Bool)
+      (new : ServerCore S) (after : W) : Type 0 where
     pub answer : Served
     pub host : Host
     pub sockets : Sockets S
     pub serves : IsServed conn old answer host sockets
     pub fed : answer ≢ served.Memory
     pub acts : acted ≡ not (length (connection_at conn host).out == length (connection_at conn old.host).out)
-    pub hears : HearsEach noticed showed (reports_of info.client conn host ++ end_in_turn conn info old answer host sockets) watcher after
+    pub hears : HearsEach noticed showed
+        (reports_of info.client conn host ++ end_in_turn conn info old answer host sockets) watcher after
     pub becomes : new ≡ given_back_if (ending_after conn answer host) conn (core_reported conn info old host sockets)
 
-  -- How that breaks off: memory was refused while the host served the connection, and the watcher hears nothing; or the watcher failed.
-  -- What was done before isn't undone.
-  pub data BreaksOffAt (conn : ℕ) (info : ConnectionInfo) (old : ServerCore S) (watcher : W) (why : Fault) (new : ServerCore S) (after : W) : Type 0 where
+  -- Holds if such a turn fails: either memory was refused while the host served the connection, and the watcher
+  -- received nothing; or the watcher failed. What was done before that is not undone.
+  pub data BreaksOffAt (conn : ℕ) (info : ConnectionInfo) (old : ServerCore S) (watcher : W) (why : Fault)
+      (new : ServerCore S) (after : W) : Type 0 where
     starved : (host : Host) (sockets : Sockets S) → IsServed conn old served.Memory host sockets → why ≡ fault.NoMemory
-        → new ≡ record old { host = host; sockets = sockets } → after ≡ watcher → BreaksOffAt conn info old watcher why new after
-    report_failed : (answer : Served) (host : Host) (sockets : Sockets S) (reports : Reports) → IsServed conn old answer host sockets → answer ≢ served.Memory
+        → new ≡ record old { host = host; sockets = sockets } → after ≡ watcher
+        → BreaksOffAt conn info old watcher why new after
+    report_failed : (answer : Served) (host : Host) (sockets : Sockets S) (reports : Reports)
+        → IsServed conn old answer host sockets → answer ≢ served.Memory
         → FailsAmong noticed showed (reports_of info.client conn host) watcher why after
         → new ≡ record old { host = with_reports conn reports host; sockets = sockets }
         → BreaksOffAt conn info old watcher why new after
-    end_failed : (answer : Served) (host : Host) (sockets : Sockets S) (told : W) → IsServed conn old answer host sockets → answer ≢ served.Memory
+    end_failed : (answer : Served) (host : Host) (sockets : Sockets S) (told : W)
+        → IsServed conn old answer host sockets → answer ≢ served.Memory
         → HearsEach noticed showed (reports_of info.client conn host) watcher told
         → FailsAmong noticed showed (end_in_turn conn info old answer host sockets) told why after
         → new ≡ given_back_if (ending_after conn answer host) conn (core_reported conn info old host sockets)
         → BreaksOffAt conn info old watcher why new after
 
-  -- a number whose connection is open is served, and no other is
+  -- holds if an open connection is served; a number without one is left alone
   abbrev pub ServesIfOpen : Option ConnectionInfo → ℕ → ServerCore S → W → Result Bool Fault → ServerCore S → W → Type 0
   ServesIfOpen None conn old watcher answer new after = (answer ≡ Ok false) × (new ≡ old) × (after ≡ watcher)
   ServesIfOpen (Some info) conn old watcher (Ok acted) new after = ServesNumber conn info old watcher acted new after
   ServesIfOpen (Some info) conn old watcher (Err why) new after = BreaksOffAt conn info old watcher why new after
 
+  -- holds for a turn of the connection on this number, if there is one
   abbrev pub ServesAt : ℕ → ServerCore S → W → Result Bool Fault → ServerCore S → W → Type 0
   ServesAt conn old watcher answer new after = ServesIfOpen (open_at conn old) conn old watcher answer new after

@@ -20,46 +20,53 @@ use Rattle.service.specs.declared.server_core.ServerCore.{ServerCore}
 
 -- what a connection waits for
 abbrev pub awaited_at : ℕ → Host → Awaited
-awaited_at conn host = awaited_on (phase_of (service_at conn host)) (turn_of (service_at conn host)) (pending_of (service_at conn host))
+awaited_at conn host = awaited_on (phase_of (service_at conn host)) (turn_of (service_at conn host))
+    (pending_of (service_at conn host))
 
--- the answer of a call that answers whether it did something
+-- the result of a call, without its `did`
 abbrev pub done : Result Bool Fault → Result Unit Fault
 done (Ok did) = Ok tt
 done (Err why) = Err why
 
--- if it answers, it did something
+-- holds if the call failed or did something
 abbrev pub HasDone : Result Bool Fault → Type 0
 HasDone (Ok did) = did ≡ true
 HasDone (Err why) = ⊤
 
 module _ {S : Type 0} where
-  -- when the connection did something, by the bytes that came and were sent until now
+  -- the connection's activity, updated with the bytes received and sent until now
   abbrev pub activity_at : ℕ → ConnectionInfo → ServerCore S → Activity
   activity_at conn info core =
-      heard (slot_at conn core.sockets).received (slot_at conn core.sockets).sent (awaited_at conn core.host) core.now info.activity
+      heard (slot_at conn core.sockets).received (slot_at conn core.sockets).sent
+      (awaited_at conn core.host) core.now info.activity
 
+  -- what the time limits require on this connection now
   abbrev pub due_at : TimeLimits → ℕ → ConnectionInfo → ServerCore S → Due
   due_at limits conn info core = due limits (awaited_at conn core.host) (activity_at conn info core) core.now
 
-  -- Bytes came since the limits were applied last, and none were sent: the peer's TCP waits for an acknowledgement.
+  -- Whether bytes were received since the limits were last applied, and none sent: the peer's TCP waits for an ACK.
   abbrev pub is_unanswered_at : ℕ → ConnectionInfo → ServerCore S → Bool
-  is_unanswered_at conn info core = is_unanswered info.activity (slot_at conn core.sockets).received (slot_at conn core.sockets).sent
+  is_unanswered_at conn info core = is_unanswered info.activity (slot_at conn core.sockets).received
+      (slot_at conn core.sockets).sent
 
   abbrev pub with_activity : ℕ → ConnectionInfo → Activity → ServerCore S → ServerCore S
-  with_activity conn info activity core = record core { infos = slice_set core.infos conn (Some (record info { activity = activity })) }
+  with_activity conn info activity core =
+      record core { infos = slice_set core.infos conn (Some (record info { activity = activity })) }
 
-  -- IAC NOP is sent on a bound connection, unless output waits there
+  -- the server with IAC NOP queued on a bound connection without waiting output
   abbrev pub nop_sent : ℕ → ServerCore S → ServerCore S
   nop_sent conn core = record core { host = with_connection conn (with_nop (connection_at conn core.host)) core.host }
 
   abbrev pub nop_sent_if : Bool → ℕ → ServerCore S → ServerCore S
   nop_sent_if asked conn core = if asked then nop_sent conn core else core
 
+  -- whether IAC NOP may be sent: the connection is bound, and no output waits there
   abbrev pub sends_nop : ℕ → ServerCore S → Bool
   sends_nop conn core = may_keep_alive (connection_at conn core.host)
 
-module _ {S W : Type 0} (noticed : W → Notice → Result Unit Fault → W → Type 0) (showed : W → Host → ℕ → Result Unit Fault → W → Type 0) where
-  -- What is due on a connection is done, and nothing else: it is given back, and the watcher hears so; or IAC NOP is sent.
+module _ {S W : Type 0} (noticed : W → Notice → Result Unit Fault → W → Type 0)
+    (showed : W → Host → ℕ → Result Unit Fault → W → Type 0) where
+  -- Holds if just what is due on a connection is done: it is ended, and the watcher receives that; or IAC NOP is sent.
   abbrev pub DoesDue : Due → ℕ → ConnectionInfo → ServerCore S → W → Result Bool Fault → ServerCore S → W → Type 0
   DoesDue (due_now.Disconnect overdue) conn info old watcher answer new after =
       Told noticed showed (ended conn info old (ending.Dropped overdue) ∷ []) watcher (done answer) after
@@ -69,21 +76,31 @@ module _ {S W : Type 0} (noticed : W → Notice → Result Unit Fault → W → 
       × (new ≡ nop_sent conn (with_activity conn info (kept_alive old.now (activity_at conn info old)) old))
   DoesDue due_now.Nothing conn info old watcher answer new after =
       (answer ≡ Ok (is_unanswered_at conn info old && sends_nop conn old)) × (after ≡ watcher)
-      × (new ≡ nop_sent_if (is_unanswered_at conn info old) conn (with_activity conn info (activity_at conn info old) old))
+      × (new ≡ nop_sent_if (is_unanswered_at conn info old) conn
+      (with_activity conn info (activity_at conn info old) old))
 
   module _ (limits : TimeLimits) where
-    -- the limits are applied to a number whose connection is open, and to no other
-    abbrev pub AppliesIfOpen : Option ConnectionInfo → ℕ → ServerCore S → W → Result Bool Fault → ServerCore S → W → Type 0
+    -- holds if the limits are applied to an open connection; a number without one is left alone
+    abbrev pub AppliesIfOpen : Option ConnectionInfo → ℕ → ServerCore S → W → Result Bool Fault → ServerCore S
+        → W → Type 0
     AppliesIfOpen None conn old watcher answer new after = (answer ≡ Ok false) × (new ≡ old) × (after ≡ watcher)
-    AppliesIfOpen (Some info) conn old watcher answer new after = DoesDue (due_at limits conn info old) conn info old watcher answer new after
+    AppliesIfOpen (Some info) conn old watcher answer new after =
+        DoesDue (due_at limits conn info old) conn info old watcher answer new after
 
+    -- holds if the limits are applied to this number, if it has an open connection
     abbrev pub AppliesAt : ℕ → ServerCore S → W → Result Bool Fault → ServerCore S → W → Type 0
     AppliesAt conn old watcher answer new after = AppliesIfOpen (open_at conn old) conn old watcher answer new after
 
-    abbrev pub AppliesIf : (applied : Bool) → (now : ℕ) → ServerCore S → W → Result Bool Fault → ServerCore S → W → Type 0
-    AppliesIf true now old watcher answer new after = VisitsEach AppliesAt (record old { now = now; applied = now }) watcher answer new after
-    AppliesIf false now old watcher answer new after = (answer ≡ Ok false) × (new ≡ record old { now = now }) × (after ≡ watcher)
+    -- holds if the time is set, and the limits are applied to each number if `applied`
+    abbrev pub AppliesIf : (applied : Bool) → (now : ℕ) → ServerCore S → W → Result Bool Fault → ServerCore S
+        → W → Type 0
+    AppliesIf true now old watcher answer new after =
+        VisitsEach AppliesAt (record old { now = now; applied = now }) watcher answer new after
+    AppliesIf false now old watcher answer new after = (answer ≡ Ok false) × (new ≡ record old { now = now })
+        × (after ≡ watcher)
 
-    -- The time is taken. If a byte moved in the turn, or the limits were applied last long enough before, they are applied to each number.
+    -- Holds if the time is set, and the limits are applied to each number if a byte moved in the turn, or if they were
+    -- last applied long enough before.
     abbrev pub KeepsTime : (now : ℕ) → (moved : Bool) → ServerCore S → W → Result Bool Fault → ServerCore S → W → Type 0
-    KeepsTime now moved old watcher answer new after = AppliesIf (are_applied moved old.applied now) now old watcher answer new after
+    KeepsTime now moved old watcher answer new after =
+        AppliesIf (are_applied moved old.applied now) now old watcher answer new after

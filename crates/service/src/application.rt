@@ -1,4 +1,4 @@
-//! The application that decides for a server, over sockets.
+//! The application that a server's host asks, over sockets.
 ghost use Rattle.std.specs.Prelude.{◌<◌};
 ghost use Rattle.host_core.specs.State.{most_connections};
 
@@ -10,12 +10,12 @@ use host_core::{Acted, Answer, MOST_CONNECTIONS, PanelSet, Question, Ticket};
 use job_streams::Fault;
 use jobs::ReplyTime;
 use mio::net::TcpStream;
+use service_events::Notice;
 use std::alloc::{AllocError, Global};
 use std::io;
 use std::net::{Net, SocketAddr};
 
-/// The poll token of all exchanges: no connection has this number, nor has the server's listener or the port for
-/// metrics.
+/// The poll token of all exchanges. No connection, the listener nor the metrics port has this token.
 const EXCHANGE_TOKEN: usize = MOST_CONNECTIONS + 3;
 
 /// The application at an endpoint, and the exchange of each connection that waits for its answer.
@@ -26,15 +26,29 @@ pub(crate) struct Application {
     /// How long a reply may take, in milliseconds.
     most: u64,
     exchanges: Exchanges<TcpStream>,
+    /// When the question of each exchange was asked, in milliseconds of the server's time.
+    asked: [Option<u64>; MOST_CONNECTIONS],
 }
 
-/// A server with its watcher, and where the application listens.
+/// What became of a question in a turn of its exchange. The greatest counts: a failure's message is an answer, too.
+#[derive(Clone, Copy, PartialEq, Eq, PartialOrd, Ord)]
+enum Outcome {
+    /// Nothing yet.
+    Open,
+    /// The application's answer was shown.
+    Answered,
+    /// It has no answer.
+    Failed,
+}
+
+/// A server with its watcher, and the endpoint of the application.
 #[derive(Drop)]
 struct Watched<'a, N, W> {
     net: &'a N,
     address: SocketAddr,
     server: &'a mut Server,
     watcher: &'a mut W,
+    outcome: Outcome,
 }
 
 impl<N: Net, W: Watcher> AskingServer for Watched<'_, N, W> {
@@ -49,11 +63,14 @@ impl<N: Net, W: Watcher> AskingServer for Watched<'_, N, W> {
 
     ghost connected = { λ _ _. ⊤ };
 
-    ghost answered = { λ old conn ticket answer result new. HandsAnswer W.noticed W.showed conn ticket answer old.server.now old.watcher.now result new.server.now new.watcher.now };
+    ghost answered = { λ old conn ticket answer result new. HandsAnswer W.noticed W.showed conn ticket answer
+        old.server.now old.watcher.now result new.server.now new.watcher.now };
 
-    ghost reported = { λ old conn fault answer new. HearsFault W.reported (client_at conn old.server.now) fault old.watcher.now answer new.watcher.now × (new.server.now ≡ old.server.now) };
+    ghost reported = { λ old conn fault answer new. HearsFault W.reported (client_at conn old.server.now) fault
+        old.watcher.now answer new.watcher.now × (new.server.now ≡ old.server.now) };
 
-    ghost noted = { λ old conn reply answer new. HearsReply W.noted (client_at conn old.server.now) reply old.watcher.now answer new.watcher.now × (new.server.now ≡ old.server.now) };
+    ghost noted = { λ old conn reply answer new. HearsReply W.noted (client_at conn old.server.now) reply
+        old.watcher.now answer new.watcher.now × (new.server.now ≡ old.server.now) };
 
     fn panels(&self) -> &PanelSet {
         self.server.panels()
@@ -65,17 +82,19 @@ impl<N: Net, W: Watcher> AskingServer for Watched<'_, N, W> {
 
     fn connect(&self) -> io::Result<TcpStream> {
         let mut socket = TcpStream::connect(self.net, self.address)?;
-        // Without these calls it is served too, with some delay.
+        // If one of these calls fails, the stream is used anyway, with some delay.
         let _ = socket.set_nodelay(true);
         let _ = self.server.register(&mut socket, EXCHANGE_TOKEN);
         Ok(socket)
     }
 
     fn answer(&mut self, conn: usize, ticket: Ticket, answer: &Answer) -> Result<Acted, Fault> {
+        self.outcome = self.outcome.max(Outcome::Answered);
         self.server.answer(conn, ticket, answer, self.watcher)
     }
 
     fn report_unanswered(&mut self, conn: usize, fault: &ApplicationFault) -> Result<(), Fault> {
+        self.outcome = Outcome::Failed;
         self.server.report_unanswered(conn, fault, self.watcher)
     }
 
@@ -85,8 +104,32 @@ impl<N: Net, W: Watcher> AskingServer for Watched<'_, N, W> {
     }
 }
 
+/// Reports to the watcher that a question was asked, and that it was answered, if a turn did that. `asked` is when the
+/// question of the exchange was asked; None if there is no exchange.
+fn report<W: Watcher>(
+    asked: &mut Option<u64>,
+    did: bool,
+    outcome: Outcome,
+    now: u64,
+    watcher: &mut W,
+) -> Result<(), Fault> {
+    if asked.is_none() && (did || outcome != Outcome::Open) {
+        *asked = Some(now);
+        watcher.notice(&Notice::Asked)?;
+    }
+    if outcome == Outcome::Open {
+        return Ok(());
+    }
+    match asked.take() {
+        Some(asked) if outcome == Outcome::Answered => {
+            watcher.notice(&Notice::Answered(now.saturating_sub(asked)))
+        }
+        _ => Ok(()),
+    }
+}
+
 impl Application {
-    /// The application at an endpoint, which may take a time for each reply.
+    /// The application at an endpoint, with the most milliseconds that it may take for a reply.
     pub(crate) fn new(
         alloc: Global,
         endpoint: Endpoint,
@@ -97,11 +140,12 @@ impl Application {
             endpoint,
             most: u64::from(reply_time.get()) * 1000,
             exchanges: Exchanges::new(alloc)?,
+            asked: [None; MOST_CONNECTIONS],
         })
     }
 
-    /// Does what there is to do on each connection. Answers whether a byte was read or written, or the host answered.
-    /// NoMemory if memory is refused, and any fault of the watcher.
+    /// Takes a turn of the exchange of each connection. Answers whether a byte was read or written, or the host
+    /// answered. NoMemory if memory is refused; any fault of the watcher is returned.
     pub(crate) fn turn<N: Net, W: Watcher>(
         &mut self,
         net: &N,
@@ -115,7 +159,7 @@ impl Application {
         Ok(moved)
     }
 
-    /// Does what there is to do on a connection.
+    /// Takes a turn of one connection's exchange.
     fn serve<N: Net, W: Watcher>(
         &mut self,
         net: &N,
@@ -125,11 +169,12 @@ impl Application {
     ) -> Result<bool, Fault>
         requires { conn < most_connections }
     {
+        let now = server.now();
         let asking = Asking {
             alloc: self.alloc,
             endpoint: &self.endpoint,
             boot: server.boot(),
-            now: server.now(),
+            now,
             most: self.most,
         };
         let has_operator = server.is_connected(conn);
@@ -138,8 +183,13 @@ impl Application {
             address: self.endpoint.address(),
             server,
             watcher,
+            outcome: Outcome::Open,
         };
-        self.exchanges
-            .turn(asking, &mut watched, conn, has_operator)
+        let did = self
+            .exchanges
+            .turn(asking, &mut watched, conn, has_operator)?;
+        let outcome = watched.outcome;
+        report(&mut self.asked[conn], did, outcome, now, watcher)?;
+        Ok(did)
     }
 }

@@ -1,4 +1,4 @@
-//! What a server knows of the connections of its host.
+//! What a server records about each connection of its host.
 ghost use Rattle.std.specs.Prelude.{◌≡◌, ◌<◌, IfOk, None, Some, length, replicate, slice_index_or, slice_set};
 ghost use Rattle.host_core.specs.State.{most_connections};
 ghost use Rattle.service.specs.ConnectionInfos.{new_info, usage_of, with_event};
@@ -8,21 +8,21 @@ use service_events::{Activity, Client, Usage};
 use std::alloc::{AllocError, Global};
 use std::marker::Model;
 
-/// What a server knows of a connection, beside its socket and the host's part.
+/// What a server records about a connection, beside its socket and the host's own state.
 #[derive(Clone, Copy)]
 pub struct ConnectionInfo {
-    /// Its number, its session's name and its peer.
+    /// Its connection number, its session's name and its peer's address.
     pub client: Client,
-    /// When it began, and when it did something.
+    /// When it began, and when it was last active, in milliseconds of the server's time.
     pub activity: Activity,
     /// Whether its terminal was bound to an LU.
     pub bound: bool,
-    /// How many screens were shown.
+    /// How many screens were shown on it.
     pub screens: u64,
 }
 
 impl ConnectionInfo {
-    /// That of a connection that begins now, in milliseconds of the server's time.
+    /// The record of a connection that begins at `now`, in milliseconds of the server's time.
     pub(crate) fn new(client: Client, now: u64) -> ConnectionInfo
         ensures { result ≡ new_info client now }
     {
@@ -34,7 +34,7 @@ impl ConnectionInfo {
         }
     }
 
-    /// Takes down what happened on the connection.
+    /// Records an event of the host on this connection.
     pub(crate) fn take_down(&mut self, event: &HostEvent)
         ensures { self.new ≡ with_event event.now self.old }
     {
@@ -47,7 +47,7 @@ impl ConnectionInfo {
         }
     }
 
-    /// What the connection took until now, by the bytes that were sent and that came.
+    /// What the connection has used by `now`: its duration, its turns, and the bytes sent and received.
     pub(crate) fn usage(&self, now: u64, sent: u64, received: u64) -> Usage
         ensures { result ≡ usage_of now sent received self.now }
     {
@@ -61,7 +61,7 @@ impl ConnectionInfo {
     }
 }
 
-/// What is known of each number's last connection.
+/// The record of the last connection of each number, 0 to 63.
 #[derive(Drop)]
 pub struct ConnectionInfos {
     infos: Vec<Option<ConnectionInfo>>,
@@ -79,7 +79,7 @@ impl Model for ConnectionInfos {
     ghost invariant = { λ infos. length infos.infos.items ≡ most_connections };
 }
 
-/// 64 numbers that had no connection.
+/// 64 numbers, none of which had a connection yet.
 fn no_infos(alloc: Global) -> Result<Vec<Option<ConnectionInfo>>, AllocError>
     ensures { IfOk result (λ infos. infos.items ≡ replicate most_connections None) }
 {
@@ -91,7 +91,7 @@ fn no_infos(alloc: Global) -> Result<Vec<Option<ConnectionInfo>>, AllocError>
 }
 
 impl ConnectionInfos {
-    /// 64 numbers that had no connection. An error if memory is refused.
+    /// 64 numbers, none of which had a connection yet. An error if memory is refused.
     pub(crate) fn new(alloc: Global) -> Result<ConnectionInfos, AllocError>
         ensures { IfOk result (λ infos. infos ≡ replicate most_connections None) }
     {
@@ -100,7 +100,7 @@ impl ConnectionInfos {
         })
     }
 
-    /// What is known of a number's last connection.
+    /// The record of a number's last connection; None if it had none.
     pub(crate) fn at(&self, conn: usize) -> Option<ConnectionInfo>
         requires { conn < most_connections }
         ensures { result ≡ slice_index_or self.now conn None }
@@ -108,7 +108,7 @@ impl ConnectionInfos {
         self.infos[conn]
     }
 
-    /// Sets what is known of a number's last connection.
+    /// Sets the record of a number's last connection.
     pub(crate) fn set(&mut self, conn: usize, info: ConnectionInfo)
         requires { conn < most_connections }
         ensures { self.new ≡ slice_set self.old conn (Some info) }

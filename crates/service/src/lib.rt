@@ -1,9 +1,12 @@
 //! The jobs `host` and `serve`: a host over sockets, with its log, its metrics and its application.
 //!
-//! It draws no screen and reads no panels itself. A [`Server`] takes turns: each serves every connection once, and
-//! reports what happened to a [`Watcher`]. `serve` also applies time limits, and asks the application, once a turn.
-//! `specs/ServerTurns` says what a turn of a server is, `TimeTurns` what the time limits do, `ServiceTurns` what a turn
-//! of `serve` is, and `Uptimes` what its time is.
+//! This crate parses no panel texts (crate `panels`), and does not decide what the host does (`host_core`). A
+//! [`Server`] takes turns. Each turn accepts waiting connections, serves every connection once (one read, one act, one
+//! write), and reports to a [`Watcher`] what happened. `serve` also applies time limits and asks the application, once
+//! in each turn.
+//!
+//! `specs/ServerTurns` defines a turn of a server, `TimeTurns` what the time limits do, `ServiceTurns` a turn of
+//! `serve`, and `Uptimes` the server's time.
 #![tactic(auto)]
 
 mod accepting;

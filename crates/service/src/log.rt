@@ -9,25 +9,25 @@ use service_events::{Client, Notice};
 use std::alloc::{AllocError, Global};
 use std::time::Clock;
 
-/// Writes each notice as a line that begins with the time, unless it is quiet. NoMemory if memory is refused; a line that can't be
-/// written is left out.
+/// Writes each notice as a line that begins with the time, unless `quiet` is set; a question and its answer have no
+/// line. NoMemory if memory is refused; a line that can't be written is left out.
 #[derive(Drop)]
 pub struct Log<'a, C, E> {
-    /// Tells the time.
+    /// The clock for the time of each line.
     pub clock: &'a C,
-    /// Makes room for a line.
+    /// The allocator for each line.
     pub alloc: Global,
-    /// Gets the lines.
+    /// Where the lines are written.
     pub lines: &'a mut E,
-    /// Whether nothing is written.
+    /// Whether no line is written.
     pub quiet: bool,
 }
 
-/// Room for a line of the usual length, in bytes.
+/// The capacity that is reserved for a line of the usual length, in bytes.
 const LINE_ROOM: usize = 256;
 
 impl<C: Clock, E: Sink> Log<'_, C, E> {
-    /// The front of an event's line: the time in UTC, in whole seconds (RFC 3339); `unknown` if the clock fails.
+    /// The start of an event's line: the time in UTC, in whole seconds (RFC 3339); `unknown` if the clock fails.
     fn timed_line(&self) -> Result<String, AllocError> {
         let mut line = String::with_capacity(self.alloc, LINE_ROOM)?;
         match Timestamp::now(self.clock) {
@@ -37,7 +37,7 @@ impl<C: Clock, E: Sink> Log<'_, C, E> {
         Ok(line)
     }
 
-    /// Writes a line. Terminals are served even if it can't be written.
+    /// Writes a line. If that fails, terminals are still served.
     fn put(&mut self, line: &str) {
         let _ = self.lines.write_all(line.as_bytes());
     }
@@ -59,6 +59,7 @@ impl<C: Clock, E: Sink> Watcher for Log<'_, C, E> {
             return Ok(());
         }
         let mut line = match notice {
+            Notice::Asked | Notice::Answered(_) => return Ok(()),
             Notice::Listening(_) => String::new(self.alloc),
             _ => self.timed_line()?,
         };
@@ -91,7 +92,7 @@ impl<C: Clock, E: Sink> Watcher for Log<'_, C, E> {
         Ok(())
     }
 
-    fn turned(&mut self, _server: &Server, _now: u64) -> bool {
+    fn after_turn(&mut self, _server: &Server, _now: u64) -> bool {
         false
     }
 }

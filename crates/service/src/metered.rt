@@ -1,4 +1,4 @@
-//! Counting what a server does, and answering with the counts.
+//! Counts what a server does, and serves the counts at the metrics port.
 ghost use Rattle.std.specs.Prelude.{◌<◌};
 ghost use Rattle.host_core.specs.State.{most_connections};
 
@@ -9,69 +9,78 @@ use applications::{ApplicationFault, Replaced};
 use host_core::{Host, MOST_CONNECTIONS};
 use job_streams::Fault;
 use jobs::ServicePort;
-use service_events::{Client, Metrics, Notice};
+use service_events::{Client, MetricsPage, Notice};
 use std::alloc::Global;
 use std::net::Net;
 
-/// Counts notices and screens, answers with the counts at a port of this machine, and hands each on to another watcher.
+/// Counts notices and screens, serves the counts at a port of 127.0.0.1, and passes each call on to another watcher.
 #[derive(Drop)]
-pub(crate) struct Metered<'a, W> {
+pub(crate) struct MetricsObserver<'a, W> {
     watcher: &'a mut W,
-    metrics: Metrics,
+    page: MetricsPage,
     port: MetricsPort,
 }
 
-impl<'a, W: Watcher> Metered<'a, W> {
-    /// Nothing is counted yet. CannotListen if the system refuses to listen on the port; NoMemory if memory is refused.
+impl<'a, W: Watcher> MetricsObserver<'a, W> {
+    /// Counts on from this page. CannotListen if the system can't listen on the port; NoMemory if memory is refused.
     pub(crate) fn new(
         net: &impl Net,
         alloc: Global,
         server: &Server,
         port: ServicePort,
+        page: MetricsPage,
         watcher: &'a mut W,
-    ) -> Result<Metered<'a, W>, Fault> {
+    ) -> Result<MetricsObserver<'a, W>, Fault> {
         let mut port = MetricsPort::listen(net, alloc, port)?;
         port.register(server);
-        Ok(Metered {
+        Ok(MetricsObserver {
             watcher,
-            metrics: Metrics::new(),
+            page,
             port,
         })
     }
 
-    /// The counts, with what the connections that are open took so far.
-    fn counts(&self, server: &Server) -> Metrics {
-        let mut counts = self.metrics;
+    /// The page, with what open connections have used so far.
+    fn page(&self, server: &Server) -> MetricsPage {
+        let mut metrics = self.page.metrics;
         for conn in 0..MOST_CONNECTIONS {
             match server.usage(conn) {
-                Some(usage) => counts.count_usage(usage.turns, usage.received, usage.sent),
+                Some(usage) => metrics.count_usage(usage.turns, usage.received, usage.sent),
                 None => {}
             }
         }
-        counts
+        MetricsPage {
+            metrics,
+            ..self.page
+        }
     }
 }
 
-impl<W: Watcher> Watcher for Metered<'_, W> {
+impl<W: Watcher> Watcher for MetricsObserver<'_, W> {
     ghost use Rattle.std.specs.Prelude.{◌≡◌};
-    ghost use Rattle.service_events.specs.Metrics.{counted, with_paint};
+    ghost use Rattle.service_events.specs.Metrics.{counted, with_failure, with_paint};
 
-    ghost noticed = { λ old notice answer new. W.noticed old.watcher.now notice answer new.watcher.now × (new.metrics ≡ counted notice old.metrics) };
+    ghost noticed = { λ old notice answer new. W.noticed old.watcher.now notice answer new.watcher.now
+        × (new.page.metrics ≡ counted notice old.page.metrics) };
 
-    ghost showed = { λ old host conn answer new. W.showed old.watcher.now host conn answer new.watcher.now × (new.metrics ≡ with_paint old.metrics) };
+    ghost showed = { λ old host conn answer new. W.showed old.watcher.now host conn answer new.watcher.now
+        × (new.page.metrics ≡ with_paint old.page.metrics) };
 
-    ghost reported = { λ old client fault answer new. W.reported old.watcher.now client fault answer new.watcher.now × (new.metrics ≡ old.metrics) };
+    ghost reported = { λ old client fault answer new. W.reported old.watcher.now client fault answer new.watcher.now
+        × (new.page.metrics ≡ with_failure fault old.page.metrics) };
 
-    ghost noted = { λ old client replaced answer new. W.noted old.watcher.now client replaced answer new.watcher.now × (new.metrics ≡ old.metrics) };
+    ghost noted = { λ old client replaced answer new. W.noted old.watcher.now client replaced answer new.watcher.now
+        × (new.page.metrics ≡ old.page.metrics) };
 
-    ghost ended_turn = { λ old _ _ _ new. (new.watcher ≡ old.watcher) × (new.metrics ≡ old.metrics) };
+    ghost ended_turn = { λ old _ _ _ new. (new.watcher ≡ old.watcher) × (new.page ≡ old.page) };
 
     fn notice(&mut self, notice: &Notice) -> Result<(), Fault> {
-        self.metrics.count(notice);
+        self.page.metrics.count(notice);
         self.watcher.notice(notice)
     }
 
     fn unanswered(&mut self, client: &Client, fault: &ApplicationFault) -> Result<(), Fault> {
+        self.page.metrics.count_failure(fault);
         self.watcher.unanswered(client, fault)
     }
 
@@ -80,15 +89,15 @@ impl<W: Watcher> Watcher for Metered<'_, W> {
     }
 
     fn shown(&mut self, host: &Host, conn: usize) -> Result<(), Fault> {
-        self.metrics.count_paint();
+        self.page.metrics.count_paint();
         self.watcher.shown(host, conn)
     }
 
-    fn turned(&mut self, server: &Server, now: u64) -> bool {
+    fn after_turn(&mut self, server: &Server, now: u64) -> bool {
         if !self.port.accept_all(server, now) {
             return false;
         }
-        let counts = self.counts(server);
-        self.port.serve_all(now, &counts)
+        let page = self.page(server);
+        self.port.serve_all(now, &page)
     }
 }

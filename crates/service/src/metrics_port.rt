@@ -1,36 +1,36 @@
-//! The port of 127.0.0.1 at which a server answers with its metrics, and the clients there.
+//! The port of 127.0.0.1 at which a server serves its metrics, and the clients there.
 use crate::server::Server;
 use host_core::{LinkRead, LinkWrite, MOST_CONNECTIONS};
 use job_streams::Fault;
 use jobs::ServicePort;
 use mio::net::{TcpListener, TcpStream};
-use service_events::{Asked, HttpStatus, Metrics, is_late, response_of};
+use service_events::{HttpStatus, MetricsPage, RequestHead, is_late, response_of};
 use socket_links::{read_once, write_once};
 use std::alloc::{AllocError, Global};
 use std::net::{Ipv4Addr, Net, Shutdown, SocketAddr};
 
-/// The most clients at once. Others are dropped at once.
+/// The most clients at one time. Any further client is dropped.
 const MOST_CLIENTS: usize = 4;
 
 /// The most clients that one turn accepts.
 const MOST_ACCEPTED: usize = 64;
 
-/// The size of the buffer of each read.
+/// The size of the buffer of each read, in bytes.
 const READ_ROOM: usize = 1024;
 
-/// The poll tokens of the port and of its clients: no connection has these numbers, nor has the server's listener.
+/// The poll tokens of the port and of its clients. No connection has these tokens, nor has the server's listener.
 const PORT_TOKEN: usize = MOST_CONNECTIONS + 1;
 
 const CLIENT_TOKEN: usize = MOST_CONNECTIONS + 2;
 
 /// What one turn did for a client.
 #[derive(Clone, Copy)]
-enum Progress {
-    /// Bytes came or were sent.
+enum IoProgress {
+    /// Bytes were read or sent.
     Moved,
     /// Nothing.
     Still,
-    /// The client is dropped.
+    /// The client must be dropped.
     Over,
 }
 
@@ -40,31 +40,31 @@ struct MetricsClient {
     socket: TcpStream,
     /// When it connected, in milliseconds of the server's time.
     began: u64,
-    /// Its request so far.
-    asked: Asked,
-    /// The response, once one is called for.
+    /// The request so far.
+    asked: RequestHead,
+    /// The response, once the request has a status.
     response: Option<String>,
-    /// How many bytes of the response were sent.
+    /// How many bytes of the response have been sent.
     sent: usize,
 }
 
-/// The response of a status, with the page of metrics if it has one.
+/// The response for a status, with the page of metrics if the status is 200.
 fn response_for(
     alloc: Global,
     status: HttpStatus,
-    metrics: &Metrics,
+    page: &MetricsPage,
 ) -> Result<String, AllocError> {
-    let page = format!(in alloc; "{metrics}")?;
+    let page = format!(in alloc; "{page}")?;
     response_of(alloc, status, page.as_str())
 }
 
 impl MetricsClient {
-    /// A client that has just connected.
+    /// A client that has just connected, at `began` milliseconds of the server's time.
     fn new(alloc: Global, socket: TcpStream, began: u64) -> MetricsClient {
         MetricsClient {
             socket,
             began,
-            asked: Asked::new(alloc),
+            asked: RequestHead::new(alloc),
             response: None,
             sent: 0,
         }
@@ -78,75 +78,75 @@ impl MetricsClient {
         }
     }
 
-    /// Reads or writes once. A client that has had its time, or whose socket ended or failed, is dropped.
-    fn serve(&mut self, alloc: Global, now: u64, metrics: &Metrics) -> Progress {
+    /// Reads or writes once. The client is dropped if its time is over, or if its socket ended or failed.
+    fn serve(&mut self, alloc: Global, now: u64, page: &MetricsPage) -> IoProgress {
         if is_late(self.began, now) {
-            return Progress::Over;
+            return IoProgress::Over;
         }
         if self.is_answering() {
             self.write()
         } else {
-            self.read(alloc, metrics)
+            self.read(alloc, page)
         }
     }
 
     /// Reads once.
-    fn read(&mut self, alloc: Global, metrics: &Metrics) -> Progress {
+    fn read(&mut self, alloc: Global, page: &MetricsPage) -> IoProgress {
         let mut buffer = [0; READ_ROOM];
         match read_once(&mut self.socket, &mut buffer) {
-            LinkRead::Got(count) => self.take(alloc, &buffer[..count], metrics),
-            LinkRead::NotNow => Progress::Still,
-            LinkRead::Ended | LinkRead::Failed => Progress::Over,
+            LinkRead::Got(count) => self.take(alloc, &buffer[..count], page),
+            LinkRead::NotNow => IoProgress::Still,
+            LinkRead::Ended | LinkRead::Failed => IoProgress::Over,
         }
     }
 
-    /// Takes bytes that came. They are ignored once a response is called for: the client is to close. If memory is refused, the
-    /// client is dropped.
-    fn take(&mut self, alloc: Global, bytes: &[u8], metrics: &Metrics) -> Progress {
+    /// Takes received bytes. They are ignored once a response is being sent, since the client then has only to close.
+    /// If memory is refused, the client is dropped.
+    fn take(&mut self, alloc: Global, bytes: &[u8], page: &MetricsPage) -> IoProgress {
         if self.response.is_some() {
-            return Progress::Still;
+            return IoProgress::Still;
         }
         match self.asked.take(bytes) {
-            Ok(Some(status)) => self.respond(alloc, status, metrics),
-            Ok(None) => Progress::Moved,
-            Err(_) => Progress::Over,
+            Ok(Some(status)) => self.respond(alloc, status, page),
+            Ok(None) => IoProgress::Moved,
+            Err(_) => IoProgress::Over,
         }
     }
 
-    /// Makes the response.
-    fn respond(&mut self, alloc: Global, status: HttpStatus, metrics: &Metrics) -> Progress {
-        match response_for(alloc, status, metrics) {
+    /// Builds the response.
+    fn respond(&mut self, alloc: Global, status: HttpStatus, page: &MetricsPage) -> IoProgress {
+        match response_for(alloc, status, page) {
             Ok(response) => {
                 self.response = Some(response);
-                Progress::Moved
+                IoProgress::Moved
             }
-            Err(_) => Progress::Over,
+            Err(_) => IoProgress::Over,
         }
     }
 
-    /// Writes what is left of the response, as much as the socket takes.
-    fn write(&mut self) -> Progress {
+    /// Writes the rest of the response, as much as the socket takes.
+    fn write(&mut self) -> IoProgress {
         let Some(response) = &self.response else {
-            return Progress::Still;
+            return IoProgress::Still;
         };
         let Some(unsent) = response.as_bytes().get(self.sent..) else {
-            return Progress::Over;
+            return IoProgress::Over;
         };
         match write_once(&mut self.socket, unsent) {
             LinkWrite::Took(count) => self.took(count),
-            LinkWrite::NotNow => Progress::Still,
-            LinkWrite::Failed => Progress::Over,
+            LinkWrite::NotNow => IoProgress::Still,
+            LinkWrite::Failed => IoProgress::Over,
         }
     }
 
-    /// Bytes were sent. After the last one this side is shut down, and the client is left to close: an end that closes with bytes unread
-    /// would take back what was sent.
-    fn took(&mut self, count: usize) -> Progress {
+    /// `count` bytes were sent. After the last one this side is shut down, and the client has to close: if this end
+    /// closed with bytes unread, TCP could discard what was sent.
+    fn took(&mut self, count: usize) -> IoProgress {
         self.sent = self.sent.saturating_add(count);
         if !self.is_answering() {
             let _ = self.socket.shutdown(Shutdown::Write);
         }
-        Progress::Moved
+        IoProgress::Moved
     }
 }
 
@@ -179,12 +179,12 @@ impl MetricsPort {
         }
     }
 
-    /// Has the server's poll wait for the port too. Without that its clients wait 10 milliseconds at most.
+    /// Adds the port to the server's poll. If that fails, a client waits at most 10 milliseconds.
     pub(crate) fn register(&mut self, server: &Server) {
         let _ = server.register_listener(&mut self.listener, PORT_TOKEN);
     }
 
-    /// Accepts the clients that wait. Answers whether the port has clients.
+    /// Accepts the waiting clients. Answers whether the port has clients.
     pub(crate) fn accept_all(&mut self, server: &Server, now: u64) -> bool {
         for _ in 0..MOST_ACCEPTED {
             match self.listener.accept() {
@@ -195,7 +195,7 @@ impl MetricsPort {
         !self.clients.is_empty()
     }
 
-    /// Takes a client, unless there are too many, or memory is refused.
+    /// Takes a client, unless there are 4 already, or memory is refused.
     fn admit(&mut self, server: &Server, mut socket: TcpStream, now: u64) {
         if self.clients.len() >= MOST_CLIENTS {
             return;
@@ -206,24 +206,24 @@ impl MetricsPort {
     }
 
     /// Serves each client once, and drops those that are over. Answers whether a byte was read or written.
-    pub(crate) fn serve_all(&mut self, now: u64, metrics: &Metrics) -> bool {
+    pub(crate) fn serve_all(&mut self, now: u64, page: &MetricsPage) -> bool {
         let mut moved = false;
         for index in (0..MOST_CLIENTS).rev() {
-            moved |= self.serve(index, now, metrics);
+            moved |= self.serve(index, now, page);
         }
         moved
     }
 
-    /// Serves a client, if there is one with this index.
-    fn serve(&mut self, index: usize, now: u64, metrics: &Metrics) -> bool {
+    /// Serves the client with this index, if there is one.
+    fn serve(&mut self, index: usize, now: u64, page: &MetricsPage) -> bool {
         if index >= self.clients.len() {
             return false;
         }
         let alloc = self.alloc;
-        match self.clients[index].serve(alloc, now, metrics) {
-            Progress::Moved => true,
-            Progress::Still => false,
-            Progress::Over => {
+        match self.clients[index].serve(alloc, now, page) {
+            IoProgress::Moved => true,
+            IoProgress::Still => false,
+            IoProgress::Over => {
                 self.clients.swap_remove(index);
                 false
             }

@@ -1,4 +1,4 @@
-//! Reporting what happened on a connection.
+//! Reports to the watcher what happened on a connection.
 ghost use Rattle.std.specs.Prelude.{◌≡◌, ◌<◌, OnOk};
 ghost use Rattle.host_core.specs.State.{most_connections, reports_at, with_reports};
 ghost use Rattle.service.specs.NumberTurns.{info_after, reported, reports_of, told_of};
@@ -10,7 +10,7 @@ use host_core::{Host, HostEvent};
 use job_streams::Fault;
 use service_events::{Client, Notice};
 
-/// Hands the watcher what happened on a connection of the host.
+/// Hands the watcher one event of a connection.
 fn tell<W: Watcher>(
     event: HostEvent,
     host: &Host,
@@ -30,8 +30,8 @@ fn tell<W: Watcher>(
     }
 }
 
-/// Hands the watcher what happened on a connection, each event once, in the order in which the host hands them out, and takes it down.
-/// A fault of the watcher is returned, and nothing is reported after it.
+/// Hands the watcher each event of a connection once, in the host's order, and records it. A fault of the watcher is
+/// returned, and nothing is reported after it.
 pub(crate) fn report<W: Watcher>(
     host: &mut Host,
     conn: usize,
@@ -44,7 +44,7 @@ pub(crate) fn report<W: Watcher>(
     ensures taken { OnOk result (host.new ≡ reported conn host.old) }
     ensures info { OnOk result (info.new ≡ info_after conn host.old info.old) }
 {
-    // For the proof: each number has its place at the host.
+    // For the proof: each connection number is in the host's range.
     host.hosts_are_sound();
     let client = info.client;
     while let Some(event) = host.next_event(conn) {

@@ -1,4 +1,4 @@
-//! Serves a host over sockets, one turn at a time.
+//! A server: a host over sockets, served one turn at a time.
 ghost use Rattle.std.specs.Prelude.{◌≡◌, ◌<◌, IfOk};
 ghost use Rattle.host_core.specs.State.{most_connections};
 ghost use Rattle.socket_links.specs.Sockets.{is_connected, slot_at};
@@ -22,7 +22,7 @@ use std::marker::Model;
 use std::net::{Net, SocketAddr};
 use std::time::Duration;
 
-/// The most events of one poll. Sockets without an event are served too.
+/// The most events of one poll. Sockets without an event are also served.
 const MOST_EVENTS: usize = 128;
 
 /// The poll token of the listener.
@@ -31,8 +31,8 @@ const LISTENER: Token = Token(MOST_CONNECTIONS);
 /// The poll token of all connections.
 const CONNECTION: usize = 0;
 
-/// A server, and the listener and the poll by which it is served. Contracts see the server alone: of the others they know only what
-/// these hand over.
+/// A server, with its listener and its poll. Contracts describe the server's state; of the listener and the poll they
+/// know only what these hand over.
 #[derive(Drop)]
 pub struct Server {
     core: ServerCore<TcpStream>,
@@ -50,7 +50,7 @@ impl Model for Server {
     ghost view = { λ server. server.core };
 }
 
-/// The listener of a server, and the poll that waits for what it accepts.
+/// The listener of a server, and the poll to which accepted sockets are added.
 #[derive(Drop)]
 pub(crate) struct PolledListener<'a> {
     listener: &'a TcpListener,
@@ -64,20 +64,21 @@ impl Listener<TcpStream> for PolledListener<'_> {
         let Ok((mut socket, peer)) = self.listener.accept() else {
             return None;
         };
-        // Records are short, and their senders wait for answers. If one of these calls fails, the socket is served anyway.
+        // Records are short, and their senders wait for answers. If one of these calls fails, the socket is still
+        // served.
         let _ = socket.set_nodelay(true);
         let _ = register(self.poll, &mut socket, CONNECTION);
         Some(Accepted { socket, peer })
     }
 }
 
-/// Adds a socket to those for which a poll waits.
+/// Adds a socket to a poll.
 fn register(poll: &Poll, socket: &mut TcpStream, token: usize) -> io::Result<()> {
     let interest = Interest::READABLE | Interest::WRITABLE;
     poll.registry().register(socket, Token(token), interest)
 }
 
-/// A listener at an address, and a poll that waits for it.
+/// A listener at an address, and a poll that has it.
 fn listen(net: &impl Net, address: SocketAddr) -> io::Result<(TcpListener, Poll)> {
     let poll = Poll::new(net)?;
     let mut listener = TcpListener::bind(net, address)?;
@@ -87,8 +88,9 @@ fn listen(net: &impl Net, address: SocketAddr) -> io::Result<(TcpListener, Poll)
 }
 
 impl Server {
-    /// A server of a new host at an address; at any free port if its port is 0. `boot`: the first part of the names of its sessions.
-    /// NoMemory if memory is refused; CannotListen if the system refuses a socket, such as for a port in use.
+    /// A server of a new host at an address; the system picks a free port if the port is 0. `boot` is the first part of
+    /// the names of its sessions. NoMemory if memory is refused; CannotListen if the system can't listen there, for
+    /// example because the port is in use.
     pub fn new(
         net: &impl Net,
         alloc: Global,
@@ -116,22 +118,22 @@ impl Server {
         })
     }
 
-    /// The listener's address. An error if the system doesn't know it.
+    /// The listener's address. An error if the system can't report it.
     pub fn address(&self) -> io::Result<SocketAddr> {
         self.listener.local_addr()
     }
 
-    /// The address of a connection's peer, if there is a connection and the system knows the address.
+    /// The address of a connection's peer; None if there is no connection, or if the system can't report the address.
     pub fn peer(&self, conn: usize) -> Option<SocketAddr> {
         self.core.sockets.peer(conn)
     }
 
-    /// Adds a socket to those for which a poll waits.
+    /// Adds a socket to the server's poll.
     pub fn register(&self, socket: &mut TcpStream, token: usize) -> io::Result<()> {
         register(&self.poll, socket, token)
     }
 
-    /// Adds a listener to those for which a poll waits.
+    /// Adds a listener to the server's poll.
     pub(crate) fn register_listener(
         &self,
         listener: &mut TcpListener,
@@ -163,7 +165,7 @@ impl Server {
         &self.core.host
     }
 
-    /// What the host serves.
+    /// The panels that the host serves.
     pub fn panels(&self) -> &PanelSet
         ensures { result.now ≡ self.now.host.panels }
     {
@@ -178,7 +180,7 @@ impl Server {
         self.core.sockets.is_connected(conn)
     }
 
-    /// The question that is open on a connection, if one is. NoMemory if memory is refused.
+    /// The open question of a connection, if there is one. NoMemory if memory is refused.
     pub(crate) fn question(&self, conn: usize) -> Result<Option<Question>, Fault>
         requires { conn < most_connections }
         ensures { AsksHost conn self.now.host result }
@@ -189,7 +191,7 @@ impl Server {
         }
     }
 
-    /// Hands the host the answer to a question. The watcher hears of a screen that it shows; its fault is returned.
+    /// Hands the host the answer to a question, and reports what happened. A fault of the watcher is returned.
     pub fn answer<W: Watcher>(
         &mut self,
         conn: usize,
@@ -198,7 +200,8 @@ impl Server {
         watcher: &mut W,
     ) -> Result<Acted, Fault>
         requires { conn < most_connections }
-        ensures { HandsAnswer W.noticed W.showed conn ticket answer.now self.old watcher.old result self.new watcher.new }
+        ensures { HandsAnswer W.noticed W.showed conn ticket answer.now self.old watcher.old result self.new
+            watcher.new }
     {
         self.core.answer(conn, ticket, answer, watcher)
     }
@@ -214,7 +217,7 @@ impl Server {
         }
     }
 
-    /// Hands the watcher why a connection's question has no answer.
+    /// Reports to the watcher why a connection's question has no answer.
     pub(crate) fn report_unanswered<W: Watcher>(
         &self,
         conn: usize,
@@ -230,7 +233,7 @@ impl Server {
         }
     }
 
-    /// Hands the watcher what was replaced in the reply to a connection's question, if anything was.
+    /// Reports to the watcher which characters of the reply to a connection's question were replaced, if any were.
     pub(crate) fn report_replaced<W: Watcher>(
         &self,
         conn: usize,
@@ -249,7 +252,7 @@ impl Server {
         }
     }
 
-    /// What an open connection took so far; None if the number has no connection.
+    /// What an open connection has used so far; None if the number has no connection.
     pub(crate) fn usage(&self, conn: usize) -> Option<Usage>
         requires { conn < most_connections }
         ensures { result ≡ usage_at conn self.now }
@@ -257,14 +260,23 @@ impl Server {
         self.core.usage(conn)
     }
 
-    /// One turn: polls for at most `patience`, accepts all waiting connections, and serves each connection once. Answers whether a
-    /// byte was read or written, or the host acted. NoMemory if memory is refused; SocketFailed if the poll fails; and any fault
-    /// of the watcher.
-    pub fn turn<W: Watcher>(&mut self, patience: Duration, watcher: &mut W) -> Result<bool, Fault>
-        ensures { PollsAndServes ⟦<TcpStream as RawRead>⟧.read_gave ⟦<TcpStream as RawWrite>⟧.write_took W.noticed W.showed
+    /// One turn: polls for at most `patience`, accepts all waiting connections, and serves each connection once.
+    /// Answers whether a byte was read or written, or the host acted. NoMemory if memory is refused; SocketFailed if
+    /// the poll fails; any fault of the watcher is returned.
+    pub fn turn<W: Watcher>(
+        &mut self,
+        poll_timeout: Duration,
+        watcher: &mut W,
+    ) -> Result<bool, Fault>
+        ensures { PollsAndServes ⟦<TcpStream as RawRead>⟧.read_gave
+            ⟦<TcpStream as RawWrite>⟧.write_took W.noticed W.showed
             ⟦<PolledListener<'static> as Listener<TcpStream>>⟧.gave self.old watcher.old result self.new watcher.new }
     {
-        if self.poll.poll(&mut self.events, Some(patience)).is_err() {
+        if self
+            .poll
+            .poll(&mut self.events, Some(poll_timeout))
+            .is_err()
+        {
             return Err(Fault::SocketFailed);
         }
         let mut listener = PolledListener {
@@ -274,9 +286,10 @@ impl Server {
         self.core.turn(&mut listener, watcher)
     }
 
-    /// Accepts all waiting connections. A connection that the system can't accept now waits on.
+    /// Accepts all waiting connections. A connection that the system can't accept now stays in its queue.
     pub fn accept_all<W: Watcher>(&mut self, watcher: &mut W) -> Result<(), Fault>
-        ensures { AcceptsWaiting ⟦<TcpStream as RawRead>⟧.read_gave ⟦<TcpStream as RawWrite>⟧.write_took W.noticed W.showed
+        ensures { AcceptsWaiting ⟦<TcpStream as RawRead>⟧.read_gave
+            ⟦<TcpStream as RawWrite>⟧.write_took W.noticed W.showed
             ⟦<PolledListener<'static> as Listener<TcpStream>>⟧.gave self.old watcher.old result self.new watcher.new }
     {
         let mut listener = PolledListener {
@@ -286,7 +299,7 @@ impl Server {
         self.core.accept_all(&mut listener, watcher)
     }
 
-    /// Takes the time after a turn, in milliseconds, and does what the time limits ask for (`ServerCore::keep_time`).
+    /// Sets the server's time after a turn, in milliseconds, and applies the time limits (see `ServerCore::keep_time`).
     pub fn keep_time<W: Watcher>(
         &mut self,
         now: u64,

@@ -25,22 +25,22 @@ use std::alloc::{AllocError, Global};
 /// The most connections that one turn accepts: more than the system queues.
 const MOST_ACCEPTED: usize = 65_536;
 
-/// A host, the sockets of its connections, and what is known of each. It opens no socket and reads no clock.
+/// A host, the sockets of its connections, and a record of each. It opens no socket and reads no clock.
 #[derive(Drop)]
 pub struct ServerCore<S> {
     pub(crate) host: Host,
     pub(crate) sockets: Sockets<S>,
-    /// What is known of each number's last connection.
+    /// The record of the last connection of each number.
     pub(crate) infos: ConnectionInfos,
-    /// The name of the next session. The host counts its sessions likewise, in the tickets of questions.
+    /// The name of the next session. Its count is that of the host, which uses it in the tickets of questions.
     pub(crate) next_session: SessionName,
     /// The server's time, in milliseconds.
     pub(crate) now: u64,
-    /// When the time limits were applied last, in milliseconds of that time.
+    /// When the time limits were last applied, in milliseconds of the server's time.
     pub(crate) applied: u64,
 }
 
-/// The least free connection number. None only if no number is free.
+/// The least free connection number; None if none is free.
 fn free_number(host: &Host) -> Option<usize>
     ensures least { IfSome result (λ conn. IsLeastFree conn host.now) }
     ensures none { IfNone result (AreTaken most_connections host.now) }
@@ -54,7 +54,7 @@ fn free_number(host: &Host) -> Option<usize>
 }
 
 impl<S: RawRead + RawWrite + Drop> ServerCore<S> {
-    /// A server of a new host. `boot`: the first part of the names of its sessions. An error if memory is refused.
+    /// A server of a new host. `boot` is the first part of the names of its sessions. An error if memory is refused.
     pub(crate) fn new(alloc: Global, host: Host, boot: u64) -> Result<ServerCore<S>, AllocError>
         ensures { IfOk result (λ core. core ≡ new_core host boot) }
     {
@@ -70,8 +70,8 @@ impl<S: RawRead + RawWrite + Drop> ServerCore<S> {
         })
     }
 
-    /// Begins a connection on the least free number. If no number is free, drops the socket. NoMemory if memory is refused, and any
-    /// fault of the watcher.
+    /// Begins a connection on the least free number, or drops the socket if no number is free, and reports which.
+    /// NoMemory if memory is refused; any fault of the watcher is returned.
     fn admit<W: Watcher>(&mut self, accepted: Accepted<S>, watcher: &mut W) -> Result<(), Fault>
         ensures { Admits W.noticed W.showed accepted self.old watcher.old result self.new watcher.new }
     {
@@ -95,14 +95,15 @@ impl<S: RawRead + RawWrite + Drop> ServerCore<S> {
         watcher.notice(&Notice::Connected(client))
     }
 
-    /// Accepts all connections that wait. One that the listener can't accept now waits on. NoMemory if memory is refused, and any
-    /// fault of the watcher.
+    /// Accepts all waiting connections. One that the listener can't accept now stays in the queue. NoMemory if memory
+    /// is refused; any fault of the watcher is returned.
     pub(crate) fn accept_all<L: Listener<S>, W: Watcher>(
         &mut self,
         listener: &mut L,
         watcher: &mut W,
     ) -> Result<(), Fault>
-        ensures { AdmitsAll W.noticed W.showed L.gave most_accepted (door listener.old self.old watcher.old) result (door listener.new self.new watcher.new) }
+        ensures { AdmitsAll W.noticed W.showed L.gave most_accepted (door listener.old self.old watcher.old) result
+            (door listener.new self.new watcher.new) }
     {
         for _ in 0..MOST_ACCEPTED {
             match listener.accept() {
@@ -113,7 +114,7 @@ impl<S: RawRead + RawWrite + Drop> ServerCore<S> {
         Ok(())
     }
 
-    /// What is known of a connection that is open.
+    /// The record of an open connection; None if the number has none.
     pub(crate) fn open_info(&self, conn: usize) -> Option<ConnectionInfo>
         requires { conn < most_connections }
         ensures { result ≡ open_at conn self.entry.now }
@@ -125,7 +126,7 @@ impl<S: RawRead + RawWrite + Drop> ServerCore<S> {
         }
     }
 
-    /// Gives a connection back: frees its number and its LU, and closes its socket. Then tells the watcher that it is over.
+    /// Ends a connection: frees its number and its LU, closes its socket, and then reports the end to the watcher.
     fn end<W: Watcher>(
         &mut self,
         conn: usize,
@@ -134,7 +135,8 @@ impl<S: RawRead + RawWrite + Drop> ServerCore<S> {
         watcher: &mut W,
     ) -> Result<(), Fault>
         requires number { conn < most_connections }
-        ensures told { Told W.noticed W.showed (ended conn info.now self.old ending ∷ []) watcher.old result watcher.new }
+        ensures told { Told W.noticed W.showed
+            (ended conn info.now self.old ending ∷ []) watcher.old result watcher.new }
         ensures given_back { self.new ≡ given_back conn self.old }
     {
         let (sent, received) = (self.sockets.sent(conn), self.sockets.received(conn));
@@ -144,8 +146,8 @@ impl<S: RawRead + RawWrite + Drop> ServerCore<S> {
         watcher.notice(&Notice::Ended(info.client, ending, usage))
     }
 
-    /// Serves a connection once, reports what happened, and ends it if it is over. Answers whether the number of unsent bytes changed.
-    /// NoMemory if memory is refused, and any fault of the watcher.
+    /// Serves a connection once, reports what happened, and ends it if it is over. Answers whether the number of unsent
+    /// bytes changed. NoMemory if memory is refused; any fault of the watcher is returned.
     fn serve<W: Watcher>(
         &mut self,
         conn: usize,
@@ -153,7 +155,8 @@ impl<S: RawRead + RawWrite + Drop> ServerCore<S> {
         watcher: &mut W,
     ) -> Result<bool, Fault>
         requires number { conn < most_connections }
-        ensures { ServesIfOpen S.read_gave S.write_took W.noticed W.showed (Some info.now) conn self.old watcher.old result self.new watcher.new }
+        ensures { ServesIfOpen S.read_gave S.write_took W.noticed W.showed
+            (Some info.now) conn self.old watcher.old result self.new watcher.new }
     {
         let waiting = self.host.out(conn).len();
         self.sockets.set_waiting(conn, waiting);
@@ -172,10 +175,11 @@ impl<S: RawRead + RawWrite + Drop> ServerCore<S> {
         Ok(acted)
     }
 
-    /// Serves a number's connection once, if it has one that is open. Answers whether the number of unsent bytes changed.
+    /// Serves a number's connection once, if it is open. Answers whether the number of unsent bytes changed.
     fn serve_if_open<W: Watcher>(&mut self, conn: usize, watcher: &mut W) -> Result<bool, Fault>
         requires number { conn < most_connections }
-        ensures { ServesAt S.read_gave S.write_took W.noticed W.showed conn self.old watcher.old result self.new watcher.new }
+        ensures { ServesAt S.read_gave S.write_took W.noticed W.showed conn self.old watcher.old result self.new
+            watcher.new }
     {
         match self.open_info(conn) {
             Some(info) => self.serve(conn, &info, watcher),
@@ -183,10 +187,11 @@ impl<S: RawRead + RawWrite + Drop> ServerCore<S> {
         }
     }
 
-    /// Serves each connection that is open once, in the order of their numbers. Answers whether the number of unsent bytes of one
-    /// changed. The first fault ends it.
+    /// Serves each open connection once, in the order of the numbers. Answers whether the number of unsent bytes of any
+    /// changed. The first fault ends the call.
     pub(crate) fn serve_each<W: Watcher>(&mut self, watcher: &mut W) -> Result<bool, Fault>
-        ensures { VisitsEach (ServesAt S.read_gave S.write_took W.noticed W.showed) self.old watcher.old result self.new watcher.new }
+        ensures { VisitsEach (ServesAt S.read_gave S.write_took W.noticed W.showed) self.old watcher.old result self.new
+            watcher.new }
     {
         let mut acted = false;
         for conn in 0..MOST_CONNECTIONS {
@@ -195,25 +200,27 @@ impl<S: RawRead + RawWrite + Drop> ServerCore<S> {
         Ok(acted)
     }
 
-    /// One turn: accepts all connections that wait, and serves each connection once. Answers whether a byte was read or written, or the
-    /// host acted. NoMemory if memory is refused, and any fault of the watcher.
+    /// One turn: accepts all waiting connections, and serves each connection once. Answers whether a byte was read or
+    /// written, or the host acted. NoMemory if memory is refused; any fault of the watcher is returned.
     pub(crate) fn turn<L: Listener<S>, W: Watcher>(
         &mut self,
         listener: &mut L,
         watcher: &mut W,
     ) -> Result<bool, Fault>
-        ensures { TakesTurn S.read_gave S.write_took W.noticed W.showed L.gave (door listener.old self.old watcher.old) result (door listener.new self.new watcher.new) }
+        ensures { TakesTurn S.read_gave S.write_took W.noticed W.showed L.gave
+            (door listener.old self.old watcher.old) result (door listener.new self.new watcher.new) }
     {
         self.accept_all(listener, watcher)?;
         let acted = self.serve_each(watcher)?;
-        Ok(self.sockets.take_moved() | acted)
+        Ok(self.sockets.take_progress() | acted)
     }
 
-    /// Hands the watcher what happened on a number's last connection, each event once; nothing, if the number never had a connection.
-    /// A fault of the watcher is returned, and nothing is reported after it.
+    /// Hands the watcher each event of a number's last connection once; does nothing if the number never had a
+    /// connection. A fault of the watcher is returned, and nothing is reported after it.
     fn report_on<W: Watcher>(&mut self, conn: usize, watcher: &mut W) -> Result<(), Fault>
         requires number { conn < most_connections }
-        ensures { ReportsOf W.noticed W.showed (slice_index_or self.old.infos conn None) conn self.old self.old.host watcher.old result self.new watcher.new }
+        ensures { ReportsOf W.noticed W.showed (slice_index_or self.old.infos conn None) conn self.old self.old.host
+            watcher.old result self.new watcher.new }
     {
         if let Some(mut info) = self.infos.at(conn) {
             report(&mut self.host, conn, &mut info, watcher)?;
@@ -222,7 +229,7 @@ impl<S: RawRead + RawWrite + Drop> ServerCore<S> {
         Ok(())
     }
 
-    /// Hands the host the answer to a question. The watcher hears what happened then; its fault is returned.
+    /// Hands the host the answer to a question, and reports what happened. A fault of the watcher is returned.
     pub(crate) fn answer<W: Watcher>(
         &mut self,
         conn: usize,
@@ -231,14 +238,15 @@ impl<S: RawRead + RawWrite + Drop> ServerCore<S> {
         watcher: &mut W,
     ) -> Result<Acted, Fault>
         requires { conn < most_connections }
-        ensures { HandsAnswer W.noticed W.showed conn ticket answer.now self.old watcher.old result self.new watcher.new }
+        ensures { HandsAnswer W.noticed W.showed conn ticket answer.now self.old watcher.old result self.new
+            watcher.new }
     {
         let acted = self.host.answer(conn, ticket, answer);
         self.report_on(conn, watcher)?;
         Ok(acted)
     }
 
-    /// What an open connection took so far; None if the number has no connection.
+    /// What an open connection has used so far; None if the number has no connection.
     pub(crate) fn usage(&self, conn: usize) -> Option<Usage>
         requires { conn < most_connections }
         ensures { result ≡ usage_at conn self.entry.now }
@@ -248,7 +256,7 @@ impl<S: RawRead + RawWrite + Drop> ServerCore<S> {
         Some(info.usage(self.now, sent, received))
     }
 
-    /// Sends IAC NOP on a connection, unless output waits there. Answers whether it did.
+    /// Queues IAC NOP (RFC 854) on a bound connection, unless output already waits. Answers whether it did.
     fn send_nop(&mut self, conn: usize) -> bool
         requires number { conn < most_connections }
         ensures sends { result ≡ sends_nop conn self.old }
@@ -257,7 +265,7 @@ impl<S: RawRead + RawWrite + Drop> ServerCore<S> {
         matches!(self.host.keep_alive(conn), Acted::Sent)
     }
 
-    /// Does what the time limits ask for on a connection. Answers whether it did something.
+    /// Applies the time limits to a connection. Answers whether that did something.
     fn apply_limits<W: Watcher>(
         &mut self,
         conn: usize,
@@ -266,7 +274,8 @@ impl<S: RawRead + RawWrite + Drop> ServerCore<S> {
         watcher: &mut W,
     ) -> Result<bool, Fault>
         requires number { conn < most_connections }
-        ensures { AppliesIfOpen W.noticed W.showed limits.now (Some info.now) conn self.old watcher.old result self.new watcher.new }
+        ensures { AppliesIfOpen W.noticed W.showed limits.now
+            (Some info.now) conn self.old watcher.old result self.new watcher.new }
     {
         let (received, sent) = (self.sockets.received(conn), self.sockets.sent(conn));
         let phase = self.host.phase(conn);
@@ -295,7 +304,7 @@ impl<S: RawRead + RawWrite + Drop> ServerCore<S> {
         }
     }
 
-    /// Does what the time limits ask for on a number's connection, if it has one that is open. Answers whether it did something.
+    /// Applies the time limits to a number's connection, if it is open. Answers whether that did something.
     fn apply_if_open<W: Watcher>(
         &mut self,
         conn: usize,
@@ -311,14 +320,15 @@ impl<S: RawRead + RawWrite + Drop> ServerCore<S> {
         }
     }
 
-    /// Does what the time limits ask for on each connection that is open, in the order of their numbers. Answers whether it did
-    /// something. The first fault ends it.
+    /// Applies the time limits to each open connection, in the order of the numbers. Answers whether that did
+    /// something. The first fault ends the call.
     fn apply_each<W: Watcher>(
         &mut self,
         limits: &TimeLimits,
         watcher: &mut W,
     ) -> Result<bool, Fault>
-        ensures { VisitsEach (AppliesAt W.noticed W.showed limits.now) self.old watcher.old result self.new watcher.new }
+        ensures { VisitsEach
+            (AppliesAt W.noticed W.showed limits.now) self.old watcher.old result self.new watcher.new }
     {
         let mut acted = false;
         for conn in 0..MOST_CONNECTIONS {
@@ -327,10 +337,11 @@ impl<S: RawRead + RawWrite + Drop> ServerCore<S> {
         Ok(acted)
     }
 
-    /// Takes the time after a turn, in milliseconds. If a byte was read or written in it or the host acted (`moved`), and else ten times
-    /// a second, does what the time limits ask for: sends IAC NOP, or drops a connection. Sends IAC NOP also where bytes came and
-    /// nothing was sent in the turn, since it carries the acknowledgement that the peer's TCP waits for. Answers whether it did
-    /// something. A fault of the watcher is returned.
+    /// Sets the time after a turn, in milliseconds, and applies the time limits if bytes moved or the host acted in the
+    /// turn (`moved`), or if 100 ms have passed since they were last applied. Applying them sends IAC NOP or drops a
+    /// connection. It also sends IAC NOP if bytes were received since and nothing was sent: the NOP carries the
+    /// acknowledgement that the peer's TCP waits for. Answers whether it did something. A fault of the watcher is
+    /// returned.
     pub(crate) fn keep_time<W: Watcher>(
         &mut self,
         now: u64,

@@ -1,15 +1,15 @@
-//! The turns of `serve`: what a turn does, in which order, and how turns follow one another.
+//! The turns of `serve`: the parts of a turn in their order, and the loop of turns.
 ghost use Rattle.std.specs.Iterator.{IsFinite};
 ghost use Rattle.std.specs.Prelude.{IfErr, IfOk};
 ghost use Rattle.service.specs.ServiceTurns.{BreaksOff, EndsBy, TakesWhole};
 
 use job_streams::Fault;
 
-/// What a turn of a service consists of.
+/// The parts of a turn of a service.
 ///
-/// Each relation is between the service before a call, what the call was given, its answer, and the service after it. Code that is
-/// generic over services has one only from a call. So its contract can say which calls it made, in which order, and what it did with
-/// the answers.
+/// Each relation is between the service before a call, the arguments of the call, its answer, and the service after it.
+/// Generic code obtains a relation only by a call, so its contract can say which calls it made, in which order, and
+/// what it did with the answers.
 pub(crate) trait TurnParts {
     ghost use Rattle.std.specs.Prelude.{Bool, Result};
     ghost use Rattle.job_streams.specs.declared.fault.Fault.{Fault};
@@ -22,29 +22,30 @@ pub(crate) trait TurnParts {
 
     ghost told: { Self → Bool → Self → Type 0 };
 
-    /// Waits until a socket has something to do, not at all if the turn before did something (`busy`), and serves each connection
-    /// once. Answers whether it did something.
+    /// Waits until a socket is ready, and serves each connection once. Doesn't wait if the turn before did something
+    /// (`busy`). Answers whether it did something.
     fn serve_all(&mut self, busy: bool) -> Result<bool, Fault>
         ensures { served self.old busy result self.new };
 
-    /// Reads the clock, and does what the time limits ask for. `moved`: the connections had something to do. Answers whether it did
-    /// something.
+    /// Reads the clock, and applies the time limits. `moved`: the connections were active. Answers whether it acted.
     fn keep_time(&mut self, moved: bool) -> Result<bool, Fault>
         ensures { timed self.old moved result self.new };
 
-    /// Goes on with the application's questions and answers. Answers whether it did something.
+    /// Continues the exchanges with the application. Answers whether it did something.
     fn consult(&mut self) -> Result<bool, Fault>
         ensures { consulted self.old result self.new };
 
-    /// Lets the watcher do what it has to. Answers whether it did something.
+    /// Lets the watcher do its work. Answers whether it did something.
     fn tell(&mut self) -> bool
         ensures { told self.old result self.new };
 }
 
 /// One turn. Answers whether it did something; the first fault ends it.
 pub(crate) fn take_turn<S: TurnParts>(service: &mut S, busy: bool) -> Result<bool, Fault>
-    ensures whole { IfOk result (λ did. TakesWhole S.served S.timed S.consulted S.told service.old busy did service.new) }
-    ensures broken { IfErr result (λ why. BreaksOff S.served S.timed S.consulted S.told service.old busy why service.new) }
+    ensures whole { IfOk result
+        (λ did. TakesWhole S.served S.timed S.consulted S.told service.old busy did service.new) }
+    ensures broken { IfErr result
+        (λ why. BreaksOff S.served S.timed S.consulted S.told service.old busy why service.new) }
 {
     let moved = service.serve_all(busy)?;
     let timed = service.keep_time(moved)?;
@@ -53,7 +54,7 @@ pub(crate) fn take_turn<S: TurnParts>(service: &mut S, busy: bool) -> Result<boo
     Ok(moved | timed | decided | told)
 }
 
-/// Takes turns, one for each item, until one ends by a fault, which is returned. TurnsOver if there are no more.
+/// Takes one turn for each item of `turns`, until a turn fails, and returns its fault; TurnsOver if no item is left.
 pub(crate) fn take_turns<S: TurnParts, T: Iterator>(service: &mut S, turns: T) -> Fault
 where
     T::Item: Drop,

@@ -1,11 +1,11 @@
-//! `host` and `serve`: serve the panels of the input to the terminals that connect.
+//! The jobs `host` and `serve`: serve the panels of the input to the terminals that connect.
 ghost use Rattle.std.specs.Iterator.{IsFinite};
 ghost use Rattle.std.specs.Prelude.{◌≡◌};
 
 use crate::accepting::Listener;
 use crate::application::Application;
 use crate::log::Log;
-use crate::metered::Metered;
+use crate::metered::MetricsObserver;
 use crate::server::{PolledListener, Server};
 use crate::service_turn::{TurnParts, take_turns};
 use crate::uptime::Uptime;
@@ -13,27 +13,28 @@ use crate::watcher::{Unwatched, Watcher};
 use application_http::{Endpoint, EndpointFault};
 use applications::{Refusing, draw_boot, first_asked, host_of, refuse_asking};
 use host_core::{Host, Terminals};
-use job_streams::{Fault, RawRead, RawWrite, Sink, Source, end_by, read_whole};
+use jiff::Timestamp;
+use job_streams::{Fault, RawRead, RawWrite, Sink, Source, read_whole, report_and_exit_code};
 use jobs::{ApplicationChoice, Port, Service, ServicePort, TimeLimits, Turns};
 use mio::net::TcpStream;
-use service_events::Notice;
-use socket_links::patience;
+use service_events::{Metrics, MetricsPage, Notice};
+use socket_links::poll_timeout;
 use std::alloc::Global;
 use std::fmt;
 use std::net::{Ipv4Addr, Net, SocketAddr};
 use std::random::RandomSource;
 use std::time::{Clock, Instant};
 
-/// A server of a panel text's host on a port of 127.0.0.1; any free port if `port` is 0.
+/// A server on a port of 127.0.0.1 for the host of a panel text. The system picks a free port if `port` is 0.
 pub fn server_of(net: &impl Net, alloc: Global, panels: &str, port: u16) -> Result<Server, Fault> {
     let host = host_of(alloc, Terminals::Waiting, panels)?;
     server_at(net, alloc, host, port)
 }
 
-/// A server of a host on a port of 127.0.0.1; any free port if `port` is 0.
+/// A server of a host on a port of 127.0.0.1. The system picks a free port if `port` is 0.
 fn server_at(net: &impl Net, alloc: Global, host: Host, port: u16) -> Result<Server, Fault> {
     let address = SocketAddr::from((Ipv4Addr::LOCALHOST, port));
-    // Nobody learns the names of its sessions: it has neither a log nor an application.
+    // Its session names are not shown: it has neither a log nor an application.
     match Server::new(net, alloc, host, 0, address) {
         Ok(server) => Ok(server),
         Err(Fault::CannotListen(_, _)) => Err(Fault::SocketFailed),
@@ -41,17 +42,17 @@ fn server_at(net: &impl Net, alloc: Global, host: Host, port: u16) -> Result<Ser
     }
 }
 
-/// The host of the panels of the input.
+/// The host of the panels that the input defines.
 fn read_host<I: Source>(alloc: Global, input: &mut I) -> Result<Host, Fault> {
     let text = read_whole(alloc, input)?;
     host_of(alloc, Terminals::Waiting, text.as_str())
 }
 
-/// Serves this number of turns, and answers what ended them.
+/// Serves this number of turns, and returns the fault that ended them.
 fn serve_turns(server: &mut Server, turns: Turns) -> Fault {
     let mut moved = false;
     for _ in 0..turns.get() {
-        moved = match server.turn(patience(moved), &mut Unwatched) {
+        moved = match server.turn(poll_timeout(moved), &mut Unwatched) {
             Ok(moved) => moved,
             Err(fault) => return fault,
         };
@@ -59,7 +60,7 @@ fn serve_turns(server: &mut Server, turns: Turns) -> Fault {
     Fault::TurnsOver
 }
 
-/// Serves a host for this number of turns, and answers what ended that.
+/// Serves a host for this number of turns, and returns the fault that ended that.
 fn serve_host<N: Net>(net: &N, alloc: Global, host: Host, port: Port, turns: Turns) -> Fault {
     match server_at(net, alloc, host, port.get()) {
         Ok(mut server) => serve_turns(&mut server, turns),
@@ -67,12 +68,12 @@ fn serve_host<N: Net>(net: &N, alloc: Global, host: Host, port: Port, turns: Tur
     }
 }
 
-/// Serves the panels of the input on a port of 127.0.0.1, 1024 to 65535, to the terminals that connect, for this number of turns.
-/// A turn with nothing to do takes at most 10 milliseconds. Writes what ends the run to `faults` as one line.
+/// Serves the panels of the input on a port of 127.0.0.1, 1024 to 65535, for this number of turns. A turn with nothing
+/// to do takes at most 10 milliseconds. Writes the fault that ends the run to `faults` as one line.
 ///
 /// Returns the exit status: 5 if the turns are used up; 1 if the input can't be read (as by [`read_whole`]), if it
-/// defines no panels, or if their LUs are no pool; 2 if a panel asks an application about a key, since there is none; 3 if memory is
-/// refused; 4 if the system refuses a socket, such as for a port in use.
+/// defines no panels, or if their LUs are no pool; 2 if a panel asks an application about a key, since there is none; 3
+/// if memory is refused; 4 if the system refuses a socket, such as for a port in use.
 pub fn run_host<N: Net, I: Source, E: Sink>(
     net: &N,
     alloc: Global,
@@ -84,15 +85,15 @@ pub fn run_host<N: Net, I: Source, E: Sink>(
     match read_host(alloc, input) {
         Ok(host) => match first_asked(host.panels()) {
             Some((panel, key)) => refuse_asking(panel, key, Refusing::Host, faults),
-            None => end_by(serve_host(net, alloc, host, port, turns), faults),
+            None => report_and_exit_code(serve_host(net, alloc, host, port, turns), faults),
         },
-        Err(fault) => end_by(fault, faults),
+        Err(fault) => report_and_exit_code(fault, faults),
     }
 }
 
 // ---- serve
 
-/// A warning: the address at which other machines can connect.
+/// A warning that prints the address at which other machines can connect.
 #[derive(Clone, Copy)]
 struct Exposed(SocketAddr);
 
@@ -106,7 +107,7 @@ impl fmt::Display for Exposed {
     }
 }
 
-/// A server of a host at an address. Its sessions have names that no other start of the host uses.
+/// A server of a host at an address, with session names that no other start of the host uses.
 fn server_on<R: Net + RandomSource>(
     rt: &R,
     alloc: Global,
@@ -119,7 +120,7 @@ fn server_on<R: Net + RandomSource>(
     }
 }
 
-/// The application that is chosen, if one is. NotAnApplication if its URL is none; NoMemory if memory is refused.
+/// The chosen application, if there is one. NotAnApplication if its URL isn't one; NoMemory if memory is refused.
 fn application_of(
     alloc: Global,
     choice: &ApplicationChoice<'_>,
@@ -134,7 +135,7 @@ fn application_of(
     }
 }
 
-/// What is served, and for whom it is decided.
+/// A server, and the application that its host asks.
 #[derive(Drop)]
 struct Serving {
     server: Server,
@@ -142,7 +143,7 @@ struct Serving {
 }
 
 impl Serving {
-    /// Does what there is to do with the application. Answers whether something was done.
+    /// Continues the exchanges with the application. Answers whether it did something.
     fn consult<N: Net, W: Watcher>(&mut self, net: &N, watcher: &mut W) -> Result<bool, Fault> {
         match &mut self.application {
             Some(application) => application.turn(net, &mut self.server, watcher),
@@ -150,14 +151,14 @@ impl Serving {
         }
     }
 
-    /// Lets the watcher do what it has to at this time, in milliseconds. Answers whether something was done.
+    /// Lets the watcher do its work at this time, in milliseconds. Answers whether it did something.
     fn tell<W: Watcher>(&self, now: u64, watcher: &mut W) -> bool
         ensures { W.ended_turn watcher.old self.now.server now result watcher.new }
     {
-        watcher.turned(&self.server, now)
+        watcher.after_turn(&self.server, now)
     }
 
-    /// Tells the watcher that the server listens, and serves a turn for each item of `turns`. Answers what ended that.
+    /// Reports to the watcher that the server listens, and takes a turn for each item of `turns`. Returns the fault.
     fn serve_watched<R: Net + Clock, W: Watcher, T: Iterator<Item = ()>>(
         &mut self,
         rt: &R,
@@ -182,7 +183,8 @@ impl Serving {
         take_turns(&mut shift, turns)
     }
 
-    /// The same, and answers with metrics at this port.
+    /// Reports to the watcher that the server listens, takes a turn for each item of `turns`, and serves metrics at
+    /// this port. Returns the fault that ended that.
     fn serve_metered<R: Net + Clock, W: Watcher, T: Iterator<Item = ()>>(
         &mut self,
         rt: &R,
@@ -191,19 +193,20 @@ impl Serving {
         service: &Service,
         address: SocketAddr,
         port: ServicePort,
+        page: MetricsPage,
         watcher: &mut W,
     ) -> Fault
         requires can { T.can_next turns }
         requires ends { IsFinite (T.remaining turns) }
     {
-        match Metered::new(rt, alloc, &self.server, port, watcher) {
+        match MetricsObserver::new(rt, alloc, &self.server, port, page, watcher) {
             Ok(mut metered) => self.serve_watched(rt, turns, service, address, &mut metered),
             Err(fault) => fault,
         }
     }
 }
 
-/// What is served, with the clock and the time limits by which it is served, and the watcher, which logs it.
+/// A server with its application, the clock, the time limits, and the watcher that logs.
 #[derive(Drop)]
 struct Shift<'a, R, W> {
     serving: &'a mut Serving,
@@ -218,21 +221,26 @@ impl<R: Net + Clock, W: Watcher> TurnParts for Shift<'_, R, W> {
     ghost use Rattle.service.specs.TimeTurns.{KeepsTime};
     ghost use Rattle.service.specs.Uptimes.{IsRead};
 
-    ghost served = { λ old _ answer new. PollsAndServes ⟦<TcpStream as RawRead>⟧.read_gave ⟦<TcpStream as RawWrite>⟧.write_took W.noticed W.showed
-        ⟦<PolledListener<'static> as Listener<TcpStream>>⟧.gave old.serving.now.server old.watcher.now answer new.serving.now.server new.watcher.now
-        × (new.uptime ≡ old.uptime) × (new.limits ≡ old.limits) × (new.serving.now.application ≡ old.serving.now.application) };
+    ghost served = { λ old _ answer new. PollsAndServes ⟦<TcpStream as RawRead>⟧.read_gave
+        ⟦<TcpStream as RawWrite>⟧.write_took W.noticed W.showed
+        ⟦<PolledListener<'static> as Listener<TcpStream>>⟧.gave old.serving.now.server old.watcher.now answer
+        new.serving.now.server new.watcher.now
+        × (new.uptime ≡ old.uptime) × (new.limits ≡ old.limits)
+        × (new.serving.now.application ≡ old.serving.now.application) };
 
     ghost timed = { λ old moved answer new. IsRead old.uptime new.uptime
-        × KeepsTime W.noticed W.showed old.limits.now new.uptime.millis moved old.serving.now.server old.watcher.now answer new.serving.now.server new.watcher.now
+        × KeepsTime W.noticed W.showed old.limits.now new.uptime.millis moved old.serving.now.server old.watcher.now
+        answer new.serving.now.server new.watcher.now
         × (new.limits ≡ old.limits) × (new.serving.now.application ≡ old.serving.now.application) };
 
     ghost consulted = { λ old _ new. (new.uptime ≡ old.uptime) × (new.limits ≡ old.limits) };
 
-    ghost told = { λ old answer new. W.ended_turn old.watcher.now old.serving.now.server old.uptime.millis answer new.watcher.now
+    ghost told = { λ old answer new. W.ended_turn old.watcher.now old.serving.now.server old.uptime.millis answer
+        new.watcher.now
         × (new.serving.now ≡ old.serving.now) × (new.uptime ≡ old.uptime) × (new.limits ≡ old.limits) };
 
     fn serve_all(&mut self, busy: bool) -> Result<bool, Fault> {
-        self.serving.server.turn(patience(busy), self.watcher)
+        self.serving.server.turn(poll_timeout(busy), self.watcher)
     }
 
     fn keep_time(&mut self, moved: bool) -> Result<bool, Fault> {
@@ -252,7 +260,7 @@ impl<R: Net + Clock, W: Watcher> TurnParts for Shift<'_, R, W> {
     }
 }
 
-/// Serves a host, a turn for each item of `turns`, with a log on `faults`. Answers what ended that.
+/// Serves a host, a turn for each item of `turns`, with a log on `faults`. Returns the fault that ended that.
 fn serve<R: Net + Clock + RandomSource, T: Iterator<Item = ()>, E: Sink>(
     rt: &R,
     alloc: Global,
@@ -260,6 +268,7 @@ fn serve<R: Net + Clock + RandomSource, T: Iterator<Item = ()>, E: Sink>(
     service: &Service,
     application: Option<Application>,
     host: Host,
+    version: &'static str,
     faults: &mut E,
 ) -> Result<Fault, Fault>
     requires can { T.can_next turns }
@@ -273,6 +282,11 @@ fn serve<R: Net + Clock + RandomSource, T: Iterator<Item = ()>, E: Sink>(
         server: server_on(rt, alloc, host, address)?,
         application,
     };
+    let page = MetricsPage {
+        metrics: Metrics::new(),
+        version,
+        started: Timestamp::now(rt).ok().map(|now| now.as_second()),
+    };
     let mut log = Log {
         clock: rt,
         alloc,
@@ -280,13 +294,15 @@ fn serve<R: Net + Clock + RandomSource, T: Iterator<Item = ()>, E: Sink>(
         quiet: service.quiet,
     };
     Ok(match service.metrics {
-        Some(port) => serving.serve_metered(rt, alloc, turns, service, address, port, &mut log),
+        Some(port) => {
+            serving.serve_metered(rt, alloc, turns, service, address, port, page, &mut log)
+        }
         None => serving.serve_watched(rt, turns, service, address, &mut log),
     })
 }
 
-/// Prints why a text is refused that has this fault, and returns the exit status: all that `check` prints of the text. The fault
-/// alone if `check` finds none, as in a text with a script behind a line `%%`, or if memory is refused.
+/// Prints why a panel text with this fault is refused, and returns the exit status. Prints all that `check` prints;
+/// prints only this fault if `check` finds none, as in a text with a script after a line `%%`, or if memory is refused.
 fn refuse_panels<E: Sink>(
     alloc: Global,
     name: &str,
@@ -300,13 +316,13 @@ fn refuse_panels<E: Sink>(
                 let _ = faults.write_all(page.as_bytes());
                 fault.status()
             }
-            Err(_) => end_by(fault, faults),
+            Err(_) => report_and_exit_code(fault, faults),
         },
-        _ => end_by(fault, faults),
+        _ => report_and_exit_code(fault, faults),
     }
 }
 
-/// The application that is chosen, if one is, and the input.
+/// The chosen application, if there is one, and the text of the input.
 fn begin<I: Source>(
     alloc: Global,
     choice: &ApplicationChoice<'_>,
@@ -316,19 +332,20 @@ fn begin<I: Source>(
     Ok((application, read_whole(alloc, input)?))
 }
 
-/// Serves the panels of the input to the terminals that connect, a turn for each item of `turns`: at the service's address and port,
-/// with its time limits, and with a log on `faults` unless the service is quiet. If the address isn't one of this machine alone, `faults` first gets
-/// a warning. The log says when the server listens; and of each connection that it begins, is refused an LU, is bound to one, has a
-/// key dropped, and is over, with the reason. If the service has a port for metrics, that port of 127.0.0.1 answers with them.
+/// Serves the panels of the input, a turn for each item of `turns`, at the service's address and port, with its time
+/// limits, and with a log on `faults` unless the service is quiet. If other machines can reach the address, `faults`
+/// first gets a warning. The log says when the server listens. For each connection it says when it begins, when it is
+/// refused an LU or bound to one, when a key is dropped, and when and why it ends. If the service has a metrics port,
+/// that port of 127.0.0.1 serves the counts, with this version of the program.
 ///
-/// If an application is chosen, it is asked about the keys that panels ask about, and the log says why a question has no answer.
+/// If an application is chosen, it is asked about the keys that panels ask about. The log says if it fails to answer.
 ///
-/// If the input has faults as a panel text, all of them are printed to `faults`, as by `check` for an input of
-/// this name.
+/// If the input has faults as a panel text, prints all of them to `faults`, as `check` does for an input of this name.
 ///
-/// Returns the exit status if it can't begin or go on: 1 if the input can't be read (as by [`read_whole`]), if it
-/// defines no panels, or if their LUs are no pool; 2 if the application's URL is none, or if none is chosen and a panel asks it about a
-/// key; 3 if memory is refused; 4 if the system refuses random bytes, to listen, or to wait for sockets; 5 if there are no more turns.
+/// Returns the exit status: 1 if the input can't be read (as by [`read_whole`]), if it defines no panels, or if their
+/// LUs are no pool; 2 if the application's URL is invalid, or if no application is chosen and a panel asks about a key;
+/// 3 if memory is refused; 4 if the system can't give random bytes, listen, or wait for sockets; 5 if `turns` has no
+/// more items.
 pub fn run_serve<R: Net + Clock + RandomSource, T: Iterator<Item = ()>, I: Source, E: Sink>(
     rt: &R,
     alloc: Global,
@@ -336,6 +353,7 @@ pub fn run_serve<R: Net + Clock + RandomSource, T: Iterator<Item = ()>, I: Sourc
     service: &Service,
     choice: &ApplicationChoice<'_>,
     name: &str,
+    version: &'static str,
     input: &mut I,
     faults: &mut E,
 ) -> u8
@@ -344,11 +362,11 @@ pub fn run_serve<R: Net + Clock + RandomSource, T: Iterator<Item = ()>, I: Sourc
 {
     let (application, text) = match begin(alloc, choice, input) {
         Ok(parts) => parts,
-        Err(fault) => return end_by(fault, faults),
+        Err(fault) => return report_and_exit_code(fault, faults),
     };
     let host = match host_of(alloc, service.terminals, text.as_str()) {
         Ok(host) => host,
-        Err(Fault::NoMemory) => return end_by(Fault::NoMemory, faults),
+        Err(Fault::NoMemory) => return report_and_exit_code(Fault::NoMemory, faults),
         Err(fault) => return refuse_panels(alloc, name, text.as_str(), fault, faults),
     };
     if application.is_none() {
@@ -356,7 +374,16 @@ pub fn run_serve<R: Net + Clock + RandomSource, T: Iterator<Item = ()>, I: Sourc
             return refuse_asking(panel, key, Refusing::Serve, faults);
         }
     }
-    match serve(rt, alloc, turns, service, application, host, faults) {
-        Ok(fault) | Err(fault) => end_by(fault, faults),
+    match serve(
+        rt,
+        alloc,
+        turns,
+        service,
+        application,
+        host,
+        version,
+        faults,
+    ) {
+        Ok(fault) | Err(fault) => report_and_exit_code(fault, faults),
     }
 }

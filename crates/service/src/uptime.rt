@@ -5,7 +5,7 @@ ghost use Rattle.service.specs.Uptimes.{after_reading, millis_between};
 
 use std::time::Instant;
 
-/// The milliseconds since a server began, by a monotonic clock. They never go back.
+/// The milliseconds since a server began, by a monotonic clock. They never decrease.
 #[derive(Clone, Copy)]
 pub(crate) struct Uptime {
     start: Option<Instant>,
@@ -20,7 +20,7 @@ fn millis_between(start: Instant, now: Instant) -> u64
 }
 
 impl Uptime {
-    /// No time: it begins with the first reading of a clock.
+    /// Time 0. It begins to count at the first reading of a clock.
     pub(crate) fn new() -> Uptime
         ensures { result ≡ record { start = None; millis = 0 } }
     {
@@ -30,14 +30,14 @@ impl Uptime {
         }
     }
 
-    /// The milliseconds, as they were read last.
+    /// The milliseconds at the last reading.
     pub(crate) fn millis(&self) -> u64
         ensures { result ≡ self.now.millis }
     {
         self.millis
     }
 
-    /// Takes a reading of the clock. If there is none, or it is behind an earlier one, the time stays.
+    /// Takes a reading of the clock. If there is none, or if it is earlier than the last, the time doesn't change.
     pub(crate) fn take(&mut self, reading: Option<Instant>)
         ensures taken { self.new ≡ after_reading reading self.old }
         ensures goes_on { self.old.millis ≤ self.new.millis }

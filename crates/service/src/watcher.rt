@@ -1,4 +1,4 @@
-//! Who hears what happens at a server.
+//! The observer of a server: it receives each notice and each shown screen.
 ghost use Rattle.std.specs.Prelude.{◌<◌};
 ghost use Rattle.host_core.specs.State.{most_connections};
 
@@ -8,10 +8,11 @@ use host_core::Host;
 use job_streams::Fault;
 use service_events::{Client, Notice};
 
-/// Gets the notices of a server.
+/// Receives the notices of a server.
 ///
-/// Each relation is between the watcher before a call, what the call was given, its answer, and the watcher after it. Code that is
-/// generic over watchers has one only from a call. So its contract can say what the watcher heard, and in which order.
+/// Each relation is between the watcher before a call, the arguments of the call, its answer, and the watcher after it.
+/// Generic code obtains a relation only by a call, so its contract can say what the watcher received, and in which
+/// order.
 pub trait Watcher {
     ghost use Rattle.std.specs.Prelude.{ℕ, Bool, Result};
     ghost use Rattle.applications.specs.declared.application_fault.ApplicationFault.{ApplicationFault};
@@ -37,21 +38,21 @@ pub trait Watcher {
     fn notice(&mut self, notice: &Notice) -> Result<(), Fault>
         ensures { noticed self.old notice.now result self.new };
 
-    /// Handles that a question to the application has no answer. A fault ends the turn.
+    /// Handles the report that a question to the application has no answer. A fault ends the turn.
     fn unanswered(&mut self, client: &Client, fault: &ApplicationFault) -> Result<(), Fault>
         ensures { reported self.old client.now fault.now result self.new };
 
-    /// Handles that characters of the application's reply were replaced. A fault ends the turn.
+    /// Handles the report that characters of the application's reply were replaced. A fault ends the turn.
     fn replaced(&mut self, client: &Client, replaced: &Replaced<'_>) -> Result<(), Fault>
         ensures { noted self.old client.now replaced.now result self.new };
 
-    /// Handles that the host showed a screen on a connection. A fault ends the turn.
+    /// Handles the report that the host showed a screen on a connection. A fault ends the turn.
     fn shown(&mut self, host: &Host, conn: usize) -> Result<(), Fault>
         requires { conn < most_connections }
         ensures { showed self.old host.now conn result self.new };
 
-    /// Does what else is to be done after a turn, at this time in milliseconds. Answers whether it did something.
-    fn turned(&mut self, server: &Server, now: u64) -> bool
+    /// Does what else is due after a turn, at this time in milliseconds. Answers whether it did something.
+    fn after_turn(&mut self, server: &Server, now: u64) -> bool
         ensures { ended_turn self.old server.now now result self.new };
 }
 
@@ -86,7 +87,7 @@ impl Watcher for Unwatched {
         Ok(())
     }
 
-    fn turned(&mut self, _server: &Server, _now: u64) -> bool {
+    fn after_turn(&mut self, _server: &Server, _now: u64) -> bool {
         false
     }
 }

@@ -7,12 +7,12 @@ use Rattle.host_core.specs.declared.serving.Served.TheVariants as served
 use Rattle.service_events.specs.declared.notice.Ending.{Ending}
 use Rattle.service_events.specs.declared.notice.Ending.TheVariants as ending
 
--- a connection that is over after a turn of serving: the host closed it, or it was lost
+-- why a connection is over after a turn of serving in which it ended: the host closed it, or it was lost
 abbrev pub ending_by : Phase → Ending
 ending_by (phase.Closed why) = ending.Closed why
 ending_by _ = ending.Lost
 
--- why a connection is over after a turn of serving, if it is; a refusal of memory ends the program
+-- why a connection is over after a turn of serving; None if it continues. Refused memory ends the program instead
 abbrev pub ending_of : Phase → Served → Option Ending
 ending_of after served.Going = None
 ending_of after served.Lost = Some (ending_by after)

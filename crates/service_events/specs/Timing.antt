@@ -1,4 +1,4 @@
--- The time limits of a connection that is served (our profile). Times are milliseconds of the server's time, limits are seconds.
+-- The time limits of a connection (our profile). Times are milliseconds of the server's time; limits are seconds.
 use Rattle.std.specs.Prelude.{ℕ, ◌-◌, ◌*◌, Bool, true, false, ◌&&◌, ◌||◌, ◌==◌, not, nat_lt, nat_le, Option, None, Some, if◌then◌else◌}
 use Rattle.host_core.specs.declared.phase.Phase.{Phase}
 use Rattle.host_core.specs.declared.phase.Phase.TheVariants as phase
@@ -12,20 +12,22 @@ use Rattle.service_events.specs.declared.limits.Due.{Due}
 use Rattle.service_events.specs.declared.limits.Due.TheVariants as due_now
 use Rattle.service_events.specs.declared.limits.Overdue.TheVariants as overdue
 
--- the limit has passed after this time; a limit of 0 seconds never does
+-- whether a limit is reached after this time; a limit of 0 seconds never is
 abbrev pub is_over : (seconds millis : ℕ) → Bool
 is_over seconds millis = nat_lt 0 seconds && nat_le (seconds * 1000) millis
 
 -- ---- what a connection waits for
 
--- An operator can act in the terminal's turn, once the terminal has answered the command that gave it the turn. All other time of a bound
--- session is the host's: it has the turn, or its command is under way.
+-- What a connection waits for. The operator can act in the terminal's turn, once the terminal has answered the command
+-- that gave it the turn. At any other time a bound session waits for the host: it has the turn, or its command is
+-- pending.
 abbrev pub awaited_on : Phase → Turn → (pending : Option ℕ) → Awaited
 awaited_on (phase.Bound lu) turn.Terminal None = Operator
 awaited_on (phase.Bound lu) turn.Terminal (Some number) = Host
 awaited_on (phase.Bound lu) turn.Host pending = Host
 awaited_on _ whose pending = Agreement
 
+-- whether the ends have agreed on a session
 abbrev pub is_agreed : Awaited → Bool
 is_agreed Agreement = false
 is_agreed Operator = true
@@ -36,45 +38,48 @@ is_host Agreement = false
 is_host Operator = false
 is_host Host = true
 
--- What is due on a connection: it is dropped if it isn't bound in time, or was silent for too long while it didn't wait for the host; a
--- bound one that sent nothing is sent IAC NOP.
+-- What the limits require. A connection is dropped if it isn't bound in time, or if it was silent for too long while it
+-- didn't wait for the host. A bound one that sent nothing is sent IAC NOP.
 abbrev pub due : TimeLimits → Awaited → Activity → (now : ℕ) → Due
 due limits awaited activity now =
-    if not (is_agreed awaited) && is_over limits.negotiate (now - activity.began) then due_now.Disconnect overdue.NoAgreement else
-    if not (is_host awaited) && is_over limits.idle (now - activity.silent_since) then due_now.Disconnect overdue.Idle else
+    if not (is_agreed awaited) && is_over limits.negotiate (now - activity.began)
+    then due_now.Disconnect overdue.NoAgreement else
+    if not (is_host awaited) && is_over limits.idle (now - activity.silent_since) then due_now.Disconnect overdue.Idle
+    else
     if is_agreed awaited && is_over limits.keepalive (now - activity.kept_alive) then due_now.KeepAlive else
     due_now.Nothing
 
--- how long the limits aren't applied if no byte moves
+-- the milliseconds after which the limits are applied although no byte moved
 abbrev pub limits_interval : ℕ
 limits_interval = 100
 
--- Whether the limits of all connections are applied after a turn: a byte moved in it, or they were applied last this long before.
+-- Whether the limits are applied after a turn: a byte moved in it, or they were last applied this long before.
 abbrev pub are_applied : (moved : Bool) → (applied now : ℕ) → Bool
 are_applied moved applied now = moved || nat_le limits_interval (now - applied)
 
--- ---- what happened on a connection
+-- ---- the activity of a connection
 
--- it begins
+-- the activity of a connection that begins
 abbrev pub new_activity : (now : ℕ) → Activity
 new_activity now = record { began = now; silent_since = now; kept_alive = now; received = 0; sent = 0 }
 
--- bytes came since, and none were sent
+-- whether bytes were received since the last record, and none were sent
 abbrev pub is_unanswered : Activity → (received sent : ℕ) → Bool
 is_unanswered activity received sent = not (activity.received == received) && activity.sent == sent
 
--- these are the numbers of bytes that came and were sent until now
+-- the activity after a record of the bytes received and sent until now
 abbrev pub counted_now : (received sent now : ℕ) → Activity → Activity
 counted_now received sent now activity =
     if activity.received == received then record activity { sent = sent }
     else record activity { silent_since = now; kept_alive = now; received = received; sent = sent }
 
--- the same on a connection that waits for this; the time in which it waits for the host is no silence of its own
+-- The activity after a record of these bytes on a connection that waits for `awaited`; waiting for the host is no
+-- silence.
 abbrev pub heard : (received sent : ℕ) → Awaited → (now : ℕ) → Activity → Activity
 heard received sent awaited now activity =
     if is_host awaited then record (counted_now received sent now activity) { silent_since = now }
     else counted_now received sent now activity
 
--- IAC NOP was due
+-- the activity once IAC NOP was due
 abbrev pub kept_alive : (now : ℕ) → Activity → Activity
 kept_alive now activity = record activity { kept_alive = now }

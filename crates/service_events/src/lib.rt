@@ -1,10 +1,10 @@
-//! What happens at a server, and what is told of it: notices, which print as the events of the log, counts and their
-//! page; and what the time limits of a connection ask for.
+//! The events of a server: notices, which print as log lines; counts and their page; and the time limits of a
+//! connection.
 //!
-//! It has no server and no socket. A [`Notice`] is written to the log, and counted ([`Metrics`]); [`Asked`] takes the
-//! bytes of a client that asks for the counts, and [`response_of`] is the response. [`Activity`] decides what a
-//! connection's time limits ask for. `specs/Notices`, `Metrics`, `Scrapes` and `Timing` define these; texts have no
-//! definitions, and are compared by cases.
+//! This crate has no server and no socket (crate `service` has). A [`Notice`] is written to the log, and counted in
+//! [`Metrics`]. [`RequestHead`] collects the bytes of a client that requests the [`MetricsPage`], and [`response_of`]
+//! is the response. [`Activity`] decides what a connection's time limits require. `specs/Notices`, `Metrics`, `Scrapes`
+//! and `Timing` define these. Printed texts have no definitions; tests compare them.
 #![tactic(auto)]
 
 mod limits;
@@ -14,6 +14,7 @@ mod notice;
 mod scrape;
 
 pub use limits::{Activity, Awaited, Due, Overdue, are_applied, awaited_on};
-pub use metrics::{ClosedCounts, EndCounts, Metrics, RejectedCounts, TrafficCounts};
+pub use metrics::Metrics;
+pub use metrics_page::MetricsPage;
 pub use notice::{Client, Ending, Notice, Usage, ending_of};
-pub use scrape::{Asked, HttpStatus, is_late, response_of};
+pub use scrape::{HttpStatus, Method, RequestHead, is_late, response_of};

@@ -5,57 +5,58 @@ ghost use Rattle.service_events.specs.Timing.{are_applied, awaited_on, due, hear
 use host_core::{Phase, Turn};
 use jobs::{Seconds, TimeLimits};
 
-/// How many milliseconds after the time limits were applied last they are applied again though no byte moved.
+/// The milliseconds after which the time limits are applied again although no byte moved.
 const LIMITS_INTERVAL: u64 = 100;
 
-/// The limit for which a connection is dropped.
+/// The limit that ends a connection.
 #[derive(Clone, Copy)]
 pub enum Overdue {
-    /// It has not agreed on a session in time.
+    /// The ends did not agree on a session in time.
     NoAgreement,
-    /// It sent nothing for too long.
+    /// It sent nothing for too long while it didn't wait for the host.
     Idle,
 }
 
-/// What is due on a connection by its time limits.
+/// What the time limits require on a connection.
 #[derive(Clone, Copy)]
 pub enum Due {
     /// Nothing.
     Nothing,
-    /// IAC NOP is sent, so that TCP notices if the peer is gone.
+    /// Send IAC NOP (RFC 854), so that TCP notices if the peer is gone.
     KeepAlive,
-    /// The connection is dropped.
+    /// Drop the connection.
     Disconnect(Overdue),
 }
 
 /// What a connection waits for.
 #[derive(Clone, Copy)]
 pub enum Awaited {
-    /// That the ends agree on a session.
+    /// The end of the TN3270E negotiation.
     Agreement,
     /// A key of the operator, who has the turn.
     Operator,
-    /// The host, which has the turn, for example while the application decides; or the terminal's answer to a command, such as a
-    /// paint that is under way.
+    /// The host, which has the turn, for example while the application decides; or the terminal's answer to a pending
+    /// command, such as a write.
     Host,
 }
 
-/// When a connection began, and when it did something. Times are milliseconds of the server's time.
+/// When a connection began, and when it was last active. Times are milliseconds of the server's time.
 #[derive(Clone, Copy)]
 pub struct Activity {
     /// When it began.
     pub began: u64,
-    /// Since when it is silent of itself: when bytes came last, when it waited for the host last, or when it began.
+    /// The start of the terminal's silence: the latest of the last received byte, the last time it waited for the host,
+    /// and its begin.
     pub silent_since: u64,
-    /// When IAC NOP was due last, or bytes came since.
+    /// When IAC NOP was last due, or when bytes were last received, whichever is later.
     pub kept_alive: u64,
-    /// The number of bytes that had come at that time.
+    /// The number of bytes received when the limits were last applied.
     pub received: u64,
-    /// The number of bytes that had been sent.
+    /// The number of bytes sent when the limits were last applied.
     pub sent: u64,
 }
 
-/// Whether a limit has passed after this number of milliseconds.
+/// Whether a limit is reached after this number of milliseconds. A limit of 0 seconds is never reached.
 fn is_over(limit: Seconds, millis: u64) -> bool
     ensures { result ≡ is_over limit millis }
 {
@@ -63,15 +64,15 @@ fn is_over(limit: Seconds, millis: u64) -> bool
     0 < seconds && seconds * 1000 <= millis
 }
 
-/// Whether the time limits are applied after a turn, by whether a byte moved in it and when they were applied last.
+/// Whether the time limits are applied after a turn: a byte moved in it, or they were last applied long enough before.
 pub fn are_applied(moved: bool, applied: u64, now: u64) -> bool
     ensures { result ≡ are_applied moved applied now }
 {
     moved || now.saturating_sub(applied) >= LIMITS_INTERVAL
 }
 
-/// What a connection waits for, by the phase of its session, by who has the turn, and by the number of the command that waits for its
-/// answer.
+/// What a connection waits for, given the phase of its session, whose turn it is, and the number of the command that
+/// awaits its response.
 pub fn awaited_on(phase: &Phase, turn: Turn, pending: Option<u16>) -> Awaited
     ensures { result ≡ awaited_on phase.now turn pending }
 {
@@ -95,7 +96,7 @@ impl Awaited {
         }
     }
 
-    /// Whether it is the host's part.
+    /// Whether the connection waits for the host.
     fn is_host(self) -> bool
         ensures { result ≡ is_host self }
     {
@@ -107,7 +108,7 @@ impl Awaited {
 }
 
 impl Activity {
-    /// That of a connection that begins now.
+    /// The activity of a connection that begins at `now`.
     pub fn new(now: u64) -> Activity
         ensures { result ≡ new_activity now }
     {
@@ -120,8 +121,8 @@ impl Activity {
         }
     }
 
-    /// What is due now on a connection that waits for this. If more than one limit has passed, the first of `negotiate`, `idle` and
-    /// `keepalive` counts. While it waits for the host it isn't idle.
+    /// What the limits require now on a connection that waits for `awaited`. If more than one limit is reached, the
+    /// first of `negotiate`, `idle` and `keepalive` counts. A connection that waits for the host isn't idle.
     pub fn due(&self, limits: &TimeLimits, awaited: Awaited, now: u64) -> Due
         ensures { result ≡ due limits.now awaited self.now now }
     {
@@ -138,15 +139,15 @@ impl Activity {
         Due::Nothing
     }
 
-    /// Whether bytes came and none were sent since the numbers of bytes were taken last. The peer's TCP then waits for an
-    /// acknowledgement that the system delays, since nothing carries it.
+    /// Whether bytes were received and none were sent since the last `hear`. The peer's TCP then waits for an
+    /// acknowledgement that the system delays, since no data carries it.
     pub fn is_unanswered(&self, received: u64, sent: u64) -> bool
         ensures { result ≡ is_unanswered self.now received sent }
     {
         self.received != received && self.sent == sent
     }
 
-    /// Takes the numbers of bytes that came and were sent until now, and what the connection waits for.
+    /// Records the number of bytes received and sent until now, and what the connection waits for.
     pub fn hear(&mut self, received: u64, sent: u64, awaited: Awaited, now: u64)
         ensures { self.new ≡ heard received sent awaited now self.old }
     {
@@ -161,7 +162,7 @@ impl Activity {
         self.sent = sent;
     }
 
-    /// IAC NOP was due now.
+    /// Records that IAC NOP was due at `now`.
     pub fn keep_alive(&mut self, now: u64)
         ensures { self.new ≡ kept_alive now self.old }
     {

@@ -1,49 +1,43 @@
-//! What `serve` counts.
-ghost use Rattle.std.specs.Prelude.{◌≡◌};
-ghost use Rattle.service_events.specs.Metrics.{closed_by, counted, ended_by, none_closed, nothing_counted, raised, rejected_for, with_end, with_paint, with_usage};
+//! The counts that `serve` keeps.
+ghost use Rattle.std.specs.Prelude.{◌≡◌, ◌-◌, ◌<◌};
+ghost use Rattle.tn3270e_msg.specs.Words.{cause_number};
+ghost use Rattle.service_events.specs.Metrics.{bucket_of, counted, failure_place, nothing_counted, raised, reason_place, with_begin, with_end, with_failure, with_paint, with_usage};
 
 use crate::limits::Overdue;
 use crate::notice::{Ending, Notice};
+use application_http::ReplyFault;
+use applications::{Absence, AnswerFault, ApplicationFault};
 use tn3270e_msg::{Cause, Reason};
 
-/// How many sessions the host closed, by cause.
-#[derive(Clone, Copy)]
-pub struct ClosedCounts {
-    pub no_tn3270e: u64,
-    pub no_responses: u64,
-    pub bad_talk: u64,
-    pub too_many: u64,
-    pub wire: u64,
-    pub bad_record: u64,
-    pub bad_inbound: u64,
-    pub bad_response: u64,
-    pub negative: u64,
-    pub rule_broken: u64,
-}
+/// The bounds of the times from a question to its answer, in milliseconds.
+const BOUNDS: [u64; 12] = [
+    5, 10, 25, 50, 100, 250, 500, 1_000, 2_500, 5_000, 10_000, 30_000,
+];
 
-/// How many sessions ended, by how they did.
+/// What a service has counted since it began. A count stops at its greatest value, 2^64 - 1.
 #[derive(Clone, Copy)]
-pub struct EndCounts {
-    pub closed: ClosedCounts,
+pub struct Metrics {
+    /// Terminal connections that are open now.
+    pub current: u64,
+    /// Terminal connections that were opened.
+    pub begun: u64,
+    /// Connections that the host closed, by cause, in the order of the causes' numbers.
+    pub closed: [u64; 10],
+    /// Connections that were lost.
     pub lost: u64,
+    /// Connections that were dropped by the time limit `idle`.
     pub idle: u64,
+    /// Connections that were dropped by the time limit `negotiate`.
     pub no_agreement: u64,
-}
-
-/// How many requests for an LU were rejected, by reason (RFC 1647, section 3).
-#[derive(Clone, Copy)]
-pub struct RejectedCounts {
-    pub device_in_use: u64,
-    pub inv_name: u64,
-    pub inv_device_type: u64,
-    pub unsupported_req: u64,
-    /// A host here gives no other reason.
-    pub other: u64,
-}
-
-/// What went to and from all terminals.
-#[derive(Clone, Copy)]
-pub struct TrafficCounts {
+    /// Connections that were closed at once, because no number was free.
+    pub turned_away: u64,
+    /// Rejected requests for an LU, by reason: DEVICE-IN-USE, INV-NAME, INV-DEVICE-TYPE, UNSUPPORTED-REQ (RFC 1647,
+    /// section 3), and any other, which our host doesn't give.
+    pub rejected: [u64; 5],
+    /// Keys that were dropped, because an earlier key wasn't answered yet.
+    pub dropped_keys: u64,
+    /// Terminals that broke a rule, if the host verifies them.
+    pub rule_breaks: u64,
     /// Screens sent after the first one of a connection.
     pub turns: u64,
     /// Screens sent.
@@ -52,151 +46,121 @@ pub struct TrafficCounts {
     pub received: u64,
     /// Bytes sent.
     pub sent: u64,
+    /// Questions to the application.
+    pub asked: u64,
+    /// Questions that it didn't answer, by reason: refused, broken, timeout, no memory, a status that isn't 200, any
+    /// other fault of the reply, and an operator who left.
+    pub failed: [u64; 7],
+    /// Answers, by the time from the question to the answer: those at most the first bound, those above each bound but
+    /// not the next one, and those above the last bound.
+    pub answered: [u64; 13],
+    /// The sum of these times, in milliseconds.
+    pub answer_millis: u64,
 }
 
-/// What a service counts since it began. A count stays at its last value, 2^64 - 1. Prints as the page in Prometheus' text format,
-/// version 0.0.4.
-#[derive(Clone, Copy)]
-pub struct Metrics {
-    /// Connections of terminals that are open.
-    pub current: u64,
-    /// Connections of terminals that began.
-    pub begun: u64,
-    pub ends: EndCounts,
-    /// Connections that were closed at once, since no number was free.
-    pub turned_away: u64,
-    pub rejected: RejectedCounts,
-    /// Keys that were dropped, since the last one wasn't answered yet.
-    pub dropped_keys: u64,
-    /// Terminals that broke a rule, where the host verifies them.
-    pub rule_breaks: u64,
-    pub traffic: TrafficCounts,
-}
-
-/// Raises a count, to its last value at most.
+/// Raises a count, to at most 2^64 - 1.
 fn raise(count: &mut u64, by: u64)
     ensures { count.new ≡ raised count.old by }
 {
     *count = count.saturating_add(by);
 }
 
-impl ClosedCounts {
-    /// Nothing was counted yet.
-    fn new() -> ClosedCounts
-        ensures { result ≡ none_closed }
-    {
-        ClosedCounts {
-            no_tn3270e: 0,
-            no_responses: 0,
-            bad_talk: 0,
-            too_many: 0,
-            wire: 0,
-            bad_record: 0,
-            bad_inbound: 0,
-            bad_response: 0,
-            negative: 0,
-            rule_broken: 0,
-        }
-    }
+/// The place of a cause among the causes.
+fn cause_place(cause: Cause) -> usize
+    ensures place { result ≡ cause_number cause - 1 }
+    ensures range { result < 10 }
+{
+    usize::from(cause.number() - 1)
+}
 
-    /// Counts a session that was closed.
-    fn count(&mut self, cause: Cause)
-        ensures { self.new ≡ closed_by cause self.old }
-    {
-        match cause {
-            Cause::NoTn3270e => raise(&mut self.no_tn3270e, 1),
-            Cause::NoResponses => raise(&mut self.no_responses, 1),
-            Cause::BadTalk => raise(&mut self.bad_talk, 1),
-            Cause::TooMany => raise(&mut self.too_many, 1),
-            Cause::Wire => raise(&mut self.wire, 1),
-            Cause::BadRecord => raise(&mut self.bad_record, 1),
-            Cause::BadInbound => raise(&mut self.bad_inbound, 1),
-            Cause::BadResponse => raise(&mut self.bad_response, 1),
-            Cause::Negative => raise(&mut self.negative, 1),
-            Cause::RuleBroken => raise(&mut self.rule_broken, 1),
-        }
+/// The place of a reason among those of `rejected`.
+fn reason_place(reason: Reason) -> usize
+    ensures place { result ≡ reason_place reason }
+    ensures range { result < 5 }
+{
+    match reason.0 {
+        1 => 0,
+        3 => 1,
+        4 => 2,
+        7 => 3,
+        _ => 4,
     }
 }
 
-impl EndCounts {
-    /// Counts a session that ended.
-    fn count(&mut self, ending: Ending)
-        ensures { self.new ≡ ended_by ending self.old }
-    {
-        match ending {
-            Ending::Closed(cause) => self.closed.count(cause),
-            Ending::Lost => raise(&mut self.lost, 1),
-            Ending::Dropped(Overdue::Idle) => raise(&mut self.idle, 1),
-            Ending::Dropped(Overdue::NoAgreement) => raise(&mut self.no_agreement, 1),
-        }
+/// The place of a failure's reason among those of `failed`.
+fn failure_place(fault: &ApplicationFault) -> usize
+    ensures place { result ≡ failure_place fault.now }
+    ensures range { result < 7 }
+{
+    use ApplicationFault::{Absent, Answer, Left, Reply};
+    match fault {
+        Absent(Absence::Refused) => 0,
+        Absent(Absence::Broken) | Reply(ReplyFault::CutShort) => 1,
+        Absent(Absence::Late) => 2,
+        Absent(Absence::NoMemory) | Reply(ReplyFault::Memory) | Answer(AnswerFault::Memory) => 3,
+        Reply(ReplyFault::Status(_)) => 4,
+        Reply(_) | Answer(_) => 5,
+        Left => 6,
     }
 }
 
-impl RejectedCounts {
-    /// Counts a rejected request.
-    fn count(&mut self, reason: Reason)
-        ensures { self.new ≡ rejected_for reason self.old }
-    {
-        match reason.0 {
-            1 => raise(&mut self.device_in_use, 1),
-            3 => raise(&mut self.inv_name, 1),
-            4 => raise(&mut self.inv_device_type, 1),
-            7 => raise(&mut self.unsupported_req, 1),
-            _ => raise(&mut self.other, 1),
-        }
-    }
+/// The place of a time in milliseconds among those of `answered`: the number of bounds below it.
+fn bucket_of(millis: u64) -> usize
+    ensures place { result ≡ bucket_of millis }
+    ensures range { result < 13 }
+{
+    BOUNDS.iter().filter(|bound| **bound < millis).count()
 }
 
 impl Metrics {
-    /// Nothing was counted yet.
+    /// All counts are 0.
     pub fn new() -> Metrics
         ensures { result ≡ nothing_counted }
     {
         Metrics {
             current: 0,
             begun: 0,
-            ends: EndCounts {
-                closed: ClosedCounts::new(),
-                lost: 0,
-                idle: 0,
-                no_agreement: 0,
-            },
+            closed: [0; 10],
+            lost: 0,
+            idle: 0,
+            no_agreement: 0,
             turned_away: 0,
-            rejected: RejectedCounts {
-                device_in_use: 0,
-                inv_name: 0,
-                inv_device_type: 0,
-                unsupported_req: 0,
-                other: 0,
-            },
+            rejected: [0; 5],
             dropped_keys: 0,
             rule_breaks: 0,
-            traffic: TrafficCounts {
-                turns: 0,
-                paints: 0,
-                received: 0,
-                sent: 0,
-            },
+            turns: 0,
+            paints: 0,
+            received: 0,
+            sent: 0,
+            asked: 0,
+            failed: [0; 7],
+            answered: [0; 13],
+            answer_millis: 0,
         }
     }
 
-    /// Counts the begin of a session.
+    /// Counts a session that begins.
     fn begin(&mut self)
-        ensures { self.new ≡ record self.old { current = raised self.old.current 1; begun = raised self.old.begun 1 } }
+        ensures { self.new ≡ with_begin self.old }
     {
         raise(&mut self.current, 1);
         raise(&mut self.begun, 1);
     }
 
-    /// Counts the end of a session.
+    /// Counts a session that ends.
     fn end(&mut self, ending: Ending)
         ensures { self.new ≡ with_end ending self.old }
     {
         self.current = self.current.saturating_sub(1);
-        self.ends.count(ending);
+        match ending {
+            Ending::Closed(cause) => raise(&mut self.closed[cause_place(cause)], 1),
+            Ending::Lost => raise(&mut self.lost, 1),
+            Ending::Dropped(Overdue::Idle) => raise(&mut self.idle, 1),
+            Ending::Dropped(Overdue::NoAgreement) => raise(&mut self.no_agreement, 1),
+        }
     }
 
-    /// Counts what happened at a server.
+    /// Counts a notice.
     pub fn count(&mut self, notice: &Notice)
         ensures { self.new ≡ counted notice.now self.old }
     {
@@ -204,7 +168,9 @@ impl Metrics {
             Notice::Listening(_) => {}
             Notice::TurnedAway(_) => raise(&mut self.turned_away, 1),
             Notice::Connected(_) => self.begin(),
-            Notice::Rejected(_, rejection) => self.rejected.count(rejection.reason),
+            Notice::Rejected(_, rejection) => {
+                raise(&mut self.rejected[reason_place(rejection.reason)], 1)
+            }
             Notice::Bound(_, _) => {}
             Notice::KeyDropped(_, _) => raise(&mut self.dropped_keys, 1),
             Notice::RuleBroken(_, _) => raise(&mut self.rule_breaks, 1),
@@ -212,22 +178,34 @@ impl Metrics {
                 self.end(*ending);
                 self.count_usage(usage.turns, usage.received, usage.sent);
             }
+            Notice::Asked => raise(&mut self.asked, 1),
+            Notice::Answered(millis) => {
+                raise(&mut self.answered[bucket_of(*millis)], 1);
+                raise(&mut self.answer_millis, *millis);
+            }
         }
+    }
+
+    /// Counts a question that the application didn't answer.
+    pub fn count_failure(&mut self, fault: &ApplicationFault)
+        ensures { self.new ≡ with_failure fault.now self.old }
+    {
+        raise(&mut self.failed[failure_place(fault)], 1);
     }
 
     /// Counts a screen that was sent.
     pub fn count_paint(&mut self)
         ensures { self.new ≡ with_paint self.old }
     {
-        raise(&mut self.traffic.paints, 1);
+        raise(&mut self.paints, 1);
     }
 
-    /// Counts what a connection took: turns, and bytes each way.
+    /// Counts what a connection used: turns, and bytes in each direction.
     pub fn count_usage(&mut self, turns: u64, received: u64, sent: u64)
         ensures { self.new ≡ with_usage turns received sent self.old }
     {
-        raise(&mut self.traffic.turns, turns);
-        raise(&mut self.traffic.received, received);
-        raise(&mut self.traffic.sent, sent);
+        raise(&mut self.turns, turns);
+        raise(&mut self.received, received);
+        raise(&mut self.sent, sent);
     }
 }

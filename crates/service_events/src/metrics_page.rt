@@ -1,85 +1,115 @@
 //! The page of a service's metrics, in Prometheus' text format, version 0.0.4.
-use crate::metrics::{ClosedCounts, EndCounts, Metrics, RejectedCounts, TrafficCounts};
+use crate::metrics::Metrics;
 use std::fmt;
 use tn3270e_msg::Cause;
 
-/// Adds the number of sessions that the host closed for a cause.
-fn put_closed<W: fmt::Write>(f: &mut fmt::Formatter<W>, cause: Cause, count: u64) -> fmt::Result {
-    write!(
-        f,
-        "panel3270_session_ends_total{{end=\"closed\",cause=\"{cause}\"}} {count}\n"
-    )
+const CAUSES: [Cause; 10] = [
+    Cause::NoTn3270e,
+    Cause::NoResponses,
+    Cause::BadTalk,
+    Cause::TooMany,
+    Cause::Wire,
+    Cause::BadRecord,
+    Cause::BadInbound,
+    Cause::BadResponse,
+    Cause::Negative,
+    Cause::RuleBroken,
+];
+
+/// The reasons of rejections.
+const REJECTIONS: [&str; 5] = [
+    "DEVICE-IN-USE",
+    "INV-NAME",
+    "INV-DEVICE-TYPE",
+    "UNSUPPORTED-REQ",
+    "other",
+];
+
+/// The reasons of questions that the application didn't answer.
+const FAILURES: [&str; 7] = [
+    "refused",
+    "broken",
+    "timeout",
+    "no-memory",
+    "status",
+    "bad-reply",
+    "left",
+];
+
+/// The bounds of the times from a question to its answer, in seconds.
+const BOUNDS: [&str; 12] = [
+    "0.005", "0.01", "0.025", "0.05", "0.1", "0.25", "0.5", "1", "2.5", "5", "10", "30",
+];
+
+/// The page: what was counted, and the process.
+#[derive(Clone, Copy)]
+pub struct MetricsPage {
+    pub metrics: Metrics,
+    /// The program's version.
+    pub version: &'static str,
+    /// When the process started, in seconds since 1970 in UTC; None if the clock failed.
+    pub started: Option<i64>,
 }
 
-impl fmt::Display for ClosedCounts {
-    fn fmt<W: fmt::Write>(&self, f: &mut fmt::Formatter<W>) -> fmt::Result {
-        put_closed(f, Cause::NoTn3270e, self.no_tn3270e)?;
-        put_closed(f, Cause::NoResponses, self.no_responses)?;
-        put_closed(f, Cause::BadTalk, self.bad_talk)?;
-        put_closed(f, Cause::TooMany, self.too_many)?;
-        put_closed(f, Cause::Wire, self.wire)?;
-        put_closed(f, Cause::BadRecord, self.bad_record)?;
-        put_closed(f, Cause::BadInbound, self.bad_inbound)?;
-        put_closed(f, Cause::BadResponse, self.bad_response)?;
-        put_closed(f, Cause::Negative, self.negative)?;
-        put_closed(f, Cause::RuleBroken, self.rule_broken)
-    }
-}
-
-impl fmt::Display for EndCounts {
-    fn fmt<W: fmt::Write>(&self, f: &mut fmt::Formatter<W>) -> fmt::Result {
-        let EndCounts {
-            closed,
-            lost,
-            idle,
-            no_agreement,
-        } = *self;
+impl Metrics {
+    /// Adds the metrics of connections.
+    fn put_sessions<W: fmt::Write>(&self, f: &mut fmt::Formatter<W>) -> fmt::Result {
+        let (current, begun) = (self.current, self.begun);
         write!(
             f,
-            "# HELP panel3270_session_ends_total Connections of terminals that ended, by what ended them.
+            "# HELP panel3270_sessions Connections of terminals that are open.
+# TYPE panel3270_sessions gauge
+panel3270_sessions {current}
+# HELP panel3270_sessions_total Connections of terminals that began.
+# TYPE panel3270_sessions_total counter
+panel3270_sessions_total {begun}
+# HELP panel3270_session_ends_total Connections of terminals that ended, by what ended them.
 # TYPE panel3270_session_ends_total counter
-{closed}panel3270_session_ends_total{{end=\"lost\"}} {lost}
+"
+        )?;
+        for (cause, count) in CAUSES.iter().zip(&self.closed) {
+            write!(
+                f,
+                "panel3270_session_ends_total{{end=\"closed\",cause=\"{cause}\"}} {count}\n"
+            )?;
+        }
+        let (lost, idle, no_agreement) = (self.lost, self.idle, self.no_agreement);
+        let turned_away = self.turned_away;
+        write!(
+            f,
+            "panel3270_session_ends_total{{end=\"lost\"}} {lost}
 panel3270_session_ends_total{{end=\"idle\"}} {idle}
 panel3270_session_ends_total{{end=\"no-agreement\"}} {no_agreement}
-"
-        )
-    }
-}
-
-impl fmt::Display for RejectedCounts {
-    fn fmt<W: fmt::Write>(&self, f: &mut fmt::Formatter<W>) -> fmt::Result {
-        let RejectedCounts {
-            device_in_use,
-            inv_name,
-            inv_device_type,
-            unsupported_req,
-            other,
-        } = *self;
-        write!(
-            f,
-            "# HELP panel3270_rejections_total Rejected requests for an LU, by reason.
+# HELP panel3270_turned_away_total Connections closed at once because no number was free.
+# TYPE panel3270_turned_away_total counter
+panel3270_turned_away_total {turned_away}
+# HELP panel3270_rejections_total Rejected requests for an LU, by reason.
 # TYPE panel3270_rejections_total counter
-panel3270_rejections_total{{reason=\"DEVICE-IN-USE\"}} {device_in_use}
-panel3270_rejections_total{{reason=\"INV-NAME\"}} {inv_name}
-panel3270_rejections_total{{reason=\"INV-DEVICE-TYPE\"}} {inv_device_type}
-panel3270_rejections_total{{reason=\"UNSUPPORTED-REQ\"}} {unsupported_req}
-panel3270_rejections_total{{reason=\"other\"}} {other}
 "
-        )
+        )?;
+        for (reason, count) in REJECTIONS.iter().zip(&self.rejected) {
+            write!(
+                f,
+                "panel3270_rejections_total{{reason=\"{reason}\"}} {count}\n"
+            )?;
+        }
+        Ok(())
     }
-}
 
-impl fmt::Display for TrafficCounts {
-    fn fmt<W: fmt::Write>(&self, f: &mut fmt::Formatter<W>) -> fmt::Result {
-        let TrafficCounts {
-            turns,
-            paints,
-            received,
-            sent,
-        } = *self;
+    /// Adds the metrics of keys, screens and bytes.
+    fn put_traffic<W: fmt::Write>(&self, f: &mut fmt::Formatter<W>) -> fmt::Result {
+        let (dropped_keys, rule_breaks) = (self.dropped_keys, self.rule_breaks);
+        let (turns, paints) = (self.turns, self.paints);
+        let (received, sent) = (self.received, self.sent);
         write!(
             f,
-            "# HELP panel3270_turns_total Screens sent after the first one of a connection.
+            "# HELP panel3270_dropped_keys_total Keys that were dropped because the last one wasn't answered yet.
+# TYPE panel3270_dropped_keys_total counter
+panel3270_dropped_keys_total {dropped_keys}
+# HELP panel3270_rule_breaks_total Terminals that broke a rule that the host verifies.
+# TYPE panel3270_rule_breaks_total counter
+panel3270_rule_breaks_total {rule_breaks}
+# HELP panel3270_turns_total Screens sent after the first one of a connection.
 # TYPE panel3270_turns_total counter
 panel3270_turns_total {turns}
 # HELP panel3270_paints_total Screens sent.
@@ -94,38 +124,76 @@ panel3270_sent_bytes_total {sent}
 "
         )
     }
-}
 
-impl fmt::Display for Metrics {
-    fn fmt<W: fmt::Write>(&self, f: &mut fmt::Formatter<W>) -> fmt::Result {
-        let Metrics {
-            current,
-            begun,
-            ends,
-            turned_away,
-            rejected,
-            dropped_keys,
-            rule_breaks,
-            traffic,
-        } = *self;
+    /// Adds the metrics of questions to the application.
+    fn put_questions<W: fmt::Write>(&self, f: &mut fmt::Formatter<W>) -> fmt::Result {
+        let asked = self.asked;
         write!(
             f,
-            "# HELP panel3270_sessions Connections of terminals that are open.
-# TYPE panel3270_sessions gauge
-panel3270_sessions {current}
-# HELP panel3270_sessions_total Connections of terminals that began.
-# TYPE panel3270_sessions_total counter
-panel3270_sessions_total {begun}
-{ends}# HELP panel3270_turned_away_total Connections closed at once because no number was free.
-# TYPE panel3270_turned_away_total counter
-panel3270_turned_away_total {turned_away}
-{rejected}# HELP panel3270_dropped_keys_total Keys that were dropped because the last one wasn't answered yet.
-# TYPE panel3270_dropped_keys_total counter
-panel3270_dropped_keys_total {dropped_keys}
-# HELP panel3270_rule_breaks_total Terminals that broke a rule that the host verifies.
-# TYPE panel3270_rule_breaks_total counter
-panel3270_rule_breaks_total {rule_breaks}
-{traffic}"
+            "# HELP panel3270_questions_total Questions to the application.
+# TYPE panel3270_questions_total counter
+panel3270_questions_total {asked}
+# HELP panel3270_question_failures_total Questions that the application didn't answer, by reason.
+# TYPE panel3270_question_failures_total counter
+"
+        )?;
+        for (reason, count) in FAILURES.iter().zip(&self.failed) {
+            write!(
+                f,
+                "panel3270_question_failures_total{{reason=\"{reason}\"}} {count}\n"
+            )?;
+        }
+        f.write_str(
+            "# HELP panel3270_answer_seconds Time from a question to the application's answer.
+# TYPE panel3270_answer_seconds histogram
+",
+        )?;
+        let mut count: u64 = 0;
+        for (bound, within) in BOUNDS.iter().zip(&self.answered) {
+            count = count.saturating_add(*within);
+            write!(
+                f,
+                "panel3270_answer_seconds_bucket{{le=\"{bound}\"}} {count}\n"
+            )?;
+        }
+        let count = count.saturating_add(self.answered[BOUNDS.len()]);
+        let (seconds, millis) = (self.answer_millis / 1000, self.answer_millis % 1000);
+        write!(
+            f,
+            "panel3270_answer_seconds_bucket{{le=\"+Inf\"}} {count}
+panel3270_answer_seconds_sum {seconds}.{millis:03}
+panel3270_answer_seconds_count {count}
+"
         )
+    }
+}
+
+impl fmt::Display for MetricsPage {
+    fn fmt<W: fmt::Write>(&self, f: &mut fmt::Formatter<W>) -> fmt::Result {
+        let MetricsPage {
+            metrics,
+            version,
+            started,
+        } = *self;
+        metrics.put_sessions(f)?;
+        metrics.put_traffic(f)?;
+        metrics.put_questions(f)?;
+        write!(
+            f,
+            "# HELP panel3270_build_info The program's version.
+# TYPE panel3270_build_info gauge
+panel3270_build_info{{version=\"{version}\"}} 1
+"
+        )?;
+        match started {
+            Some(seconds) => write!(
+                f,
+                "# HELP process_start_time_seconds Start time of the process since the Unix epoch, in seconds.
+# TYPE process_start_time_seconds gauge
+process_start_time_seconds {seconds}
+"
+            ),
+            None => Ok(()),
+        }
     }
 }

@@ -1,4 +1,4 @@
-//! The lines of a server's log: what became of its connections.
+//! The lines of a server's log: what happened on its connections.
 ghost use Rattle.std.specs.Prelude.{◌≡◌};
 ghost use Rattle.service_events.specs.Notices.{ending_of};
 
@@ -12,7 +12,7 @@ use tn3270e_msg::{Cause, Lu};
 /// A connection: its number, 0 to 63, its session's name, and its peer's address.
 #[derive(Clone, Copy)]
 pub struct Client {
-    /// The number, which later connections have again.
+    /// The connection number, which later connections reuse.
     pub conn: usize,
     /// The session's name, which no other session has.
     pub session: SessionName,
@@ -25,13 +25,13 @@ pub struct Client {
 pub enum Ending {
     /// The host closed it for this cause.
     Closed(Cause),
-    /// It ended or failed.
+    /// The peer closed it, or it failed.
     Lost,
-    /// It was dropped, since this limit had passed.
+    /// It was dropped, because this limit was reached.
     Dropped(Overdue),
 }
 
-/// What a connection took until it was over.
+/// What a connection used until it was over.
 #[derive(Clone, Copy)]
 pub struct Usage {
     /// Whether its terminal was bound to an LU.
@@ -61,13 +61,17 @@ pub enum Notice {
     Bound(Client, Lu),
     /// The host dropped a key that was pressed before the last one was answered.
     KeyDropped(Client, DroppedKey),
-    /// The terminal broke a rule, by which the host closed the connection.
+    /// The terminal broke a rule, and the host closed the connection for that.
     RuleBroken(Client, RuleBreak),
     /// The connection is over.
     Ended(Client, Ending, Usage),
+    /// The application was asked a question.
+    Asked,
+    /// The application's answer was shown, this many milliseconds after the question.
+    Answered(u64),
 }
 
-/// Prints as the keys of a line of the log that begin it.
+/// Prints as the keys that begin a connection's log line.
 impl fmt::Display for Client {
     fn fmt<W: fmt::Write>(&self, f: &mut fmt::Formatter<W>) -> fmt::Result {
         let Client {
@@ -79,7 +83,7 @@ impl fmt::Display for Client {
     }
 }
 
-/// Prints as the event, and its cause if the host closed the connection.
+/// Prints as the event, with its cause if the host closed the connection.
 impl fmt::Display for Ending {
     fn fmt<W: fmt::Write>(&self, f: &mut fmt::Formatter<W>) -> fmt::Result {
         match self {
@@ -94,7 +98,7 @@ impl fmt::Display for Ending {
     }
 }
 
-/// Prints as nothing if the terminal wasn't bound, else after a blank.
+/// Prints as nothing if the terminal wasn't bound to an LU; otherwise begins with a blank.
 impl fmt::Display for Usage {
     fn fmt<W: fmt::Write>(&self, f: &mut fmt::Formatter<W>) -> fmt::Result {
         let Usage {
@@ -114,7 +118,7 @@ impl fmt::Display for Usage {
     }
 }
 
-/// Prints where the server listens, or else an event in logfmt, without the time.
+/// Prints where the server listens, or an event in logfmt, without the time.
 impl fmt::Display for Notice {
     fn fmt<W: fmt::Write>(&self, f: &mut fmt::Formatter<W>) -> fmt::Result {
         match self {
@@ -135,11 +139,13 @@ impl fmt::Display for Notice {
                 write!(f, "{client} event=rule-broken rule={rule} cell={cell}")
             }
             Notice::Ended(client, ending, usage) => write!(f, "{client} event={ending}{usage}"),
+            Notice::Asked => f.write_str("event=asked"),
+            Notice::Answered(millis) => write!(f, "event=answered millis={millis}"),
         }
     }
 }
 
-/// The word of a rule in the log.
+/// The word for a rule in the log.
 fn rule_word(rule: Rule) -> &'static str {
     match rule {
         Rule::Applies => "applies",
@@ -148,7 +154,7 @@ fn rule_word(rule: Rule) -> &'static str {
     }
 }
 
-/// Why a connection is over after a turn of serving, by the phase after the turn; None if it goes on.
+/// Why a connection is over after a turn of serving, given its phase after the turn; None if it continues.
 pub fn ending_of(after: &Phase, served: Served) -> Option<Ending>
     ensures { result ≡ ending_of after.now served }
 {

@@ -1,7 +1,7 @@
-//! What a client of the metrics port is answered: HTTP/1.1 (RFC 9110, RFC 9112), as far as `GET /metrics` needs it.
+//! The answers to a client of the metrics port: the part of HTTP/1.1 (RFC 9110, RFC 9112) that `/metrics` needs.
 ghost use Rattle.std.specs.Prelude.{◌≡◌, ◌≤◌, ◌++◌, [], ℕ, List, Some, IfOk, OnErr, OnOk, length, string_bytes, take};
-ghost use Rattle.httparse.specs.Grammar.{RequestHead, ReadsRequest};
-ghost use Rattle.service_events.specs.Scrapes.{IsAnswerTo, allow_field, body_for, connection_field, content_type, most_fields, is_late, names_metrics, response, status_lines, status_of, status_of_parts, status_text, with_more};
+ghost use Rattle.httparse.specs.Grammar.{RequestHead as Head, ReadsRequest};
+ghost use Rattle.service_events.specs.Scrapes.{IsAnswerTo, allow_field, body_for, connection_field, content_type, most_fields, is_late, method_of, names_metrics, response, sent_body, status_lines, status_of, status_of_parts, status_text, with_more};
 
 use httparse::spans::{EMPTY_HEADER_SPAN, parse_request};
 use httparse::{Error, Status};
@@ -15,47 +15,64 @@ pub(crate) const MOST_HEAD: usize = 4096;
 /// The most header fields of a request.
 const MOST_FIELDS: usize = 64;
 
+/// The methods that /metrics has (RFC 9110, section 9.3).
+#[derive(Clone, Copy)]
+pub enum Method {
+    Get,
+    /// As GET, but the response is sent without its body.
+    Head,
+}
+
 /// The status of a response (RFC 9110, section 15).
 #[derive(Clone, Copy)]
 pub enum HttpStatus {
-    /// 200: the page follows.
-    Found,
-    /// 400: the bytes begin no request.
+    /// 200: the body is the page.
+    Found(Method),
+    /// 400: the bytes don't begin an HTTP request.
     BadRequest,
-    /// 404: another path than /metrics.
+    /// 404: the path is not /metrics.
     NotFound,
-    /// 405: another method than GET.
+    /// 405: the method is neither GET nor HEAD.
     MethodNotAllowed,
     /// 431: the head has too many bytes or fields.
     HeadTooLarge,
 }
 
-/// Whether a request's target is /metrics, with a query or without.
+/// Whether a request's target is /metrics, with or without a query.
 fn names_metrics(target: &[u8]) -> bool
     ensures { result ≡ names_metrics target.now }
 {
     target == b"/metrics".as_slice() || target.starts_with(b"/metrics?")
 }
 
-/// The status for a whole head.
-fn status_of_parts(method: &[u8], target: &[u8]) -> HttpStatus
-    ensures { result ≡ status_of_parts method.now target.now }
+/// The method with this name; None if /metrics doesn't have it.
+fn method_of(name: &[u8]) -> Option<Method>
+    ensures { result ≡ method_of name.now }
 {
-    if method != b"GET".as_slice() {
-        return HttpStatus::MethodNotAllowed;
-    }
-    if names_metrics(target) {
-        HttpStatus::Found
-    } else {
-        HttpStatus::NotFound
+    match name {
+        b"GET" => Some(Method::Get),
+        b"HEAD" => Some(Method::Head),
+        _ => None,
     }
 }
 
-/// The status for what a client has sent so far; None if the head isn't whole yet.
+/// The status for a complete head.
+fn status_of_parts(method: &[u8], target: &[u8]) -> HttpStatus
+    ensures { result ≡ status_of_parts method.now target.now }
+{
+    match method_of(method) {
+        Some(method) if names_metrics(target) => HttpStatus::Found(method),
+        Some(_) => HttpStatus::NotFound,
+        None => HttpStatus::MethodNotAllowed,
+    }
+}
+
+/// The status for the bytes sent so far; None if the head isn't complete yet.
 pub fn status_for(bytes: &[u8]) -> Option<HttpStatus>
     ensures answer { IsAnswerTo bytes.now result }
-    // A whole head with no more fields than that is answered.
-    ensures found { (head : RequestHead) (rest : List ℕ) → ReadsRequest bytes.now head rest → length head.fields ≤ most_fields → result ≡ Some (status_of head) }
+    // A complete head with at most that number of fields is answered.
+    ensures found { (head : Head) (rest : List ℕ) → ReadsRequest bytes.now head rest
+        → length head.fields ≤ most_fields → result ≡ Some (status_of head) }
 {
     let mut headers = [EMPTY_HEADER_SPAN; MOST_FIELDS];
     match parse_request(bytes, &mut headers) {
@@ -70,12 +87,12 @@ pub fn status_for(bytes: &[u8]) -> Option<HttpStatus>
 }
 
 impl HttpStatus {
-    /// Its number and phrase.
+    /// The status number and phrase.
     fn text(self) -> &'static str
         ensures { result.now ≡ status_text self }
     {
         match self {
-            HttpStatus::Found => "200 OK",
+            HttpStatus::Found(_) => "200 OK",
             HttpStatus::BadRequest => "400 Bad Request",
             HttpStatus::NotFound => "404 Not Found",
             HttpStatus::MethodNotAllowed => "405 Method Not Allowed",
@@ -83,12 +100,12 @@ impl HttpStatus {
         }
     }
 
-    /// The field Allow, if a response of this status has it.
+    /// The field Allow, if a response with this status has it.
     fn allow_field(self) -> &'static str
         ensures { result.now ≡ allow_field self }
     {
         match self {
-            HttpStatus::MethodNotAllowed => "Allow: GET\r\n",
+            HttpStatus::MethodNotAllowed => "Allow: GET, HEAD\r\n",
             _ => "",
         }
     }
@@ -104,7 +121,7 @@ fn put_status(text: &mut String, status: HttpStatus) -> Result<(), AllocError>
     write!(text, "HTTP/1.1 {phrase}\r\n{allow}")
 }
 
-/// The type of every response's body: Prometheus' text format.
+/// The Content-Type of every response: Prometheus' text format.
 #[tactic(auto, unfolding(crate::specs::Scrapes::content_type))]
 fn content_type() -> &'static str
     ensures { result.now ≡ content_type }
@@ -120,7 +137,7 @@ fn connection_field() -> &'static str
     "Connection: close\r\n"
 }
 
-/// The fields of every response, with the length of the body, and the empty line.
+/// Adds the fields of every response, with the length of the body in bytes, and the empty line.
 #[derive(Clone, Copy)]
 struct Fields(usize);
 
@@ -142,45 +159,56 @@ impl fmt::Display for Fields {
     }
 }
 
-/// Adds a response with this body.
-fn put_response(text: &mut String, status: HttpStatus, body: &str) -> Result<(), AllocError>
-    ensures { OnOk result (string_bytes text.new ≡ string_bytes text.old ++ response status body.now) }
-{
-    put_status(text, status)?;
-    let fields = Fields(body.len());
-    write!(text, "{fields}{body}")
-}
-
 /// The body of a response: the page of metrics, or nothing.
 fn body_for(status: HttpStatus, page: &str) -> &str
     ensures { result.now ≡ body_for status page.now }
 {
     match status {
-        HttpStatus::Found => page,
+        HttpStatus::Found(_) => page,
         _ => "",
     }
 }
 
-/// The response of a status: that of 200 has the page of metrics, others have no body.
+/// What is sent of the body: nothing to HEAD.
+fn sent_body(status: HttpStatus, page: &str) -> &str
+    ensures { result.now ≡ sent_body status page.now }
+{
+    match status {
+        HttpStatus::Found(Method::Head) => "",
+        status => body_for(status, page),
+    }
+}
+
+/// Adds a response.
+fn put_response(text: &mut String, status: HttpStatus, page: &str) -> Result<(), AllocError>
+    ensures { OnOk result (string_bytes text.new ≡ string_bytes text.old ++ response status page.now) }
+{
+    put_status(text, status)?;
+    let fields = Fields(body_for(status, page).len());
+    let body = sent_body(status, page);
+    write!(text, "{fields}{body}")
+}
+
+/// The response for a status. Only 200 has a body: the page of metrics.
 pub fn response_of(alloc: Global, status: HttpStatus, page: &str) -> Result<String, AllocError>
-    ensures { IfOk result (λ text. string_bytes text ≡ response status (body_for status page.now)) }
+    ensures { IfOk result (λ text. string_bytes text ≡ response status page.now) }
 {
     let mut text = String::new(alloc);
-    put_response(&mut text, status, body_for(status, page))?;
+    put_response(&mut text, status, page)?;
     Ok(text)
 }
 
 /// How long a client may take, in milliseconds.
 const CLIENT_TIME: u64 = 5_000;
 
-/// Whether a client that connected at the first of these times, in milliseconds, has had its time at the second.
+/// Whether the time of a client that connected at `began` is over at `now`, both in milliseconds.
 pub fn is_late(began: u64, now: u64) -> bool
     ensures { result ≡ is_late began now }
 {
     CLIENT_TIME <= now.saturating_sub(began)
 }
 
-/// The front of the bytes, as far as there is room.
+/// The first `room` bytes, or all if there are fewer.
 fn front_of(bytes: &[u8], room: usize) -> &[u8]
     ensures { result.now ≡ take room bytes.now }
 {
@@ -191,13 +219,13 @@ fn front_of(bytes: &[u8], room: usize) -> &[u8]
     }
 }
 
-/// What a client sent so far: the first 4,096 bytes of it at most. Contracts see the bytes.
+/// What a client sent so far: at most its first 4,096 bytes. Contracts see the bytes.
 #[derive(Drop)]
-pub struct Asked {
+pub struct RequestHead {
     bytes: Vec<u8>,
 }
 
-impl Model for Asked {
+impl Model for RequestHead {
     ghost use Rattle.std.specs.Prelude.{ℕ, List, ◌≤◌, length};
     ghost use Rattle.service_events.specs.Scrapes.{most_head};
 
@@ -208,18 +236,18 @@ impl Model for Asked {
     ghost invariant = { λ asked. length asked.bytes.items ≤ most_head };
 }
 
-impl Asked {
-    /// Nothing was sent yet.
-    pub fn new(alloc: Global) -> Asked
+impl RequestHead {
+    /// No bytes yet.
+    pub fn new(alloc: Global) -> RequestHead
         ensures { result ≡ [] }
     {
-        Asked {
+        RequestHead {
             bytes: Vec::new(alloc),
         }
     }
 
-    /// Takes bytes that came, and answers the status for all that came; None if the head isn't whole yet. An error if memory is
-    /// refused: then nothing is taken.
+    /// Takes received bytes, and returns the status for all bytes so far; None if the head isn't complete yet. An error
+    /// if memory is refused: then nothing is taken.
     pub fn take(&mut self, bytes: &[u8]) -> Result<Option<HttpStatus>, AllocError>
         ensures taken { OnOk result (self.new ≡ with_more self.old bytes.now) }
         ensures unchanged { OnErr result (self.new ≡ self.old) }

@@ -15,7 +15,7 @@ use Rattle.shadow.specs.declared.known.Known.TheVariants.{Attr as KnownAttr}
 use Rattle.shadow.specs.Pairs.{Pairwise}
 use Rattle.shadow.specs.Belief.{Fact, Belief}
 use Rattle.shadow.specs.Meets.{FieldMeets}
-use Rattle.shadow.specs.Seen.{known_chars}
+use Rattle.shadow.specs.AfterReadBuffer.{known_chars}
 use Rattle.shadow.specs.Taken.{old_char, field_cells, first_place, laid_out, known_ahead, fact_before}
 use Rattle.shadow.proofs.Pairs.{pairwise-length}
 use Rattle.shadow.proofs.LaidOut.{CellFits, laid_out_fits, first_at, length-field_cells}
@@ -30,9 +30,9 @@ text_inner whole more n (Attr a ∷ rest) h = refl
 record Stands (first : ℕ) (flat : List Known) (place len : ℕ) (fact : Fact) : Type 0 where
   pub front : List Known
   pub attr : Attribute
-  pub mark : MdtState
+  pub mdt : MdtState
   pub others : List Belief
-  pub split : flat ≡ front ++ KnownAttr attr mark ∷ (map old_char (known_chars len fact) ++ flat_map field_cells others)
+  pub split : flat ≡ front ++ KnownAttr attr mdt ∷ (map old_char (known_chars len fact) ++ flat_map field_cells others)
   pub placed : first + length front ≡ place
 
 stands : (whole : List Cell) (n : ℕ) (rest : List Cell) (bs : List Belief) → Pairwise FieldMeets bs (fields_walked whole n rest)
@@ -59,9 +59,9 @@ stands whole n (Attr a ∷ rest) (b ∷ bs) h first front at place len fact e =
           record {
             front = front;
             attr = b.attr;
-            mark = b.mark;
+            mdt = b.mdt;
             others = bs;
-            split = ap (λ (ks : List (Option ℕ)). front ++ KnownAttr b.attr b.mark ∷ (map old_char ks ++ flat_map field_cells bs)) chars;
+            split = ap (λ (ks : List (Option ℕ)). front ++ KnownAttr b.attr b.mdt ∷ (map old_char ks ++ flat_map field_cells bs)) chars;
             placed = omega arith;
           },
           omega arith,
@@ -121,7 +121,7 @@ ring_behind laid flat first size place len fact is whole few within none it =
     let m : ℕ = length it.front + 1 in
     let placed = it.placed in
     let at : place + 1 ≡ first + m = omega arith in
-    let tail : drop m flat ≡ map old_char ks ++ more = ap (drop m) it.split ∙ drop-append-add it.front (KnownAttr it.attr it.mark ∷ (map old_char ks ++ more)) 1 in
+    let tail : drop m flat ≡ map old_char ks ++ more = ap (drop m) it.split ∙ drop-append-add it.front (KnownAttr it.attr it.mdt ∷ (map old_char ks ++ more)) 1 in
     let ring : drop (place + 1) laid ++ laid ≡ drop m flat ++ start = rw (is, at) (turned flat first size m whole few (omega arith)) in
     ap known_ahead (ring ∙ ap (λ (xs : List Known). xs ++ start) tail ∙ append_assoc (map old_char ks) more start) ∙ ahead_of ks (more ++ start) (none_ahead it.others start none)
 

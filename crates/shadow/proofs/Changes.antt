@@ -6,7 +6,7 @@ use Rattle.codes3270.specs.declared.attribute.Cell.{Cell}
 use Rattle.codes3270.specs.declared.attribute.Cell.TheVariants.{Char, Attr as AttrCell}
 use Rattle.shadow.specs.declared.known.Known.{Known}
 use Rattle.shadow.specs.declared.cell_belief.CellBelief.{CellBelief}
-use Rattle.shadow.specs.declared.cell_belief.CellBelief.TheVariants.{Attr, Known as KnownPlace, Told, Unknown}
+use Rattle.shadow.specs.declared.cell_belief.CellBelief.TheVariants.{Attr, Known as KnownPlace, Unplaced, Unknown}
 use Rattle.shadow.specs.declared.cell_belief.BeforeWrite.{BeforeWrite}
 use Rattle.shadow.specs.InPlace.{cell_known, cells_known}
 use Rattle.shadow.specs.Since.{place_stored, place_off, knowledge_of, never, cells_written, IsAsItWas, Since, is_touched, place_settled, settled}
@@ -36,7 +36,7 @@ past_kept place = record { knowledge = knowledge_of place; fresh = false }
 as_it_is : (p : CellBelief) → IsAsItWas p p false
 as_it_is (Attr a m t) = tt
 as_it_is (KnownPlace c) = λ _. refl
-as_it_is (Told c) = λ _. refl
+as_it_is (Unplaced c) = λ _. refl
 as_it_is Unknown = λ _. refl
 
 pub since_start : (ps : List CellBelief) → Since ps ps (map past_kept ps)
@@ -52,7 +52,7 @@ cells_start (p ∷ ps) = ap (λ (cells : List Known). cell_known p false ∷ cel
 off_known : (p : CellBelief) (fresh : Bool) → cell_known (place_off p) fresh ≡ mark_off (cell_known p fresh)
 off_known (Attr a m t) fresh = refl
 off_known (KnownPlace c) fresh = refl
-off_known (Told c) fresh = refl
+off_known (Unplaced c) fresh = refl
 off_known Unknown fresh = refl
 
 pub cells_off : (ps : List CellBelief) (qs : List BeforeWrite) → cells_written (map place_off ps) qs ≡ map mark_off (cells_written ps qs)
@@ -63,7 +63,7 @@ cells_off (p ∷ ps) (q ∷ qs) = ap (λ (k : Known). k ∷ cells_written (map p
 off_as_it_was : (o n : CellBelief) (fresh : Bool) → IsAsItWas o n fresh → IsAsItWas o (place_off n) fresh
 off_as_it_was o (Attr a m t) fresh h = tt
 off_as_it_was o (KnownPlace c) fresh h = h
-off_as_it_was o (Told c) fresh h = h
+off_as_it_was o (Unplaced c) fresh h = h
 off_as_it_was o Unknown fresh h = h
 
 pub since_off : (os ns : List CellBelief) (qs : List BeforeWrite) → Since os ns qs → Since os (map place_off ns) qs
@@ -93,7 +93,7 @@ cells_put ps qs i cell q fresh = cells_set ps qs i (place_stored cell) q ∙ ap 
 fresh_as_it_was : (o n : CellBelief) → IsAsItWas o n true
 fresh_as_it_was o (Attr a m t) = tt
 fresh_as_it_was o (KnownPlace c) = λ e. absurd (cc)
-fresh_as_it_was o (Told c) = λ e. absurd (cc)
+fresh_as_it_was o (Unplaced c) = λ e. absurd (cc)
 fresh_as_it_was o Unknown = λ e. absurd (cc)
 
 pub since_put : (os ns : List CellBelief) (qs : List BeforeWrite) (i : ℕ) (n : CellBelief) (r : BeforeWrite) → r ≡ get_or qs i r → Since os ns qs → Since os (set ns i n) (set qs i (record { knowledge = r.knowledge; fresh = true }))
@@ -147,7 +147,7 @@ touched_on ps qs more others i p q t low few is_p is_q says =
 settled_known : (p : CellBelief) (q : BeforeWrite) (t fresh : Bool) → cell_known (place_settled p q t) fresh ≡ cell_known p fresh
 settled_known (Attr a m s) q t fresh = refl
 settled_known (KnownPlace c) q t fresh = refl
-settled_known (Told c) q t fresh = refl
+settled_known (Unplaced c) q t fresh = refl
 settled_known Unknown q t fresh = refl
 
 -- so no cell is known otherwise

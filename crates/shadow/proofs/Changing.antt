@@ -6,21 +6,21 @@ use Rattle.std.proofs.lemmas.Bool.{ltb-false}
 use Rattle.std.proofs.lemmas.Bool.Decides.{nat_tests}
 use Rattle.codes3270.specs.declared.attribute.Attr.{Attr as Attribute}
 use Rattle.datastream.specs.InboundFields.{Returned}
-use Rattle.shadow.specs.declared.hearing.Unreturned.{Unreturned}
-use Rattle.shadow.specs.declared.hearing.Unreturned.TheVariants.{Stays, IsTold, IsForgotten}
+use Rattle.shadow.specs.declared.apply_inbound.Unreturned.{Unreturned}
+use Rattle.shadow.specs.declared.apply_inbound.Unreturned.TheVariants.{Stays, IsTold, IsForgotten}
 use Rattle.shadow.specs.declared.mdt_state.MdtState.{MdtState}
 use Rattle.shadow.specs.declared.mdt_state.MdtState.TheVariants.{Unknown as UnknownMark}
 use Rattle.shadow.specs.declared.cell_belief.TextKnowledge.{TextKnowledge}
 use Rattle.shadow.specs.declared.cell_belief.TextKnowledge.TheVariants.{Cells, ExactOrNulls, Text, TextOrNulls}
 use Rattle.shadow.specs.declared.cell_belief.CellBelief.{CellBelief}
-use Rattle.shadow.specs.declared.cell_belief.CellBelief.TheVariants.{Attr, Known, Told, Unknown}
+use Rattle.shadow.specs.declared.cell_belief.CellBelief.TheVariants.{Attr, Known, Unplaced, Unknown}
 use Rattle.shadow.specs.Belief.{Fact, Belief, nulls, next_address}
 use Rattle.shadow.specs.Came.{text_at, came_past}
 use Rattle.shadow.specs.Filled.{Fill, Change, filled, fill_next, came_behind, key_changes, after_key, unreturned_by, unreturned_from, unreturned_change, input_change, field_change, long_changes, is_possible, long_after, all_changed, last_fill, front_filled}
 use Rattle.shadow.specs.Heard.{after_attention, after_long, or_nulls, text_fact, unknown_fact, contradicts_text, mark_of}
-use Rattle.shadow.specs.Held.{answer}
+use Rattle.shadow.specs.Borrowed.{answer}
 use Rattle.shadow.specs.InPlace.{chars_known, text_told, fact_told, fact_held, belief_held, beliefs_held, SaysCells, AreHeld, IsHeld, is_whole, known_text}
-use Rattle.shadow.specs.Seen.{known_chars}
+use Rattle.shadow.specs.AfterReadBuffer.{known_chars}
 use Rattle.shadow.specs.Taken.{fact_known, exact_or_any, whole_text}
 use Rattle.shadow.proofs.Passing.{Alike, still_char, still_held, fills, walk_alike, front_walk, last_again, fills_same, fills_unknown, fills_null, fills_chars, fills_text, fills_told, fills_known}
 use Rattle.shadow.proofs.Placed.{exact_held, any_held, no_attribute}
@@ -74,9 +74,9 @@ becomes_text : (text : List ℕ) (ring : List CellBelief) → length text ≤ le
 becomes_text text ring few =
     by_text Text (fills (Fill.Chars text) ring) (length (chars_known ring)) (Fact.Text text) (fills_chars text ring) (ap Fact.Text (fills_text text ring few)) (λ m. refl)
 
-becomes_told : (ring : List CellBelief) → is_whole (chars_known ring) ≡ true → Becomes ExactOrNulls (fills Fill.Told ring) (length (chars_known ring)) (Fact.ExactOrNulls (known_text (chars_known ring)))
+becomes_told : (ring : List CellBelief) → is_whole (chars_known ring) ≡ true → Becomes ExactOrNulls (fills Fill.Unplaced ring) (length (chars_known ring)) (Fact.ExactOrNulls (known_text (chars_known ring)))
 becomes_told ring whole =
-    by_text ExactOrNulls (fills Fill.Told ring) (length (chars_known ring)) (Fact.ExactOrNulls (known_text (chars_known ring))) (fills_told ring) (ap Fact.ExactOrNulls (fills_known ring whole)) (λ m. refl)
+    by_text ExactOrNulls (fills Fill.Unplaced ring) (length (chars_known ring)) (Fact.ExactOrNulls (known_text (chars_known ring))) (fills_told ring) (ap Fact.ExactOrNulls (fills_known ring whole)) (λ m. refl)
 
 -- ---- what isn't returned
 
@@ -107,7 +107,7 @@ unreturned_cells ring says true is true same =
     (becomes_same Cells ring says)
 unreturned_cells ring says true is false same =
     let text = known_text (chars_known ring) in
-    becomes_to ExactOrNulls (fills Fill.Told ring) (length (chars_known ring)) (Fact.ExactOrNulls text) (or_nulls (fact_held Cells ring))
+    becomes_to ExactOrNulls (fills Fill.Unplaced ring) (length (chars_known ring)) (Fact.ExactOrNulls text) (or_nulls (fact_held Cells ring))
     (sym (ap or_nulls (exact_held ring is) ∙ ap (λ (t : Bool). if t then Fact.Exact text else Fact.ExactOrNulls text) same))
     (becomes_told ring is)
 unreturned_cells ring says false is null same =
@@ -151,7 +151,7 @@ field_becomes : (protected erased : Bool) (t : TextKnowledge) (ring : List CellB
 field_becomes true erased t ring text says few = becomes_same t ring says
 field_becomes false erased t ring text says few = input_becomes erased t ring text says few
 
-field_mark : (protected erased : Bool) (t : TextKnowledge) (one : Unreturned) (text : Option (List ℕ)) → (field_change protected erased t one text).mark ≡ mark_of text
+field_mark : (protected erased : Bool) (t : TextKnowledge) (one : Unreturned) (text : Option (List ℕ)) → (field_change protected erased t one text).mdt ≡ mark_of text
 field_mark true erased t one text = refl
 field_mark false erased t one (Some []) = refl
 field_mark false erased t one (Some (c ∷ text)) = refl
@@ -161,7 +161,7 @@ field_mark false false t IsTold None = refl
 field_mark false false t IsForgotten None = refl
 
 abbrev made : ℕ → Attribute → MdtState → ℕ → Fact → Belief
-made place attribute mark count fact = record { place = place; attr = attribute; mark = mark; length = count; fact = fact }
+made place attribute mark count fact = record { place = place; attr = attribute; mdt = mark; length = count; fact = fact }
 
 long_fact : (erased : Bool) (b : Belief) (text : Option (List ℕ)) → FieldFact b.attr.protected erased b.length b.fact text ≡ (after_long erased (answer b text)).fact
 long_fact erased b (Some text) = refl
@@ -169,7 +169,7 @@ long_fact erased b None = refl
 
 belief_long : (erased : Bool) (n : ℕ) (a : Attribute) (m : MdtState) (t : TextKnowledge) (old ring : List CellBelief) (text : Option (List ℕ))
     → Becomes (field_change a.protected erased t (unreturned_by t old) text).knowledge ring (length (chars_known old)) (FieldFact a.protected erased (length (chars_known old)) (fact_held t old) text)
-    → belief_held n a (field_change a.protected erased t (unreturned_by t old) text).mark (field_change a.protected erased t (unreturned_by t old) text).knowledge ring ≡ after_long erased (answer (belief_held n a m t old) text)
+    → belief_held n a (field_change a.protected erased t (unreturned_by t old) text).mdt (field_change a.protected erased t (unreturned_by t old) text).knowledge ring ≡ after_long erased (answer (belief_held n a m t old) text)
 belief_long erased n a m t old ring text h =
     let change = field_change a.protected erased t (unreturned_by t old) text in
     ap (λ (k : MdtState). made n a k (length (chars_known ring)) (fact_held change.knowledge ring)) (field_mark a.protected erased t (unreturned_by t old) text)
@@ -212,9 +212,9 @@ module _ (erased : Bool) (whole after : List CellBelief) (g : Fill) (goes_on : A
   long_each n rs f (Known c ∷ ps) held possible last =
       let more = long_each (n + 1) rs (fill_next f) ps held possible last in
       (no_attribute after n (filled f (Known c)) _ (still_char f (Known c) refl) ∙ more.0, still_held after (filled f (Known c)) _ (still_char f (Known c) refl) more.1)
-  long_each n rs f (Told c ∷ ps) held possible last =
+  long_each n rs f (Unplaced c ∷ ps) held possible last =
       let more = long_each (n + 1) rs (fill_next f) ps held possible last in
-      (no_attribute after n (filled f (Told c)) _ (still_char f (Told c) refl) ∙ more.0, still_held after (filled f (Told c)) _ (still_char f (Told c) refl) more.1)
+      (no_attribute after n (filled f (Unplaced c)) _ (still_char f (Unplaced c) refl) ∙ more.0, still_held after (filled f (Unplaced c)) _ (still_char f (Unplaced c) refl) more.1)
   long_each n rs f (Unknown ∷ ps) held possible last =
       let more = long_each (n + 1) rs (fill_next f) ps held possible last in
       (no_attribute after n (filled f Unknown) _ (still_char f Unknown refl) ∙ more.0, still_held after (filled f Unknown) _ (still_char f Unknown refl) more.1)
@@ -261,8 +261,8 @@ key_becomes false m t ring says = becomes_unknown ring
 
 key_belief : (protected : Bool) (n : ℕ) (a : Attribute) (m : MdtState) (t : TextKnowledge) (old ring : List CellBelief)
     → Becomes (after_key protected m t).knowledge ring (length (chars_known old)) (if protected then fact_held t old else unknown_fact (length (chars_known old)))
-    → belief_held n a (after_key protected m t).mark (after_key protected m t).knowledge ring
-    ≡ (if protected then belief_held n a m t old else record (belief_held n a m t old) { mark = UnknownMark; fact = unknown_fact (length (chars_known old)) })
+    → belief_held n a (after_key protected m t).mdt (after_key protected m t).knowledge ring
+    ≡ (if protected then belief_held n a m t old else record (belief_held n a m t old) { mdt = UnknownMark; fact = unknown_fact (length (chars_known old)) })
 key_belief true n a m t old ring h =
     ap (λ (l : ℕ). made n a m l (fact_held t ring)) h.0 ∙ ap (λ (f : Fact). made n a m (length (chars_known old)) f) h.1
 key_belief false n a m t old ring h =
@@ -279,9 +279,9 @@ module _ (whole after : List CellBelief) (g : Fill) (goes_on : Alike after (fill
   key_each n f (Known c ∷ ps) held last =
       let more = key_each (n + 1) (fill_next f) ps held last in
       (no_attribute after n (filled f (Known c)) _ (still_char f (Known c) refl) ∙ more.0, still_held after (filled f (Known c)) _ (still_char f (Known c) refl) more.1)
-  key_each n f (Told c ∷ ps) held last =
+  key_each n f (Unplaced c ∷ ps) held last =
       let more = key_each (n + 1) (fill_next f) ps held last in
-      (no_attribute after n (filled f (Told c)) _ (still_char f (Told c) refl) ∙ more.0, still_held after (filled f (Told c)) _ (still_char f (Told c) refl) more.1)
+      (no_attribute after n (filled f (Unplaced c)) _ (still_char f (Unplaced c) refl) ∙ more.0, still_held after (filled f (Unplaced c)) _ (still_char f (Unplaced c) refl) more.1)
   key_each n f (Unknown ∷ ps) held last =
       let more = key_each (n + 1) (fill_next f) ps held last in
       (no_attribute after n (filled f Unknown) _ (still_char f Unknown refl) ∙ more.0, still_held after (filled f Unknown) _ (still_char f Unknown refl) more.1)

@@ -24,7 +24,7 @@ doubt_size = attention_size
 once_more : (b : Belief) → after_attention (after_attention b) ≡ after_attention b
 once_more b = cases b.attr.protected refl
   where
-    cases : (p : Bool) → b.attr.protected ≡ p → after_attention (if p then b else record b { mark = Unknown; fact = unknown_fact b.length }) ≡ (if p then b else record b { mark = Unknown; fact = unknown_fact b.length })
+    cases : (p : Bool) → b.attr.protected ≡ p → after_attention (if p then b else record b { mdt = Unknown; fact = unknown_fact b.length }) ≡ (if p then b else record b { mdt = Unknown; fact = unknown_fact b.length })
     cases true e = rw e refl
     cases false e = rw e refl
 

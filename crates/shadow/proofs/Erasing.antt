@@ -12,7 +12,7 @@ use Rattle.datastream.specs.declared.command_code.CommandCode.{CommandCode}
 use Rattle.datastream.specs.declared.command_code.CommandCode.TheVariants.{Write, EraseWrite, EraseWriteAlternate, ReadBuffer, ReadModified, ReadModifiedAll, EraseAllUnprotected}
 use Rattle.datastream.specs.Meaning.{unmodified, prepared, written, cleared, after_code, after_command}
 use Rattle.datastream.specs.declared.order.Order.{Order}
-use Rattle.shadow.specs.Seen.{seen}
+use Rattle.shadow.specs.AfterReadBuffer.{seen}
 use Rattle.shadow.specs.Stores.{stores, is_plain_order, is_plain}
 use Rattle.shadow.specs.Taken.{taken_erase}
 use Rattle.shadow.proofs.Stored.{stored}

@@ -24,7 +24,7 @@ use Rattle.shadow.specs.Pairs.{Pairwise}
 use Rattle.shadow.specs.Belief.{Fact, Belief, Shadow, nulls, fields_of}
 use Rattle.shadow.specs.Meets.{FieldMeets, Holds, told, FieldTold}
 use Rattle.shadow.specs.Heard.{Answer, starts_at, is_nowhere, answer_and, answers, contradicts, was_erased, text_fact, or_nulls, unprotected_fact, after_long, settled, heard_long, unknown_fact, after_attention, heard_attention, heard_short, heard_parts, heard}
-use Rattle.shadow.specs.Seen.{belief_seen, formatted_or, seen, known_chars, denies_buffer}
+use Rattle.shadow.specs.AfterReadBuffer.{belief_seen, formatted_or, seen, known_chars, denies_buffer}
 use Rattle.shadow.specs.Doubt.{DoubtStaysExact, DoubtStaysProtected}
 use Rattle.shadow.specs.Exactness.{IsExact, IsExactWhereKnown, FieldIsExact, IsExactIfProtected, HeardStaysExact, HeardStaysProtected, NothingIsExact, ProtectedSeen, ProtectedIsSeen, ReturnedTold, ReturnedIsTold}
 use Rattle.shadow.proofs.FieldPlaces.{both_false}
@@ -212,7 +212,7 @@ long_exact erased a none h = cases a.field.attr.protected a.text none
 attention_exact : (b : Belief) → FieldIsExact b → FieldIsExact (after_attention b)
 attention_exact b h = cases b.attr.protected
   where
-    cases : (p : Bool) → FieldIsExact (if p then b else record b { mark = Unknown; fact = unknown_fact b.length })
+    cases : (p : Bool) → FieldIsExact (if p then b else record b { mdt = Unknown; fact = unknown_fact b.length })
     cases true = h
     cases false = unknown_exact b.length
 
@@ -240,7 +240,7 @@ long_protected erased a none h p = cases a.field.attr.protected p (h p)
 attention_protected : (b : Belief) → IsExactIfProtected b → IsExactIfProtected (after_attention b)
 attention_protected b h = cases b.attr.protected refl
   where
-    cases : (q : Bool) → b.attr.protected ≡ q → IsExactIfProtected (if q then b else record b { mark = Unknown; fact = unknown_fact b.length })
+    cases : (q : Bool) → b.attr.protected ≡ q → IsExactIfProtected (if q then b else record b { mdt = Unknown; fact = unknown_fact b.length })
     cases true e = h
     cases false e = λ p. absurd (cc)
 

@@ -10,7 +10,7 @@ use Rattle.codes3270.specs.declared.attribute.Attr.{Attr as Attribute}
 use Rattle.codes3270.specs.declared.attribute.Cell.{Cell}
 use Rattle.codes3270.specs.declared.attribute.Cell.TheVariants.{Char, Attr}
 use Rattle.datastream.specs.Fields.{fields, fields_from}
-use Rattle.datastream.specs.Held.{without_mdt}
+use Rattle.datastream.specs.KeptByKeys.{without_mdt}
 use Rattle.datastream.specs.declared.order.Order.{Order}
 use Rattle.datastream.specs.declared.wanted.Want.{Want}
 use Rattle.datastream.specs.declared.wanted.Want.TheVariants.{Char as WantChar, Attr as WantAttr, Keep}
@@ -20,7 +20,7 @@ use Rattle.shadow.specs.declared.known.Known.TheVariants.{Attr as KnownAttr, Cha
 use Rattle.shadow.specs.Pairs.{Pairwise}
 use Rattle.shadow.specs.Belief.{Fact, Belief, Shadow, cells_of_fields}
 use Rattle.shadow.specs.Meets.{FieldMeets}
-use Rattle.shadow.specs.Seen.{known_chars, same_attr}
+use Rattle.shadow.specs.AfterReadBuffer.{known_chars, same_attr}
 use Rattle.shadow.specs.Stores.{Store, store_also}
 use Rattle.shadow.specs.Taken.{laid_out, new_cell, known_stored, mark_off, marks_off_if, known_ahead, fresh_ahead, exact_or_any, fact_known, fact_before, fact_after, belief_after, beliefs_from, known_after, taken}
 use Rattle.shadow.specs.Painted.{keeps_ahead, count_ahead}
@@ -30,7 +30,7 @@ use Rattle.shadow.specs.Exactness.{IsExact, FieldIsExact, IsExactIfProtected, Pr
 use Rattle.shadow.proofs.Pairs.{pairwise-append, pairwise_weaken, pairwise-length, drop_tail, empty}
 use Rattle.shadow.proofs.FieldPlaces.{both_false}
 use Rattle.shadow.proofs.LaidOut.{CellFits, laid_out_fits, fields_size}
-use Rattle.shadow.proofs.Seen.{whole_fresh}
+use Rattle.shadow.proofs.AfterReadBuffer.{whole_fresh}
 use Rattle.shadow.proofs.Keeps.{KeepsChars, keeps_chars, paintable_fits}
 use Rattle.shadow.proofs.Paints.{same_attr_true, put_at, length_more, paints_stores, paint_wcc, erase_erases, painted_if}
 use Rattle.shadow.proofs.Behind.{behind}

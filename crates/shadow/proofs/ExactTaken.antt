@@ -16,7 +16,7 @@ use Rattle.shadow.specs.Taken.{old_char, laid_out, known_ahead, fresh_ahead, and
 use Rattle.codes3270.specs.Size.{cells_in}
 use Rattle.datastream.specs.Screen.{blank_screen}
 use Rattle.shadow.specs.Exactness.{is_erase, IsExactWhereKnown, FieldIsExact, IsExactIfProtected, TakenStaysExact, ErasedIsExact}
-use Rattle.shadow.proofs.Seen.{whole_fresh}
+use Rattle.shadow.proofs.AfterReadBuffer.{whole_fresh}
 use Rattle.shadow.proofs.ExactHeard.{exact_fact, seen_exact, seen_protected}
 
 -- ---- where all characters are known

@@ -16,7 +16,7 @@ use Rattle.shadow.specs.declared.known.Known.TheVariants.{Attr as KnownAttr, Cha
 use Rattle.shadow.specs.Pairs.{Pairwise}
 use Rattle.shadow.specs.Belief.{Belief, Shadow, fields_of}
 use Rattle.shadow.specs.Meets.{FieldMeets, Meets}
-use Rattle.shadow.specs.Seen.{known_chars}
+use Rattle.shadow.specs.AfterReadBuffer.{known_chars}
 use Rattle.shadow.specs.Stores.{Store, stores}
 use Rattle.shadow.specs.Taken.{old_char, laid_out, new_cell, known_stored, marks_off_if, resets, known_ahead, fact_before, fact_after, belief_after, beliefs_from, known_after, after_write, taken_write, taken}
 use Rattle.shadow.specs.Exactness.{IsExact, FieldIsExact, IsExactIfProtected, IsOverCharacter, WrittenStaysProtected}

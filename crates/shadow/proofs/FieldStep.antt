@@ -60,9 +60,9 @@ accepted erased b f h = cases f.attr.mdt refl
     cases true e =
         or_neither _ _ fits
         (and_if _ _ λ p. or_neither _ _
-        (not_off b.mark h.left.attr.mdt h.meets.mark_is (sym (protected_left p).0 ∙ e))
+        (not_off b.mdt h.left.attr.mdt h.meets.mark_is (sym (protected_left p).0 ∙ e))
         (not_denied b.fact f.text (subst (Holds b.fact) (sym (protected_left p).1) h.meets.holds)))
-    cases false e = and_if _ _ λ p. not_on b.mark h.left.attr.mdt h.meets.mark_is (sym (protected_left p).0 ∙ e)
+    cases false e = and_if _ _ λ p. not_on b.mdt h.left.attr.mdt h.meets.mark_is (sym (protected_left p).0 ∙ e)
 
 -- a lost text shows that Erase Input was done
 not_true : (p : Bool) → not p ≡ true → p ≡ false
@@ -83,7 +83,7 @@ lost_shows erased b f h = cases f.attr.mdt refl
     cases true m e = absurd (cc)
     cases false m e =
         let parts = and_parts _ _ e in
-        touched erased h.left f (h.keyed.unprotected (sym is ∙ not_true _ parts.0) m) (on_is_on b.mark h.left.attr.mdt h.meets.mark_is parts.1)
+        touched erased h.left f (h.keyed.unprotected (sym is ∙ not_true _ parts.0) m) (on_is_on b.mdt h.left.attr.mdt h.meets.mark_is parts.1)
 
 text_fact_holds : (n : ℕ) (text t : List ℕ) → length text ≡ n → without_nulls text ≡ t → Holds (text_fact n t) text
 text_fact_holds n text [] e w = null_without text w ∙ ap nulls e

@@ -6,13 +6,13 @@ use Rattle.codes3270.specs.declared.attribute.Cell.TheVariants.{Char}
 use Rattle.codes3270.specs.Attribute.{attr_byte}
 use Rattle.datastream.specs.Screen.{Screen, text_before_attribute}
 use Rattle.datastream.specs.Fields.{Field, fields, fields_from}
-use Rattle.datastream.specs.Held.{without_mdt}
+use Rattle.datastream.specs.KeptByKeys.{without_mdt}
 use Rattle.shadow.specs.declared.mdt_state.MdtState.TheVariants.{Unknown}
 use Rattle.shadow.specs.Pairs.{Pairwise}
 use Rattle.shadow.specs.Belief.{Fact, Belief, Shadow}
 use Rattle.shadow.specs.Meets.{FieldMeets, MarkIs, Holds, KnownIs, Meets, Knows, ListsFields, IsFormatted, FieldTold, IsTold}
 use Rattle.shadow.specs.Heard.{heard_attention, after_attention, unknown_fact}
-use Rattle.shadow.specs.Seen.{mark_seen, belief_seen, formatted_or, seen, same_attr, misses, differs, known_chars, is_other, others, denies_buffer}
+use Rattle.shadow.specs.AfterReadBuffer.{mark_seen, belief_seen, formatted_or, seen, same_attr, misses, differs, known_chars, is_other, others, denies_buffer}
 use Rattle.shadow.proofs.Keyed.{Keyed, FieldKeyed}
 use Rattle.shadow.proofs.Pairs.{nothing_known, all_known}
 use Rattle.shadow.proofs.FieldPlaces.{or_neither}
@@ -42,12 +42,12 @@ attention_field erased b f h = cases b.attr.protected refl
     same_length : length f.text ≡ b.length
     same_length = h.keyed.same_length ∙ h.meets.same_length
 
-    cases : (p : Bool) → b.attr.protected ≡ p → FieldMeets (if p then b else record b { mark = Unknown; fact = unknown_fact b.length }) f
+    cases : (p : Bool) → b.attr.protected ≡ p → FieldMeets (if p then b else record b { mdt = Unknown; fact = unknown_fact b.length }) f
     cases true p = record {
       same_place = h.keyed.same_place ∙ h.meets.same_place;
       same_attr = same;
       same_length = same_length;
-      mark_is = subst (MarkIs b.mark) (sym (h.keyed.protected (sym is ∙ p)).0) h.meets.mark_is;
+      mark_is = subst (MarkIs b.mdt) (sym (h.keyed.protected (sym is ∙ p)).0) h.meets.mark_is;
       holds = subst (Holds b.fact) (sym (h.keyed.protected (sym is ∙ p)).1) h.meets.holds;
     }
     cases false p = record { same_place = h.keyed.same_place ∙ h.meets.same_place; same_attr = same; same_length = same_length; mark_is = tt; holds = unknown_holds b.length f.text same_length }

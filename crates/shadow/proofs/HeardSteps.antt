@@ -7,12 +7,12 @@ use Rattle.datastream.specs.InboundFields.{Returned}
 use Rattle.shadow.specs.declared.fault.HeardFault.{HeardFault}
 use Rattle.shadow.specs.declared.fault.HeardFault.TheVariants.{NoSuchField, Contradiction}
 use Rattle.shadow.specs.declared.cell_belief.CellBelief.{CellBelief}
-use Rattle.shadow.specs.declared.cell_belief.CellBelief.TheVariants.{Attr, Known, Told, Unknown}
+use Rattle.shadow.specs.declared.cell_belief.CellBelief.TheVariants.{Attr, Known, Unplaced, Unknown}
 use Rattle.shadow.specs.Belief.{Belief, Shadow, next_address}
 use Rattle.shadow.specs.Came.{text_at, came_past}
 use Rattle.shadow.specs.Filled.{text_came, came_behind, is_possible, any_lost, long_after, contradicts_held, lost_held}
 use Rattle.shadow.specs.Heard.{Answer, answers, is_nowhere, heard_long, contradicts, contradicts_text, lost_text, was_erased, after_long, settled}
-use Rattle.shadow.specs.Held.{answer}
+use Rattle.shadow.specs.Borrowed.{answer}
 use Rattle.shadow.specs.InPlace.{beliefs_held}
 use Rattle.shadow.proofs.FieldPlaces.{nowhere_more}
 use Rattle.shadow.proofs.Paired.{answers_step}
@@ -25,7 +25,7 @@ module _ (size : ℕ) where
   possible_on whole n (Attr a m t) rest [] = refl
   possible_on whole n (Attr a m t) rest (c ∷ came) = refl
   possible_on whole n (Known c) rest came = refl
-  possible_on whole n (Told c) rest came = refl
+  possible_on whole n (Unplaced c) rest came = refl
   possible_on whole n Unknown rest came = refl
 
   pub possible_step : (whole : List CellBelief) (n : ℕ) (held : CellBelief) (came : List Returned) → n < length whole → held ≡ get_or whole n held
@@ -40,7 +40,7 @@ module _ (size : ℕ) where
       → any_lost size (beliefs_held whole n (held ∷ rest)) came ≡ (lost_held held n (rest ++ whole) (text_came size held n came) || any_lost size (beliefs_held whole (n + 1) rest) (came_behind size held n came))
   lost_on whole n (Attr a m t) rest came = refl
   lost_on whole n (Known c) rest came = refl
-  lost_on whole n (Told c) rest came = refl
+  lost_on whole n (Unplaced c) rest came = refl
   lost_on whole n Unknown rest came = refl
 
   pub lost_step : (whole : List CellBelief) (n : ℕ) (held : CellBelief) (came : List Returned) → n < length whole → held ≡ get_or whole n held

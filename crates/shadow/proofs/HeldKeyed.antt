@@ -8,7 +8,7 @@ use Rattle.codes3270.specs.declared.attribute.Attr.{Attr as Attribute}
 use Rattle.datastream.specs.Screen.{last_attribute, text_before_attribute}
 use Rattle.datastream.specs.Fields.{Field, fields}
 use Rattle.datastream.proofs.FieldWalk.{fields_walked, fields_are_walked}
-use Rattle.datastream.specs.Held.{Hold, hold_of, hold_under, CharHeld, Held}
+use Rattle.datastream.specs.KeptByKeys.{Hold, hold_of, hold_under, CharHeld, KeptByKeys}
 use Rattle.datastream.specs.HeldRound.{HeldFrom, HeldRound}
 use Rattle.datastream.proofs.HeldRounds.{held_round}
 use Rattle.datastream.proofs.Fields.{option_or-none}
@@ -121,5 +121,5 @@ round_keyed e left now r =
           (held_fields e left now (subst (λ h. HeldFrom e h left now) (sym first) r) 0 (hold_under e (last_attribute now)) left now again r)),
     )
 
-pub held_keyed : (e : Bool) (left now : List Cell) → Held e left now → Keyed e left now
+pub held_keyed : (e : Bool) (left now : List Cell) → KeptByKeys e left now → Keyed e left now
 held_keyed e left now held = round_keyed e left now (held_round e left now held)

@@ -6,7 +6,7 @@ use Rattle.std.proofs.lemmas.Bool.{cases_lt, ne_eqb, eq-eqb}
 use Rattle.std.proofs.lemmas.List.{ext_get_or, get_or-append_right, get_or_append_left, get_or-map, get_or-drop, get_or-take, get_or_default, length-map, length-take-le, length-drop, get_or-set_same}
 use Rattle.shadow.specs.declared.cell_belief.CellBelief.{CellBelief}
 use Rattle.shadow.specs.declared.cell_belief.CellBelief.TheVariants.{Known, Unknown}
-use Rattle.shadow.specs.declared.cell_beliefs.Head.{Head}
+use Rattle.shadow.specs.declared.cell_beliefs.AttributeKnowledge.{AttributeKnowledge}
 use Rattle.datastream.specs.CellBits.{has_bit, kept, AreBits}
 use Rattle.datastream.proofs.Keeping.{kept_at, length_kept}
 use Rattle.shadow.specs.PackedBeliefs.{no_head, is_known, place_kept, place_by, MarksKnown}
@@ -51,7 +51,7 @@ module _ (from : ℕ) (text : List ℕ) (ps : List CellBelief) (room : from + le
 
 -- ---- how it is kept
 
-module _ (heads : List Head) (attributes known told bytes : List ℕ) (now : List CellBelief) (view : kept (place_by heads attributes known told) 0 bytes ≡ now) (from : ℕ) (text : List ℕ) (room : from + length text ≤ length bytes)
+module _ (heads : List AttributeKnowledge) (attributes known told bytes : List ℕ) (now : List CellBelief) (view : kept (place_by heads attributes known told) 0 bytes ≡ now) (from : ℕ) (text : List ℕ) (room : from + length text ≤ length bytes)
     (attributes_ known_ bytes_ : List ℕ) (size : length bytes_ ≡ length bytes)
     (bytes_inside : (at : ℕ) → from ≤ at → at < from + length text → get_or bytes_ at 0 ≡ get_or text (at - from) 0) (bytes_apart : (at : ℕ) → IsApart from (from + length text) at → get_or bytes_ at 0 ≡ get_or bytes at 0)
     (attributes_inside : (at : ℕ) → from ≤ at → at < from + length text → has_bit attributes_ at ≡ false) (attributes_apart : (at : ℕ) → IsApart from (from + length text) at → has_bit attributes_ at ≡ has_bit attributes at)

@@ -9,8 +9,8 @@ use Rattle.codes3270.specs.Attribute.{attr_of}
 use Rattle.shadow.specs.declared.mdt_state.MdtState.{MdtState}
 use Rattle.shadow.specs.declared.cell_belief.TextKnowledge.{TextKnowledge}
 use Rattle.shadow.specs.declared.cell_belief.CellBelief.{CellBelief}
-use Rattle.shadow.specs.declared.cell_belief.CellBelief.TheVariants.{Attr, Known, Told, Unknown}
-use Rattle.shadow.specs.declared.cell_beliefs.Head.{Head}
+use Rattle.shadow.specs.declared.cell_belief.CellBelief.TheVariants.{Attr, Known, Unplaced, Unknown}
+use Rattle.shadow.specs.declared.cell_beliefs.AttributeKnowledge.{AttributeKnowledge}
 use Rattle.shadow.specs.InPlace.{is_attribute}
 use Rattle.datastream.specs.CellBits.{has_bit, kept}
 use Rattle.datastream.specs.CellCodes.{cell_of}
@@ -18,7 +18,7 @@ use Rattle.datastream.proofs.Keeping.{length_kept, kept_at, kept_set, kept_all, 
 use Rattle.shadow.specs.PackedBeliefs.{no_head, head_of, with_head, is_known, is_told, place_kept, place_by, MarksKnown}
 
 -- one place is kept anew
-module _ (heads : List Head) (attributes known told attributes_ known_ told_ : List ℕ) (at : ℕ) (p : CellBelief) (within : at < length heads)
+module _ (heads : List AttributeKnowledge) (attributes known told attributes_ known_ told_ : List ℕ) (at : ℕ) (p : CellBelief) (within : at < length heads)
     (attribute_bits : (other : ℕ) → has_bit attributes_ other ≡ (if nat_eq other at then is_attribute p else has_bit attributes other))
     (known_bits : (other : ℕ) → has_bit known_ other ≡ (if nat_eq other at then is_known p else has_bit known other))
     (told_bits : (other : ℕ) → has_bit told_ other ≡ (if nat_eq other at then is_told p else has_bit told other)) where
@@ -62,8 +62,8 @@ marked_set known known_ places at p within marked bits = λ cell inside. elim (c
 ]
 
 -- the same, by what functions answer
-module _ (heads : List Head) (attributes known told bytes : List ℕ) (at : ℕ) (p : CellBelief) (inside : at < length heads) (within : at < length bytes)
-    (head : Head) (is_head : head ≡ head_of p) (byte : ℕ) (is_byte : place_kept (head_of p) (is_attribute p) (is_known p) (is_told p) byte ≡ p)
+module _ (heads : List AttributeKnowledge) (attributes known told bytes : List ℕ) (at : ℕ) (p : CellBelief) (inside : at < length heads) (within : at < length bytes)
+    (head : AttributeKnowledge) (is_head : head ≡ head_of p) (byte : ℕ) (is_byte : place_kept (head_of p) (is_attribute p) (is_known p) (is_told p) byte ≡ p)
     (attributes_ known_ told_ : List ℕ) (a k t : Bool) (is_a : a ≡ is_attribute p) (is_k : k ≡ is_known p) (is_t : t ≡ is_told p)
     (a_bits : (other : ℕ) → has_bit attributes_ other ≡ (if nat_eq other at then a else has_bit attributes other))
     (k_bits : (other : ℕ) → has_bit known_ other ≡ (if nat_eq other at then k else has_bit known other))
@@ -94,12 +94,12 @@ blank_known : (b : Bool) → is_known (blank b) ≡ b
 blank_known true = refl
 blank_known false = refl
 
-blank_kept : (h : Head) (b : Bool) → place_kept h false b false 0 ≡ blank b
+blank_kept : (h : AttributeKnowledge) (b : Bool) → place_kept h false b false 0 ≡ blank b
 blank_kept h true = refl
 blank_kept h false = refl
 
 -- the same everywhere, and no attribute; whatever the heads are
-module _ (n : ℕ) (heads : List Head) (attributes known told bytes : List ℕ) (b : Bool)
+module _ (n : ℕ) (heads : List AttributeKnowledge) (attributes known told bytes : List ℕ) (b : Bool)
     (attribute_bits : (cell : ℕ) → cell < n → has_bit attributes cell ≡ false)
     (known_bits : (cell : ℕ) → cell < n → has_bit known cell ≡ b)
     (told_bits : (cell : ℕ) → cell < n → has_bit told cell ≡ false)
@@ -123,20 +123,20 @@ module _ (n : ℕ) (heads : List Head) (attributes known told bytes : List ℕ) 
 
 -- ---- what is read at an address
 
-module _ (heads : List Head) (attributes known told bytes : List ℕ) (at : ℕ) (within : at < length bytes) (now : List CellBelief)
+module _ (heads : List AttributeKnowledge) (attributes known told bytes : List ℕ) (at : ℕ) (within : at < length bytes) (now : List CellBelief)
     (view : kept (place_by heads attributes known told) 0 bytes ≡ now) where
   place_read : (p : CellBelief) → p ≡ place_kept (get_or heads at no_head) (has_bit attributes at) (has_bit known at) (has_bit told at) (get_or bytes at 0) → p ≡ get_or now at p
   place_read p is =
       is ∙ sym (kept_at (place_by heads attributes known told) bytes at (get_or bytes at 0) p within (get_or_default bytes at 0 (get_or bytes at 0) within))
       ∙ ap (λ (ps : List CellBelief). get_or ps at p) view
 
-  pub attribute_read : at < length heads → (d : Head) (attribute : Attribute) → cell_of (has_bit attributes at) (get_or bytes at 0) ≡ AttrCell attribute
-      → Attr attribute (get_or heads at d).mark (get_or heads at d).knowledge ≡ get_or now at (Attr attribute (get_or heads at d).mark (get_or heads at d).knowledge)
+  pub attribute_read : at < length heads → (d : AttributeKnowledge) (attribute : Attribute) → cell_of (has_bit attributes at) (get_or bytes at 0) ≡ AttrCell attribute
+      → Attr attribute (get_or heads at d).mdt (get_or heads at d).knowledge ≡ get_or now at (Attr attribute (get_or heads at d).mdt (get_or heads at d).knowledge)
   attribute_read inside d attribute is =
       let got = attribute_got (has_bit attributes at) (get_or bytes at 0) attribute is in
-      place_read (Attr attribute (get_or heads at d).mark (get_or heads at d).knowledge)
-      (ap (λ (x : Attribute). Attr x (get_or heads at d).mark (get_or heads at d).knowledge) got.1
-      ∙ ap (λ (h : Head). Attr (attr_of (get_or bytes at 0)) h.mark h.knowledge) (get_or_default heads at d no_head inside)
+      place_read (Attr attribute (get_or heads at d).mdt (get_or heads at d).knowledge)
+      (ap (λ (x : Attribute). Attr x (get_or heads at d).mdt (get_or heads at d).knowledge) got.1
+      ∙ ap (λ (h : AttributeKnowledge). Attr (attr_of (get_or bytes at 0)) h.mdt h.knowledge) (get_or_default heads at d no_head inside)
       ∙ sym (ap (λ b. place_kept (get_or heads at no_head) b (has_bit known at) (has_bit told at) (get_or bytes at 0)) got.0))
 
   pub known_read : (char : ℕ) → cell_of (has_bit attributes at) (get_or bytes at 0) ≡ CharCell char → has_bit known at ≡ true → Known char ≡ get_or now at (Known char)
@@ -147,11 +147,11 @@ module _ (heads : List Head) (attributes known told bytes : List ℕ) (at : ℕ)
       ∙ sym (ap (λ b. place_kept (get_or heads at no_head) b (has_bit known at) (has_bit told at) (get_or bytes at 0)) got.0
       ∙ ap (λ b. place_kept (get_or heads at no_head) false b (has_bit told at) (get_or bytes at 0)) k))
 
-  pub told_read : (char : ℕ) → cell_of (has_bit attributes at) (get_or bytes at 0) ≡ CharCell char → has_bit known at ≡ false → has_bit told at ≡ true → Told char ≡ get_or now at (Told char)
+  pub told_read : (char : ℕ) → cell_of (has_bit attributes at) (get_or bytes at 0) ≡ CharCell char → has_bit known at ≡ false → has_bit told at ≡ true → Unplaced char ≡ get_or now at (Unplaced char)
   told_read char is k t =
       let got = character_got (has_bit attributes at) (get_or bytes at 0) char is in
-      place_read (Told char)
-      (ap Told (sym got.1)
+      place_read (Unplaced char)
+      (ap Unplaced (sym got.1)
       ∙ sym (ap (λ b. place_kept (get_or heads at no_head) b (has_bit known at) (has_bit told at) (get_or bytes at 0)) got.0
       ∙ ap (λ b. place_kept (get_or heads at no_head) false b (has_bit told at) (get_or bytes at 0)) k
       ∙ ap (λ b. place_kept (get_or heads at no_head) false false b (get_or bytes at 0)) t))
@@ -176,7 +176,7 @@ size_kept f bytes now view = sym (ap length view) ∙ length_kept f 0 bytes
 
 -- ---- the head of an attribute is held anew
 
-headed_kept : (h : Head) (m : MdtState) (u : TextKnowledge) (a k t : Bool) (byte : ℕ) → place_kept (record { mark = m; knowledge = u }) a k t byte ≡ with_head m u (place_kept h a k t byte)
+headed_kept : (h : AttributeKnowledge) (m : MdtState) (u : TextKnowledge) (a k t : Bool) (byte : ℕ) → place_kept (record { mdt = m; knowledge = u }) a k t byte ≡ with_head m u (place_kept h a k t byte)
 headed_kept h m u true k t byte = refl
 headed_kept h m u false true t byte = refl
 headed_kept h m u false false true byte = refl
@@ -185,20 +185,20 @@ headed_kept h m u false false false byte = refl
 headed_known : (m : MdtState) (u : TextKnowledge) (p : CellBelief) → is_known (with_head m u p) ≡ is_known p
 headed_known m u (Attr a n v) = refl
 headed_known m u (Known c) = refl
-headed_known m u (Told c) = refl
+headed_known m u (Unplaced c) = refl
 headed_known m u Unknown = refl
 
-module _ (heads : List Head) (attributes known told bytes : List ℕ) (at : ℕ) (inside : at < length heads) (within : at < length bytes) (m : MdtState) (u : TextKnowledge) (now : List CellBelief)
+module _ (heads : List AttributeKnowledge) (attributes known told bytes : List ℕ) (at : ℕ) (inside : at < length heads) (within : at < length bytes) (m : MdtState) (u : TextKnowledge) (now : List CellBelief)
     (view : kept (place_by heads attributes known told) 0 bytes ≡ now) where
-  abbrev head : Head
-  head = record { mark = m; knowledge = u }
+  abbrev head : AttributeKnowledge
+  head = record { mdt = m; knowledge = u }
 
   abbrev old_one : CellBelief
   old_one = get_or now at Unknown
 
   one_is : place_by (set heads at head) attributes known told at (get_or bytes at 0) ≡ with_head m u old_one
   one_is =
-      ap (λ (h : Head). place_kept h (has_bit attributes at) (has_bit known at) (has_bit told at) (get_or bytes at 0)) (get_or-set_same heads at head no_head inside)
+      ap (λ (h : AttributeKnowledge). place_kept h (has_bit attributes at) (has_bit known at) (has_bit told at) (get_or bytes at 0)) (get_or-set_same heads at head no_head inside)
       ∙ headed_kept (get_or heads at no_head) m u (has_bit attributes at) (has_bit known at) (has_bit told at) (get_or bytes at 0)
       ∙ ap (with_head m u) (sym (kept_at (place_by heads attributes known told) bytes at (get_or bytes at 0) Unknown within (get_or_default bytes at 0 (get_or bytes at 0) within)) ∙ ap (λ (ps : List CellBelief). get_or ps at Unknown) view)
 
@@ -206,7 +206,7 @@ module _ (heads : List Head) (attributes known told bytes : List ℕ) (at : ℕ)
   head_kept =
       ap (kept (place_by (set heads at head) attributes known told) 0) (sym (set-get_or bytes at 0))
       ∙ kept_set (place_by heads attributes known told) (place_by (set heads at head) attributes known told) bytes at (get_or bytes at 0) (with_head m u old_one)
-      (λ j byte apart. ap (λ (h : Head). place_kept h (has_bit attributes j) (has_bit known j) (has_bit told j) byte) (get_or-set_other heads at j head no_head apart)) one_is
+      (λ j byte apart. ap (λ (h : AttributeKnowledge). place_kept h (has_bit attributes j) (has_bit known j) (has_bit told j) byte) (get_or-set_other heads at j head no_head apart)) one_is
       ∙ ap (λ (ps : List CellBelief). set ps at (with_head m u old_one)) view
 
   pub head_marked : MarksKnown known now → MarksKnown known (kept (place_by (set heads at head) attributes known told) 0 bytes)

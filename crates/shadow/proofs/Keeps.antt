@@ -16,7 +16,7 @@ use Rattle.datastream.specs.declared.wanted.Want.TheVariants.{Char as WantChar, 
 use Rattle.shadow.specs.Pairs.{Pairwise}
 use Rattle.shadow.specs.Belief.{Fact, Belief, Shadow, fields_of, cells_of_fields}
 use Rattle.shadow.specs.Meets.{FieldMeets}
-use Rattle.shadow.specs.Seen.{same_attr}
+use Rattle.shadow.specs.AfterReadBuffer.{same_attr}
 use Rattle.shadow.specs.Taken.{fact_before}
 use Rattle.shadow.specs.Painted.{keeps_ahead, count_ahead}
 use Rattle.shadow.specs.Fits.{is_keep, is_attribute, is_field, fits_field, fits_from, fields_fit, fits, is_paintable}

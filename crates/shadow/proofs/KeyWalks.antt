@@ -5,7 +5,7 @@ use Rattle.codes3270.specs.declared.attribute.Attr.{Attr as Attribute}
 use Rattle.shadow.specs.declared.mdt_state.MdtState.{MdtState}
 use Rattle.shadow.specs.declared.cell_belief.TextKnowledge.{TextKnowledge}
 use Rattle.shadow.specs.declared.cell_belief.CellBelief.{CellBelief}
-use Rattle.shadow.specs.declared.cell_belief.CellBelief.TheVariants.{Attr, Known, Told, Unknown}
+use Rattle.shadow.specs.declared.cell_belief.CellBelief.TheVariants.{Attr, Known, Unplaced, Unknown}
 use Rattle.shadow.specs.Filled.{Fill, Change, filled, fill_next, fill_after, changed, key_change, key_changes, all_changed, last_fill, front_filled}
 use Rattle.shadow.specs.InPlace.{chars_known}
 use Rattle.shadow.proofs.Passing.{fills}
@@ -28,7 +28,7 @@ walk_passed : (f : Fill) (ps : List CellBelief) → (let k = length (chars_known
 walk_passed f [] = refl
 walk_passed f (Attr a m t ∷ ps) = refl
 walk_passed f (Known c ∷ ps) = walk_on f (Known c) ps (walk_passed (fill_next f) ps)
-walk_passed f (Told c ∷ ps) = walk_on f (Told c) ps (walk_passed (fill_next f) ps)
+walk_passed f (Unplaced c ∷ ps) = walk_on f (Unplaced c) ps (walk_passed (fill_next f) ps)
 walk_passed f (Unknown ∷ ps) = walk_on f Unknown ps (walk_passed (fill_next f) ps)
 
 fill_on : (f : Fill) (ps : List CellBelief) → (let k = length (chars_known ps) in walk_fill (fill_next f) ps ≡ walk_fill (fill_after k (fill_next f)) (drop k ps))
@@ -39,14 +39,14 @@ fill_passed : (f : Fill) (ps : List CellBelief) → (let k = length (chars_known
 fill_passed f [] = fill_here f
 fill_passed f (Attr a m t ∷ ps) = refl
 fill_passed f (Known c ∷ ps) = fill_on f ps (fill_passed (fill_next f) ps)
-fill_passed f (Told c ∷ ps) = fill_on f ps (fill_passed (fill_next f) ps)
+fill_passed f (Unplaced c ∷ ps) = fill_on f ps (fill_passed (fill_next f) ps)
 fill_passed f (Unknown ∷ ps) = fill_on f ps (fill_passed (fill_next f) ps)
 
 length-front : (f : Fill) (ps : List CellBelief) → length (front_filled f ps) ≡ length ps
 length-front f [] = refl
 length-front f (Attr a m t ∷ ps) = refl
 length-front f (Known c ∷ ps) = ap suc (length-front (fill_next f) ps)
-length-front f (Told c ∷ ps) = ap suc (length-front (fill_next f) ps)
+length-front f (Unplaced c ∷ ps) = ap suc (length-front (fill_next f) ps)
 length-front f (Unknown ∷ ps) = ap suc (length-front (fill_next f) ps)
 
 module _ (whole : List CellBelief) where
@@ -81,7 +81,7 @@ module _ (whole : List CellBelief) where
   -- the places after a field's step, by what stands before its attribute, and behind
   module _ (at k : ℕ) (xs rest : List CellBelief) (a : Attribute) (m : MdtState) (t : TextKnowledge) (one : Change) (before : length xs ≡ at) (count : k ≡ length (chars_known rest)) where
     abbrev new : CellBelief
-    new = Attr a one.mark one.knowledge
+    new = Attr a one.mdt one.knowledge
 
     stepped : (f : Fill) (now after : List CellBelief) → Between f at now → now ≡ xs ++ Attr a m t ∷ rest → drop at now ≡ Attr a m t ∷ rest
         → one ≡ key_change (Attr a m t) → after ≡ xs ++ new ∷ front_filled one.fill rest → take at now ≡ xs → Between (fill_after k one.fill) (at + 1 + k) after
@@ -93,7 +93,7 @@ module _ (whole : List CellBelief) where
           walked = h.walked
               ∙ ap (λ (qs : List CellBelief). qs ++ walk f (drop at now)) is_taken
               ∙ ap (λ (qs : List CellBelief). xs ++ walk f qs) here
-              ∙ ap (λ (c : Change). xs ++ Attr a c.mark c.knowledge ∷ walk c.fill rest) (sym is_one)
+              ∙ ap (λ (c : Change). xs ++ Attr a c.mdt c.knowledge ∷ walk c.fill rest) (sym is_one)
               ∙ ap (λ (qs : List CellBelief). xs ++ new ∷ qs) (walk_passed one.fill rest)
               ∙ ap (λ (n : ℕ). xs ++ new ∷ (fills one.fill rest ++ walk (fill_after n one.fill) (drop n rest))) (sym count)
               ∙ sym (append_assoc xs (new ∷ fills one.fill rest) (walk (fill_after k one.fill) (drop k rest)))
@@ -126,7 +126,7 @@ module _ (whole : List CellBelief) where
           → (let put = set now at (changed p f one) in after ≡ take (at + 1) put ++ front_filled one.fill (drop (at + 1) put)) → Between (fill_after k one.fill) (at + 1 + k) after
       by_place (Attr a m t) there stands is_one is_after =
           stepped at k (take at now) (drop (at + 1) now) a m t one (length-take-le at now (omega arith)) count f now after h
-          (sym (take-append-drop at now) ∙ ap (λ (qs : List CellBelief). take at now ++ qs) there) there is_one (is_after ∙ put_parts (Attr a one.mark one.knowledge) one.fill) refl
+          (sym (take-append-drop at now) ∙ ap (λ (qs : List CellBelief). take at now ++ qs) there) there is_one (is_after ∙ put_parts (Attr a one.mdt one.knowledge) one.fill) refl
       by_place (Known c) there stands is_one is_after = absurd (let no = ap (λ (qs : List CellBelief). length (chars_known qs)) there in omega arith)
-      by_place (Told c) there stands is_one is_after = absurd (let no = ap (λ (qs : List CellBelief). length (chars_known qs)) there in omega arith)
+      by_place (Unplaced c) there stands is_one is_after = absurd (let no = ap (λ (qs : List CellBelief). length (chars_known qs)) there in omega arith)
       by_place Unknown there stands is_one is_after = absurd (let no = ap (λ (qs : List CellBelief). length (chars_known qs)) there in omega arith)

@@ -5,11 +5,11 @@ use Rattle.std.proofs.lemmas.Option.{same_Some}
 use Rattle.codes3270.specs.declared.attribute.Attr.{Attr as Attribute}
 use Rattle.codes3270.specs.declared.attribute.Cell.{Cell}
 use Rattle.codes3270.specs.declared.attribute.Cell.TheVariants.{Char, Attr}
-use Rattle.datastream.specs.Held.{without_mdt}
+use Rattle.datastream.specs.KeptByKeys.{without_mdt}
 use Rattle.datastream.specs.Screen.{Screen}
 use Rattle.shadow.specs.declared.known.Known.{Known}
 use Rattle.shadow.specs.declared.known.Known.TheVariants.{Attr as KnownAttr, Char as KnownChar}
-use Rattle.shadow.specs.Asked.{known_cell, known_cells}
+use Rattle.shadow.specs.Queries.{known_cell, known_cells}
 use Rattle.shadow.specs.Belief.{Shadow, cells_of_fields}
 use Rattle.shadow.specs.Heard.{is_on}
 use Rattle.shadow.specs.Laws.{IsSameCell, KnownIsThere, AttributesAreKnown}

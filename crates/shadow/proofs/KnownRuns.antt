@@ -7,9 +7,9 @@ use Rattle.codes3270.specs.declared.attribute.Cell.TheVariants.{Char, Attr as At
 use Rattle.datastream.specs.CellBits.{AreBits}
 use Rattle.datastream.specs.Screen.{text_before_attribute}
 use Rattle.shadow.specs.declared.cell_belief.CellBelief.{CellBelief}
-use Rattle.shadow.specs.declared.cell_belief.CellBelief.TheVariants.{Attr, Known, Told, Unknown}
+use Rattle.shadow.specs.declared.cell_belief.CellBelief.TheVariants.{Attr, Known, Unplaced, Unknown}
 use Rattle.shadow.specs.InPlace.{chars_known, known_text}
-use Rattle.shadow.specs.Seen.{differs}
+use Rattle.shadow.specs.AfterReadBuffer.{differs}
 use Rattle.shadow.specs.Since.{places_stored}
 use Rattle.shadow.proofs.Looking.{not_clear, bit_true}
 use Rattle.shadow.proofs.Reading.{read_text}
@@ -25,7 +25,7 @@ words_set has size word at to count fits bits clear within few cell above below 
 abbrev char_of : CellBelief → ℕ
 char_of (Attr a m t) = 0
 char_of (Known c) = c
-char_of (Told c) = 0
+char_of (Unplaced c) = 0
 char_of Unknown = 0
 
 pub known_run : (ps : List CellBelief) (text : List ℕ) → length (chars_known ps) ≡ length text → ((j : ℕ) → j < length text → get_or ps j Unknown ≡ Known (get_or text j 0)) → chars_known ps ≡ map Some text
@@ -34,12 +34,12 @@ known_run [] (c ∷ text) even each = absurd (omega arith)
 known_run (Attr a m t ∷ ps) [] even each = refl
 known_run (Attr a m t ∷ ps) (c ∷ text) even each = absurd (omega arith)
 known_run (Known b ∷ ps) [] even each = absurd (omega arith)
-known_run (Told b ∷ ps) [] even each = absurd (omega arith)
+known_run (Unplaced b ∷ ps) [] even each = absurd (omega arith)
 known_run (Unknown ∷ ps) [] even each = absurd (omega arith)
 known_run (Known b ∷ ps) (c ∷ text) even each =
     ap (λ (ks : List (Option ℕ)). Some b ∷ ks) (known_run ps text (omega arith) (λ j low. each (suc j) (omega arith)))
     ∙ ap (λ (d : ℕ). Some d ∷ map Some text) (ap char_of (each 0 (omega arith)))
-known_run (Told b ∷ ps) (c ∷ text) even each = absurd (let no = each 0 (omega arith) in cc)
+known_run (Unplaced b ∷ ps) (c ∷ text) even each = absurd (let no = each 0 (omega arith) in cc)
 known_run (Unknown ∷ ps) (c ∷ text) even each = absurd (let no = each 0 (omega arith) in cc)
 
 -- an attribute ends them
@@ -47,7 +47,7 @@ chars_inner : (xs ys : List CellBelief) → length (chars_known xs) < length xs 
 chars_inner [] ys low = absurd (omega arith)
 chars_inner (Attr a m t ∷ xs) ys low = refl
 chars_inner (Known c ∷ xs) ys low = ap (λ (ks : List (Option ℕ)). Some c ∷ ks) (chars_inner xs ys (omega arith))
-chars_inner (Told c ∷ xs) ys low = ap (λ (ks : List (Option ℕ)). None ∷ ks) (chars_inner xs ys (omega arith))
+chars_inner (Unplaced c ∷ xs) ys low = ap (λ (ks : List (Option ℕ)). None ∷ ks) (chars_inner xs ys (omega arith))
 chars_inner (Unknown ∷ xs) ys low = ap (λ (ks : List (Option ℕ)). None ∷ ks) (chars_inner xs ys (omega arith))
 
 text_inner : (xs ys : List Cell) → length (text_before_attribute xs) < length xs → text_before_attribute (xs ++ ys) ≡ text_before_attribute xs

@@ -19,7 +19,7 @@ use Rattle.shadow.specs.declared.known.Known.{Known}
 use Rattle.shadow.specs.Pairs.{Pairwise}
 use Rattle.shadow.specs.Belief.{Belief, Shadow, cells_of_fields}
 use Rattle.shadow.specs.Meets.{FieldMeets, KnownIs, Meets}
-use Rattle.shadow.specs.Seen.{known_chars, seen}
+use Rattle.shadow.specs.AfterReadBuffer.{known_chars, seen}
 use Rattle.shadow.specs.Stores.{stores, stores_unplaced, is_plain_order, is_plain}
 use Rattle.shadow.specs.Taken.{old_char, field_cells, first_place, laid_out, marks_off_if, believed, known_after, after_write, taken_write, taken}
 use Rattle.shadow.specs.Laws.{WrittenIsTaken}

@@ -11,7 +11,7 @@ pub mod TakenMeets
 pub mod LaidOut
 pub mod Keeps
 pub mod Paints
-pub mod Seen
+pub mod AfterReadBuffer
 pub mod Erasing
 pub mod Paired
 pub mod Appendings

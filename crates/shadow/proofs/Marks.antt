@@ -2,7 +2,7 @@
 use Rattle.std.proofs.Common.{◌≡◌, ℕ, zero, suc, ◌+◌, ◌<◌, List, [], ◌∷◌, ◌++◌, length, map, take, drop, set, get_or, refl, ap, sym, arith, ◌∙◌, append_assoc}
 use Rattle.std.proofs.Math.Seq.{take-add}
 use Rattle.shadow.specs.declared.cell_belief.CellBelief.{CellBelief}
-use Rattle.shadow.specs.declared.cell_belief.CellBelief.TheVariants.{Attr, Known, Told, Unknown}
+use Rattle.shadow.specs.declared.cell_belief.CellBelief.TheVariants.{Attr, Known, Unplaced, Unknown}
 use Rattle.shadow.specs.declared.cell_belief.TextKnowledge.{TextKnowledge}
 use Rattle.shadow.specs.declared.mdt_state.MdtState.TheVariants.{Off}
 use Rattle.shadow.specs.InPlace.{chars_known}
@@ -15,7 +15,7 @@ chars_off : (ps : List CellBelief) → (let k = length (chars_known ps) in map p
 chars_off [] = refl
 chars_off (Attr a m t ∷ ps) = refl
 chars_off (Known c ∷ ps) = ap (λ (rs : List CellBelief). Known c ∷ rs) (chars_off ps)
-chars_off (Told c ∷ ps) = ap (λ (rs : List CellBelief). Told c ∷ rs) (chars_off ps)
+chars_off (Unplaced c ∷ ps) = ap (λ (rs : List CellBelief). Unplaced c ∷ rs) (chars_off ps)
 chars_off (Unknown ∷ ps) = ap (λ (rs : List CellBelief). Unknown ∷ rs) (chars_off ps)
 
 -- so the walk goes on at the next attribute

@@ -10,7 +10,7 @@ use Rattle.datastream.specs.Note.{IsNoteOrder, IsNote, places_from_on, places_no
 use Rattle.datastream.specs.Screen.{Screen, is_char_at, attribute_over, protects}
 use Rattle.datastream.specs.declared.command_code.CommandCode.{CommandCode}
 use Rattle.datastream.specs.declared.order.Order.{Order}
-use Rattle.datastream.specs.declared.order.Order.TheVariants.{Sf, Sba, Ic, Pt, Ra, Eua, Char as Data}
+use Rattle.datastream.specs.declared.order.Order.TheVariants.{Sf, Sba, Ic, Pt, Ra, Eua, Char as CharData}
 use Rattle.datastream.proofs.FieldViews.{none_governs}
 use Rattle.shadow.specs.Belief.{next_address}
 use Rattle.shadow.specs.Notes.{IsOutsideInput, IsOverProtected, OverwritesProtected, NoteOverwritesProtected, NoteOverwritesBare}
@@ -18,7 +18,7 @@ use Rattle.shadow.specs.Stores.{stores, stores_unplaced, is_plain_order}
 use Rattle.shadow.specs.Taken.{resets}
 
 plain_order : (order : Order) → IsNoteOrder order → is_plain_order order ≡ true
-plain_order (Data byte) h = refl
+plain_order (CharData byte) h = refl
 plain_order (Sba address) h = refl
 plain_order (Sf attribute) h = absurd h
 plain_order Ic h = absurd h
@@ -38,11 +38,11 @@ IsOutside cells at = (is_char_at cells at ≡ true) × IsOutsideInput (attribute
 over_each : (Q : ℕ → Type 0) (cells : List Cell) → ((at : ℕ) → Q at → IsOutside cells at) → (at : ℕ) (orders : List Order) → All IsNoteOrder orders → All Q (places_from_on (length cells) at orders)
     → All (IsOverProtected cells) (stores (length cells) at orders)
 over_each Q cells outside at [] note h = All-nil (IsOverProtected cells)
-over_each Q cells outside at (Data byte ∷ orders) note h =
+over_each Q cells outside at (CharData byte ∷ orders) note h =
     let next : ℕ = next_address (length cells) at in
     let here = outside at (All-head Q at (places_from_on (length cells) next orders) h) in
     All-cons (IsOverProtected cells) (record { at = at; cell = Char byte }) (stores (length cells) next orders) ((refl, here.0), here.1)
-    (over_each Q cells outside next orders (All-tail IsNoteOrder (Data byte) orders note) (All-tail Q at (places_from_on (length cells) next orders) h))
+    (over_each Q cells outside next orders (All-tail IsNoteOrder (CharData byte) orders note) (All-tail Q at (places_from_on (length cells) next orders) h))
 over_each Q cells outside at (Sba address ∷ orders) note h = over_each Q cells outside address orders (All-tail IsNoteOrder (Sba address) orders note) h
 over_each Q cells outside at (Sf attribute ∷ orders) note h = absurd (All-head IsNoteOrder (Sf attribute) orders note)
 over_each Q cells outside at (Ic ∷ orders) note h = absurd (All-head IsNoteOrder Ic orders note)

@@ -11,7 +11,7 @@ use Rattle.codes3270.specs.declared.attribute.Cell.TheVariants.{Char, Attr}
 use Rattle.codes3270.specs.declared.write_control.Wcc.{Wcc}
 use Rattle.datastream.specs.Fields.{Field, fields, fields_from}
 use Rattle.datastream.specs.Grammar.{CommandParts, is_write}
-use Rattle.datastream.specs.Held.{without_mdt}
+use Rattle.datastream.specs.KeptByKeys.{without_mdt}
 use Rattle.datastream.specs.Inbound.{without_nulls}
 use Rattle.datastream.specs.Meaning.{unmodified, prepared, written, after_command}
 use Rattle.datastream.specs.Screen.{Screen, is_char, is_char_at, last_attribute, field_text}
@@ -23,10 +23,10 @@ use Rattle.shadow.specs.declared.known.Known.{Known}
 use Rattle.shadow.specs.declared.known.Known.TheVariants.{Attr as KnownAttr, Char as KnownChar}
 use Rattle.shadow.specs.Belief.{Fact, Belief, Shadow, fields_of}
 use Rattle.shadow.specs.Exactness.{IsOverCharacter}
-use Rattle.shadow.specs.Seen.{known_chars}
+use Rattle.shadow.specs.AfterReadBuffer.{known_chars}
 use Rattle.shadow.specs.Meets.{FieldMeets, Holds, KnownIs, Meets, Knows, ListsFields, told, FieldTold, IsTold}
 use Rattle.shadow.specs.Notes.{IsOverProtected, OverwritesProtected, PlacedStaysKnown, NoteStaysListed, NoteStaysTold, NoteStaysExact, NoteOpensNothing, NoteStaysWhole}
-use Rattle.shadow.specs.Openness.{is_any, IsNotOpen, NothingIsOpen}
+use Rattle.shadow.specs.TextUnknown.{is_any, IsNotOpen, NothingIsOpen}
 use Rattle.shadow.specs.Pairs.{Pairwise}
 use Rattle.shadow.specs.Stores.{Store, stores, stores_unplaced, is_plain_order}
 use Rattle.shadow.specs.Taken.{old_char, laid_out, known_stored, marks_off_if, known_ahead, fresh_ahead, fact_known, fact_before, fact_after, beliefs_from, formatted_as, believed, resets, known_after, after_write, taken_write, taken}

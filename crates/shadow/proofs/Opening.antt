@@ -16,8 +16,8 @@ use Rattle.shadow.specs.declared.fault.HeardFault.TheVariants.{Contradiction}
 use Rattle.shadow.specs.Belief.{Fact, Shadow, nulls}
 use Rattle.shadow.specs.Exactness.{is_erase}
 use Rattle.shadow.specs.Heard.{Answer, contradicts, text_fact, or_nulls, unprotected_fact, after_long, heard_short, heard_parts, heard}
-use Rattle.shadow.specs.Seen.{belief_seen, seen, denies_buffer}
-use Rattle.shadow.specs.Openness.{is_any, IsNotOpen, NothingIsOpen, IsLong, LongOpensNothing, ReadLeavesNothingOpen, EraseLeavesNothingOpen, IsClearedBelief, ClearIsHeard}
+use Rattle.shadow.specs.AfterReadBuffer.{belief_seen, seen, denies_buffer}
+use Rattle.shadow.specs.TextUnknown.{is_any, IsNotOpen, NothingIsOpen, IsLong, LongOpensNothing, ReadLeavesNothingOpen, EraseLeavesNothingOpen, IsClearedBelief, ClearIsHeard}
 use Rattle.shadow.specs.Taken.{taken}
 use Rattle.shadow.proofs.ExactHeard.{long_keeps, seen_has}
 

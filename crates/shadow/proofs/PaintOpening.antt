@@ -19,7 +19,7 @@ use Rattle.shadow.specs.Belief.{Fact, Belief, Shadow, cells_of_fields}
 use Rattle.shadow.specs.Exactness.{IsExact, FieldIsExact}
 use Rattle.shadow.specs.Fits.{is_field, fits_field, fits_from, fields_fit}
 use Rattle.shadow.specs.Meets.{FieldMeets}
-use Rattle.shadow.specs.Openness.{is_any, IsNotOpen, NothingIsOpen, keeps_alone, keeps_whole, PaintOpensNothing}
+use Rattle.shadow.specs.TextUnknown.{is_any, IsNotOpen, NothingIsOpen, keeps_alone, keeps_whole, PaintOpensNothing}
 use Rattle.shadow.specs.Paint.{to_store, painting, paint}
 use Rattle.shadow.specs.Painted.{keeps_ahead, count_ahead}
 use Rattle.shadow.specs.Stores.{Store}

@@ -11,7 +11,7 @@ use Rattle.codes3270.specs.declared.attribute.Cell.{Cell}
 use Rattle.codes3270.specs.declared.attribute.Cell.TheVariants.{Char, Attr}
 use Rattle.datastream.specs.FieldLaws.{IsFieldOf}
 use Rattle.datastream.specs.Fields.{Field, fields}
-use Rattle.datastream.specs.Held.{without_mdt}
+use Rattle.datastream.specs.KeptByKeys.{without_mdt}
 use Rattle.datastream.specs.Screen.{Screen, is_char, is_char_at, field_text, text_before_attribute}
 use Rattle.datastream.specs.Wanted.{WantedScreen}
 use Rattle.datastream.specs.declared.wanted.Want.{Want}
@@ -24,7 +24,7 @@ use Rattle.shadow.specs.Meets.{FieldMeets, Meets}
 use Rattle.shadow.specs.Painted.{attr_or_kept, cells_under, count_ahead, keeps_ahead, painted_from, plainly_painted}
 use Rattle.shadow.specs.PaintedFields.{HasField, KeptStaysThere, StaysThere, WantsKept, WrittenIsThere}
 use Rattle.shadow.specs.Pairs.{Pairwise}
-use Rattle.shadow.specs.Seen.{same_attr}
+use Rattle.shadow.specs.AfterReadBuffer.{same_attr}
 use Rattle.shadow.proofs.ExactPainted.{IsFree, KeptIsFree, kept_free}
 use Rattle.shadow.proofs.Keeps.{HasNoKeep, KeepsChars, keeps_chars, no_keep, no_keep_ahead, paintable_apart, paintable_fits}
 use Rattle.shadow.proofs.LaidOut.{fields_size}

@@ -14,7 +14,7 @@ use Rattle.codes3270.specs.Attribute.{attr_of}
 use Rattle.codes3270.proofs.RoundTrips.{attr_read_back}
 use Rattle.datastream.specs.Screen.{Screen}
 use Rattle.datastream.specs.Fields.{Field}
-use Rattle.datastream.specs.Held.{without_mdt}
+use Rattle.datastream.specs.KeptByKeys.{without_mdt}
 use Rattle.datastream.specs.Wanted.{WantedScreen}
 use Rattle.datastream.specs.Grammar.{CommandParts, is_write}
 use Rattle.datastream.specs.Meaning.{WriteProgress, unmodified, prepared, restored, written, cleared, after_code}
@@ -30,7 +30,7 @@ use Rattle.shadow.specs.Pairs.{Pairwise}
 use Rattle.shadow.specs.Belief.{Belief, Shadow, cells_of_fields, next_address}
 use Rattle.shadow.specs.Exactness.{is_erase}
 use Rattle.shadow.specs.Meets.{MarkIs, KnownIs, Knows, Meets}
-use Rattle.shadow.specs.Seen.{same_attr, formatted_or}
+use Rattle.shadow.specs.AfterReadBuffer.{same_attr, formatted_or}
 use Rattle.shadow.specs.Stores.{Store, store_also, stores, stores_unplaced, is_plain_order}
 use Rattle.shadow.specs.Taken.{laid_out, marks_off_if, mark_off, formatted_as, taken_code, taken}
 use Rattle.shadow.specs.Painted.{keeps_ahead, attr_or_kept, painted_from, cells_under, plainly_painted}

@@ -4,7 +4,7 @@ use Rattle.datastream.specs.InboundFields.{Returned}
 use Rattle.shadow.specs.Belief.{Belief, next_address}
 use Rattle.shadow.specs.Came.{text_at, came_past}
 use Rattle.shadow.specs.Heard.{answers}
-use Rattle.shadow.specs.Held.{answer}
+use Rattle.shadow.specs.Borrowed.{answer}
 
 -- one field more
 pub answers_step : (size : ℕ) (b : Belief) (bs : List Belief) (rs : List Returned)

@@ -10,11 +10,11 @@ use Rattle.shadow.specs.declared.mdt_state.MdtState.{MdtState}
 use Rattle.shadow.specs.declared.cell_belief.TextKnowledge.{TextKnowledge}
 use Rattle.shadow.specs.declared.cell_belief.TextKnowledge.TheVariants.{Cells}
 use Rattle.shadow.specs.declared.cell_belief.CellBelief.{CellBelief}
-use Rattle.shadow.specs.declared.cell_belief.CellBelief.TheVariants.{Attr, Known, Told, Unknown}
-use Rattle.shadow.specs.Asked.{belief_with, known_cells, known_at, known_cell}
+use Rattle.shadow.specs.declared.cell_belief.CellBelief.TheVariants.{Attr, Known, Unplaced, Unknown}
+use Rattle.shadow.specs.Queries.{belief_with, known_cells, known_at, known_cell}
 use Rattle.shadow.specs.Belief.{Fact, Belief, Shadow, fields_of, cells_of_fields, cells_believed, IsOfSize, HasCell, next_address}
 use Rattle.shadow.specs.Fits.{is_field, is_of_size}
-use Rattle.shadow.specs.Seen.{same_attr}
+use Rattle.shadow.specs.AfterReadBuffer.{same_attr}
 use Rattle.shadow.specs.InPlace.{chars_known, fact_held, belief_held, beliefs_held, is_whole, known_text, is_attribute, has_attribute, has_fields, cell_known, cells_known, shadow_held, AreHeld, IsHeld}
 use Rattle.shadow.specs.Taken.{whole_text, exact_or_any, old_char, field_cells, first_place, laid_out, formatted_as, after_write, taken_write, mark_off, marks_off_if}
 use Rattle.shadow.specs.Base.{mark_off_if}
@@ -49,7 +49,7 @@ any_held ahead e = ap (λ text. exact_or_any text (chars_known ahead)) (partly_k
 pub no_attribute : (whole : List CellBelief) (n : ℕ) (x : CellBelief) (rest : List CellBelief) → is_attribute x ≡ false → beliefs_held whole n (x ∷ rest) ≡ beliefs_held whole (n + 1) rest
 no_attribute whole n (Attr a m t) rest e = absurd (cc)
 no_attribute whole n (Known c) rest e = refl
-no_attribute whole n (Told c) rest e = refl
+no_attribute whole n (Unplaced c) rest e = refl
 no_attribute whole n Unknown rest e = refl
 
 -- a search for the field at a place
@@ -58,7 +58,7 @@ module _ {R : Type 0} (size p : ℕ) (search_ : List Belief → R) (skips : (b :
   one_on : (whole : List CellBelief) (n : ℕ) (x : CellBelief) (rest : List CellBelief) → n < size → (n ≡ p → ⊥) → search_ (beliefs_held whole n (x ∷ rest)) ≡ search_ (beliefs_held whole (n + 1) rest)
   one_on whole n (Attr a m t) rest low other = skips (belief_held n a m t (rest ++ whole)) (beliefs_held whole (n + 1) rest) low other
   one_on whole n (Known c) rest low other = refl
-  one_on whole n (Told c) rest low other = refl
+  one_on whole n (Unplaced c) rest low other = refl
   one_on whole n Unknown rest low other = refl
 
   none_behind : (whole : List CellBelief) (n : ℕ) (rest : List CellBelief) → p < n → n + length rest ≤ size → search_ (beliefs_held whole n rest) ≡ search_ []
@@ -183,7 +183,7 @@ pub starts_there : (size first : ℕ) → first < size → (whole : List CellBel
     → is_attribute x ≡ list_any (λ c. starts_at size c first) (beliefs_held whole 0 whole)
 starts_there size first low whole even (Attr a m t) is = sym (starts_found size first low whole even a m t is)
 starts_there size first low whole even (Known c) is = sym (starts_missed size first low whole even (Known c) refl is)
-starts_there size first low whole even (Told c) is = sym (starts_missed size first low whole even (Told c) refl is)
+starts_there size first low whole even (Unplaced c) is = sym (starts_missed size first low whole even (Unplaced c) refl is)
 starts_there size first low whole even Unknown is = sym (starts_missed size first low whole even Unknown refl is)
 
 -- ---- what is known of the cells
@@ -193,7 +193,7 @@ abbrev from_attribute : List CellBelief → List CellBelief
 from_attribute [] = []
 from_attribute (Attr a m t ∷ places) = Attr a m t ∷ places
 from_attribute (Known c ∷ places) = from_attribute places
-from_attribute (Told c ∷ places) = from_attribute places
+from_attribute (Unplaced c ∷ places) = from_attribute places
 from_attribute (Unknown ∷ places) = from_attribute places
 
 abbrev front_known : List CellBelief → List KnownCell
@@ -203,7 +203,7 @@ parted : (places : List CellBelief) → front_known places ++ cells_known (from_
 parted [] = refl
 parted (Attr a m t ∷ places) = refl
 parted (Known c ∷ places) = ap (λ ks. old_char (Some c) ∷ ks) (parted places)
-parted (Told c ∷ places) = ap (λ ks. old_char None ∷ ks) (parted places)
+parted (Unplaced c ∷ places) = ap (λ ks. old_char None ∷ ks) (parted places)
 parted (Unknown ∷ places) = ap (λ ks. old_char None ∷ ks) (parted places)
 
 -- the last field goes on at address 0
@@ -211,7 +211,7 @@ ring_last : (rest more : List CellBelief) → has_attribute rest ≡ false → f
 ring_last [] more e = refl
 ring_last (Attr a m t ∷ rest) more e = absurd (cc)
 ring_last (Known c ∷ rest) more e = ap (λ ks. old_char (Some c) ∷ ks) (ring_last rest more e)
-ring_last (Told c ∷ rest) more e = ap (λ ks. old_char None ∷ ks) (ring_last rest more e)
+ring_last (Unplaced c ∷ rest) more e = ap (λ ks. old_char None ∷ ks) (ring_last rest more e)
 ring_last (Unknown ∷ rest) more e = ap (λ ks. old_char None ∷ ks) (ring_last rest more e)
 
 -- any other ends at the next attribute
@@ -219,20 +219,20 @@ ring_inner : (rest more : List CellBelief) → has_attribute rest ≡ true → f
 ring_inner [] more e = absurd (cc)
 ring_inner (Attr a m t ∷ rest) more e = refl
 ring_inner (Known c ∷ rest) more e = ap (λ ks. old_char (Some c) ∷ ks) (ring_inner rest more e)
-ring_inner (Told c ∷ rest) more e = ap (λ ks. old_char None ∷ ks) (ring_inner rest more e)
+ring_inner (Unplaced c ∷ rest) more e = ap (λ ks. old_char None ∷ ks) (ring_inner rest more e)
 ring_inner (Unknown ∷ rest) more e = ap (λ ks. old_char None ∷ ks) (ring_inner rest more e)
 
 pub no_beliefs : (whole : List CellBelief) (n : ℕ) (rest : List CellBelief) → has_attribute rest ≡ false → beliefs_held whole n rest ≡ []
 no_beliefs whole n [] e = refl
 no_beliefs whole n (Attr a m t ∷ rest) e = absurd (cc)
 no_beliefs whole n (Known c ∷ rest) e = no_beliefs whole (n + 1) rest e
-no_beliefs whole n (Told c ∷ rest) e = no_beliefs whole (n + 1) rest e
+no_beliefs whole n (Unplaced c ∷ rest) e = no_beliefs whole (n + 1) rest e
 no_beliefs whole n (Unknown ∷ rest) e = no_beliefs whole (n + 1) rest e
 
 fields_known : (whole : List CellBelief) (n : ℕ) (rest : List CellBelief) → AreHeld whole rest → has_attribute rest ≡ true → flat_map field_cells (beliefs_held whole n rest) ≡ cells_known (from_attribute rest) ++ front_known whole
 fields_known whole n [] held e = absurd (cc)
 fields_known whole n (Known c ∷ rest) held e = fields_known whole (n + 1) rest held e
-fields_known whole n (Told c ∷ rest) held e = fields_known whole (n + 1) rest held e
+fields_known whole n (Unplaced c ∷ rest) held e = fields_known whole (n + 1) rest held e
 fields_known whole n (Unknown ∷ rest) held e = fields_known whole (n + 1) rest held e
 fields_known whole n (Attr a m t ∷ rest) held e =
     ap (λ ks. (KnownAttr a m ∷ map old_char ks) ++ flat_map field_cells (beliefs_held whole (n + 1) rest)) held.0
@@ -252,7 +252,7 @@ first_at : (whole : List CellBelief) (n : ℕ) (rest : List CellBelief) → has_
 first_at whole n [] e = absurd (cc)
 first_at whole n (Attr a m t ∷ rest) e = omega arith
 first_at whole n (Known c ∷ rest) e = let later = first_at whole (n + 1) rest e in omega arith
-first_at whole n (Told c ∷ rest) e = let later = first_at whole (n + 1) rest e in omega arith
+first_at whole n (Unplaced c ∷ rest) e = let later = first_at whole (n + 1) rest e in omega arith
 first_at whole n (Unknown ∷ rest) e = let later = first_at whole (n + 1) rest e in omega arith
 
 pub length-cells : (places : List CellBelief) → length (cells_known places) ≡ length places
@@ -276,7 +276,7 @@ pub bare_known : (places : List CellBelief) → has_attribute places ≡ false �
 bare_known [] e = refl
 bare_known (Attr a m t ∷ places) e = absurd (cc)
 bare_known (Known c ∷ places) e = ap (λ ks. old_char (Some c) ∷ ks) (bare_known places e)
-bare_known (Told c ∷ places) e = ap (λ ks. old_char None ∷ ks) (bare_known places e)
+bare_known (Unplaced c ∷ places) e = ap (λ ks. old_char None ∷ ks) (bare_known places e)
 bare_known (Unknown ∷ places) e = ap (λ ks. old_char None ∷ ks) (bare_known places e)
 
 -- ---- which belief is held
@@ -285,7 +285,7 @@ some_beliefs : (whole : List CellBelief) (n : ℕ) (rest : List CellBelief) → 
 some_beliefs whole n [] e = absurd (cc)
 some_beliefs whole n (Attr a m t ∷ rest) e = (belief_held n a m t (rest ++ whole), beliefs_held whole (n + 1) rest, refl)
 some_beliefs whole n (Known c ∷ rest) e = some_beliefs whole (n + 1) rest e
-some_beliefs whole n (Told c ∷ rest) e = some_beliefs whole (n + 1) rest e
+some_beliefs whole n (Unplaced c ∷ rest) e = some_beliefs whole (n + 1) rest e
 some_beliefs whole n (Unknown ∷ rest) e = some_beliefs whole (n + 1) rest e
 
 pub formatted_held : (places : List CellBelief) → has_attribute places ≡ true → shadow_held true places ≡ Shadow.Formatted (beliefs_held places 0 places)
@@ -315,7 +315,7 @@ has_held places = cases (has_attribute places) refl
 cells_behind : (whole : List CellBelief) (n : ℕ) (rest : List CellBelief) → has_attribute rest ≡ true → cells_of_fields (beliefs_held whole n rest) ≡ length (cells_known (from_attribute rest)) + length (front_known whole)
 cells_behind whole n [] e = absurd (cc)
 cells_behind whole n (Known c ∷ rest) e = cells_behind whole (n + 1) rest e
-cells_behind whole n (Told c ∷ rest) e = cells_behind whole (n + 1) rest e
+cells_behind whole n (Unplaced c ∷ rest) e = cells_behind whole (n + 1) rest e
 cells_behind whole n (Unknown ∷ rest) e = cells_behind whole (n + 1) rest e
 cells_behind whole n (Attr a m t ∷ rest) e = cases (has_attribute rest) refl (cells_behind whole (n + 1) rest)
   where

@@ -6,8 +6,8 @@ use Rattle.std.proofs.lemmas.Bool.{cases_lt}
 use Rattle.std.proofs.lemmas.Bool.Decides.{nat_tests}
 use Rattle.std.proofs.lemmas.List.{get_or-drop, get_or-take, get_or-replicate, get_or_default, get_or_append_left, drop_more, take_at, drop_at, length-take-le, length-drop, length-replicate, take-append-drop}
 use Rattle.shadow.specs.declared.cell_belief.CellBelief.{CellBelief}
-use Rattle.shadow.specs.declared.cell_belief.CellBelief.TheVariants.{Attr, Known, Told, Unknown}
-use Rattle.shadow.specs.declared.cell_beliefs.Head.{Head}
+use Rattle.shadow.specs.declared.cell_belief.CellBelief.TheVariants.{Attr, Known, Unplaced, Unknown}
+use Rattle.shadow.specs.declared.cell_beliefs.AttributeKnowledge.{AttributeKnowledge}
 use Rattle.shadow.specs.Filled.{Fill, filled, first_told, fill_next, fill_after, front_filled}
 use Rattle.shadow.specs.InPlace.{is_attribute, chars_known}
 use Rattle.datastream.specs.CellBits.{has_bit, is_within, kept}
@@ -52,8 +52,8 @@ kept_fills f g at [] (Attr a m t ∷ ps) even is = refl
 kept_fills f g at (b ∷ mid) (Attr a m t ∷ ps) even is = absurd (omega arith)
 kept_fills f g at [] (Known c ∷ ps) even is = absurd (omega arith)
 kept_fills f g at (b ∷ mid) (Known c ∷ ps) even is = fills_here f g at b mid (Known c) ps is (kept_fills f (fill_next g) (at + 1) mid ps (omega arith) (fills_later f g at b mid (Known c) ps is))
-kept_fills f g at [] (Told c ∷ ps) even is = absurd (omega arith)
-kept_fills f g at (b ∷ mid) (Told c ∷ ps) even is = fills_here f g at b mid (Told c) ps is (kept_fills f (fill_next g) (at + 1) mid ps (omega arith) (fills_later f g at b mid (Told c) ps is))
+kept_fills f g at [] (Unplaced c ∷ ps) even is = absurd (omega arith)
+kept_fills f g at (b ∷ mid) (Unplaced c ∷ ps) even is = fills_here f g at b mid (Unplaced c) ps is (kept_fills f (fill_next g) (at + 1) mid ps (omega arith) (fills_later f g at b mid (Unplaced c) ps is))
 kept_fills f g at [] (Unknown ∷ ps) even is = absurd (omega arith)
 kept_fills f g at (b ∷ mid) (Unknown ∷ ps) even is = fills_here f g at b mid Unknown ps is (kept_fills f (fill_next g) (at + 1) mid ps (omega arith) (fills_later f g at b mid Unknown ps is))
 
@@ -62,12 +62,12 @@ char_inside [] j low = refl
 char_inside (Attr a m t ∷ ps) j low = absurd (omega arith)
 char_inside (Known c ∷ ps) zero low = refl
 char_inside (Known c ∷ ps) (suc j) low = char_inside ps j (omega arith)
-char_inside (Told c ∷ ps) zero low = refl
-char_inside (Told c ∷ ps) (suc j) low = char_inside ps j (omega arith)
+char_inside (Unplaced c ∷ ps) zero low = refl
+char_inside (Unplaced c ∷ ps) (suc j) low = char_inside ps j (omega arith)
 char_inside (Unknown ∷ ps) zero low = refl
 char_inside (Unknown ∷ ps) (suc j) low = char_inside ps j (omega arith)
 
-known_kept : (h : Head) (a k t : Bool) (byte : ℕ) → is_known (place_kept h a k t byte) ≡ (if a then true else k)
+known_kept : (h : AttributeKnowledge) (a k t : Bool) (byte : ℕ) → is_known (place_kept h a k t byte) ≡ (if a then true else k)
 known_kept h true k t byte = refl
 known_kept h false true t byte = refl
 known_kept h false false true byte = refl
@@ -75,7 +75,7 @@ known_kept h false false false byte = refl
 
 -- ---- a field's characters are kept anew
 
-module _ (heads : List Head) (attributes known told bytes : List ℕ) (now : List CellBelief) (view : kept (place_by heads attributes known told) 0 bytes ≡ now) (from k : ℕ)
+module _ (heads : List AttributeKnowledge) (attributes known told bytes : List ℕ) (now : List CellBelief) (view : kept (place_by heads attributes known told) 0 bytes ≡ now) (from k : ℕ)
     (count : k ≡ length (chars_known (drop from now))) (few : from + k ≤ length bytes) (known_ told_ mid bytes_ : List ℕ) (long : length mid ≡ k) (is_bytes : bytes_ ≡ take from bytes ++ (mid ++ drop (from + k) bytes))
     (known_apart : (j : ℕ) → (from ≤ j → j < from + k → ⊥) → has_bit known_ j ≡ has_bit known j) (told_apart : (j : ℕ) → (from ≤ j → j < from + k → ⊥) → has_bit told_ j ≡ has_bit told j) where
   abbrev before : ℕ → ℕ → CellBelief
@@ -107,7 +107,7 @@ module _ (heads : List Head) (attributes known told bytes : List ℕ) (now : Lis
   dropped : (n : ℕ) → n ≤ length bytes → drop n now ≡ kept before n (drop n bytes)
   dropped n low = ap (drop n) (now_parts n low) ∙ drop_at (kept before 0 (take n bytes)) (kept before n (drop n bytes)) n (front_length n low)
 
-  pub range_filled : (g : Fill) → ((j : ℕ) → j < k → (h : Head) → place_kept h false (has_bit known_ (from + j)) (has_bit told_ (from + j)) (get_or mid j 0) ≡ filled (fill_after j g) (get_or (drop from now) j Unknown))
+  pub range_filled : (g : Fill) → ((j : ℕ) → j < k → (h : AttributeKnowledge) → place_kept h false (has_bit known_ (from + j)) (has_bit told_ (from + j)) (get_or mid j 0) ≡ filled (fill_after j g) (get_or (drop from now) j Unknown))
       → kept (place_by heads attributes known_ told_) 0 bytes_ ≡ take from now ++ front_filled g (drop from now)
   range_filled g inside =
       let rest : List ℕ = drop (from + k) bytes in
@@ -176,16 +176,16 @@ bit_outside from to other bit now old is apart = is ∙ ap (λ (t : Bool). if t 
 
 -- ---- what a place's bits say
 
-pub says_unknown : (h : Head) (k t : Bool) (byte : ℕ) → k ≡ false → t ≡ false → place_kept h false k t byte ≡ Unknown
+pub says_unknown : (h : AttributeKnowledge) (k t : Bool) (byte : ℕ) → k ≡ false → t ≡ false → place_kept h false k t byte ≡ Unknown
 says_unknown h k t byte is_k is_t = ap (λ (b : Bool). place_kept h false b t byte) is_k ∙ ap (λ (b : Bool). place_kept h false false b byte) is_t
 
-pub says_known : (h : Head) (k t : Bool) (byte char : ℕ) → k ≡ true → byte ≡ char → place_kept h false k t byte ≡ Known char
+pub says_known : (h : AttributeKnowledge) (k t : Bool) (byte char : ℕ) → k ≡ true → byte ≡ char → place_kept h false k t byte ≡ Known char
 says_known h k t byte char is_k is = ap (λ (b : Bool). place_kept h false b t byte) is_k ∙ ap Known is
 
-pub says_told : (h : Head) (k t : Bool) (byte char : ℕ) → k ≡ false → t ≡ true → byte ≡ char → place_kept h false k t byte ≡ Told char
-says_told h k t byte char is_k is_t is = ap (λ (b : Bool). place_kept h false b t byte) is_k ∙ ap (λ (b : Bool). place_kept h false false b byte) is_t ∙ ap Told is
+pub says_told : (h : AttributeKnowledge) (k t : Bool) (byte char : ℕ) → k ≡ false → t ≡ true → byte ≡ char → place_kept h false k t byte ≡ Unplaced char
+says_told h k t byte char is_k is_t is = ap (λ (b : Bool). place_kept h false b t byte) is_k ∙ ap (λ (b : Bool). place_kept h false false b byte) is_t ∙ ap Unplaced is
 
-pub told_here : (text : List ℕ) (j : ℕ) → j < length text → first_told (drop j text) ≡ Told (get_or text j 0)
+pub told_here : (text : List ℕ) (j : ℕ) → j < length text → first_told (drop j text) ≡ Unplaced (get_or text j 0)
 told_here text j low = ap first_told (drop_more text j 0 low)
 
 pub told_no_more : (text : List ℕ) (j : ℕ) → length text ≤ j → first_told (drop j text) ≡ Unknown
@@ -198,7 +198,7 @@ bytes_stay bytes from k =
 
 -- ---- what a call makes of a field's characters
 
-module _ (heads : List Head) (attributes known told bytes : List ℕ) (now : List CellBelief) (view : kept (place_by heads attributes known told) 0 bytes ≡ now) (from to : ℕ)
+module _ (heads : List AttributeKnowledge) (attributes known told bytes : List ℕ) (now : List CellBelief) (view : kept (place_by heads attributes known told) 0 bytes ≡ now) (from to : ℕ)
     (chars : to ≡ from + length (chars_known (drop from now))) (few : to ≤ length bytes) (marked : MarksKnown known (kept (place_by heads attributes known told) 0 bytes)) (known_ : List ℕ) where
   -- what is kept now
   abbrev pub Keeps : List ℕ → List ℕ → Fill → Type 0
@@ -207,7 +207,7 @@ module _ (heads : List Head) (attributes known told bytes : List ℕ) (now : Lis
 
   keeps : (told_ mid bytes_ : List ℕ) (g : Fill) → length mid ≡ to - from → bytes_ ≡ take from bytes ++ (mid ++ drop (from + (to - from)) bytes)
       → ((j : ℕ) → (from ≤ j → j < to → ⊥) → has_bit known_ j ≡ has_bit known j) → ((j : ℕ) → (from ≤ j → j < to → ⊥) → has_bit told_ j ≡ has_bit told j)
-      → ((j : ℕ) → j < to - from → (h : Head) → place_kept h false (has_bit known_ (from + j)) (has_bit told_ (from + j)) (get_or mid j 0) ≡ filled (fill_after j g) (get_or (drop from now) j Unknown))
+      → ((j : ℕ) → j < to - from → (h : AttributeKnowledge) → place_kept h false (has_bit known_ (from + j)) (has_bit told_ (from + j)) (get_or mid j 0) ≡ filled (fill_after j g) (get_or (drop from now) j Unknown))
       → Keeps told_ bytes_ g
   keeps told_ mid bytes_ g long is_bytes known_apart told_apart inside =
       let k : ℕ = to - from in

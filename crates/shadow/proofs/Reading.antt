@@ -8,17 +8,17 @@ use Rattle.codes3270.specs.declared.attribute.Cell.TheVariants.{Char, Attr as At
 use Rattle.datastream.specs.Screen.{text_before_attribute}
 use Rattle.datastream.specs.Fields.{Field, fields}
 use Rattle.datastream.proofs.FieldWalk.{fields_walked, fields_are_walked}
-use Rattle.datastream.specs.Held.{without_mdt}
+use Rattle.datastream.specs.KeptByKeys.{without_mdt}
 use Rattle.shadow.specs.declared.cell_belief.TextKnowledge.TheVariants.{Cells}
 use Rattle.shadow.specs.declared.cell_belief.CellBelief.{CellBelief}
-use Rattle.shadow.specs.declared.cell_belief.CellBelief.TheVariants.{Attr, Known, Told, Unknown}
+use Rattle.shadow.specs.declared.cell_belief.CellBelief.TheVariants.{Attr, Known, Unplaced, Unknown}
 use Rattle.shadow.specs.Belief.{Fact, Belief}
 use Rattle.shadow.specs.InPlace.{chars_known, fact_held, belief_held, beliefs_held, shadow_held, known_text, misses_here, other_here, AreHeld, IsHeld}
 use Rattle.shadow.specs.Runs.{placed, other_next}
-use Rattle.shadow.specs.Seen.{differs, others, same_attr, mark_seen, belief_seen, seen}
+use Rattle.shadow.specs.AfterReadBuffer.{differs, others, same_attr, mark_seen, belief_seen, seen}
 use Rattle.shadow.specs.Since.{place_stored, places_stored}
 use Rattle.shadow.specs.Taken.{fact_known, exact_or_any}
-use Rattle.shadow.proofs.Seen.{both, whole_fresh}
+use Rattle.shadow.proofs.AfterReadBuffer.{both, whole_fresh}
 use Rattle.shadow.proofs.Settling.{says_known}
 
 -- ---- characters one by one
@@ -32,8 +32,8 @@ differs_step (Attr a m t) ps None text rest is e = absurd (cc)
 differs_step (Attr a m t) ps (Some c) text rest is e = ap (differs []) is
 differs_step (Known k) ps None text rest is e = ap (differs (Some k ∷ chars_known ps)) is
 differs_step (Known k) ps (Some c) text rest is e = ap (differs (Some k ∷ chars_known ps)) is ∙ ap (λ t. t || differs (chars_known ps) rest) e
-differs_step (Told k) ps None text rest is e = ap (differs (None ∷ chars_known ps)) is
-differs_step (Told k) ps (Some c) text rest is e = absurd (cc)
+differs_step (Unplaced k) ps None text rest is e = ap (differs (None ∷ chars_known ps)) is
+differs_step (Unplaced k) ps (Some c) text rest is e = absurd (cc)
 differs_step Unknown ps None text rest is e = ap (differs (None ∷ chars_known ps)) is
 differs_step Unknown ps (Some c) text rest is e = absurd (cc)
 
@@ -41,7 +41,7 @@ differs_step Unknown ps (Some c) text rest is e = absurd (cc)
 abbrev OrOn : CellBelief → List CellBelief → List ℕ → Bool
 OrOn (Attr a m t) ps rest = false
 OrOn (Known k) ps rest = differs (chars_known ps) rest
-OrOn (Told k) ps rest = differs (chars_known ps) rest
+OrOn (Unplaced k) ps rest = differs (chars_known ps) rest
 OrOn Unknown ps rest = differs (chars_known ps) rest
 
 pub differs_on : (p : CellBelief) (ps : List CellBelief) (char : Option ℕ) (text rest : List ℕ) → NextIs char text rest → misses_here p char ≡ false → differs (chars_known (p ∷ ps)) text ≡ OrOn p ps rest
@@ -49,8 +49,8 @@ differs_on (Attr a m t) ps None text rest is e = ap (differs []) is
 differs_on (Attr a m t) ps (Some c) text rest is e = absurd (cc)
 differs_on (Known k) ps None text rest is e = absurd (cc)
 differs_on (Known k) ps (Some c) text rest is e = ap (differs (Some k ∷ chars_known ps)) is ∙ ap (λ t. t || differs (chars_known ps) rest) e
-differs_on (Told k) ps None text rest is e = absurd (cc)
-differs_on (Told k) ps (Some c) text rest is e = ap (differs (None ∷ chars_known ps)) is
+differs_on (Unplaced k) ps None text rest is e = absurd (cc)
+differs_on (Unplaced k) ps (Some c) text rest is e = ap (differs (None ∷ chars_known ps)) is
 differs_on Unknown ps None text rest is e = absurd (cc)
 differs_on Unknown ps (Some c) text rest is e = ap (differs (None ∷ chars_known ps)) is
 
@@ -80,7 +80,7 @@ later_held : (f : Field) (fs : List Field) (whole : List CellBelief) (m : ℕ) (
 later_held f fs whole m [] later = refl
 later_held f fs whole m (Attr a k t ∷ ps) later = rw (ne_eqb f.place m (λ e. omega arith)) refl
 later_held f fs whole m (Known c ∷ ps) later = later_held f fs whole (m + 1) ps (omega arith)
-later_held f fs whole m (Told c ∷ ps) later = later_held f fs whole (m + 1) ps (omega arith)
+later_held f fs whole m (Unplaced c ∷ ps) later = later_held f fs whole (m + 1) ps (omega arith)
 later_held f fs whole m (Unknown ∷ ps) later = later_held f fs whole (m + 1) ps (omega arith)
 
 abbrev OtherOn : List CellBelief → List Cell → ℕ → CellBelief → List CellBelief → Cell → List Cell → Bool
@@ -95,16 +95,16 @@ other_on whole screen n (Attr a m t) ps (AttrCell b) cells held =
     ∙ ap (λ (text : List ℕ). (not (same_attr b a) || (a.protected && differs (chars_known (ps ++ whole)) text)) || others (beliefs_held whole (n + 1) ps) (fields_walked screen (n + 1) cells)) (sym (read_text cells screen)))
 other_on whole screen n (Attr a m t) ps (Char c) cells held = later_read (belief_held n a m t (ps ++ whole)) (beliefs_held whole (n + 1) ps) screen (n + 1) cells (omega arith)
 other_on whole screen n (Known k) ps (AttrCell b) cells held = later_held (record { place = n; attr = b; text = text_before_attribute (cells ++ screen) }) (fields_walked screen (n + 1) cells) whole (n + 1) ps (omega arith)
-other_on whole screen n (Told k) ps (AttrCell b) cells held = later_held (record { place = n; attr = b; text = text_before_attribute (cells ++ screen) }) (fields_walked screen (n + 1) cells) whole (n + 1) ps (omega arith)
+other_on whole screen n (Unplaced k) ps (AttrCell b) cells held = later_held (record { place = n; attr = b; text = text_before_attribute (cells ++ screen) }) (fields_walked screen (n + 1) cells) whole (n + 1) ps (omega arith)
 other_on whole screen n Unknown ps (AttrCell b) cells held = later_held (record { place = n; attr = b; text = text_before_attribute (cells ++ screen) }) (fields_walked screen (n + 1) cells) whole (n + 1) ps (omega arith)
 other_on whole screen n (Known k) ps (Char c) cells held = refl
-other_on whole screen n (Told k) ps (Char c) cells held = refl
+other_on whole screen n (Unplaced k) ps (Char c) cells held = refl
 other_on whole screen n Unknown ps (Char c) cells held = refl
 
 held_rest : (whole : List CellBelief) (p : CellBelief) (ps : List CellBelief) → AreHeld whole (p ∷ ps) → AreHeld whole ps
 held_rest whole (Attr a m t) ps h = h.1
 held_rest whole (Known c) ps h = h
-held_rest whole (Told c) ps h = h
+held_rest whole (Unplaced c) ps h = h
 held_rest whole Unknown ps h = h
 
 pub held_drop : (whole : List CellBelief) (n : ℕ) (ps : List CellBelief) → AreHeld whole ps → AreHeld whole (drop n ps)
@@ -146,12 +146,12 @@ run_passed whole screen n k [] (c ∷ cells) held read even = absurd (omega arit
 run_passed whole screen n k (p ∷ ps) [] held read even = absurd (omega arith)
 run_passed whole screen n k (Attr a m t ∷ ps) (c ∷ cells) held read even = none_on whole screen n k (Attr a m t ∷ ps) (c ∷ cells) held
 run_passed whole screen n k (Known b ∷ ps) (AttrCell a ∷ cells) held read even = absurd (omega arith)
-run_passed whole screen n k (Told b ∷ ps) (AttrCell a ∷ cells) held read even = absurd (omega arith)
+run_passed whole screen n k (Unplaced b ∷ ps) (AttrCell a ∷ cells) held read even = absurd (omega arith)
 run_passed whole screen n k (Unknown ∷ ps) (AttrCell a ∷ cells) held read even = absurd (omega arith)
 run_passed whole screen n k (Known b ∷ ps) (Char c ∷ cells) held read even =
     run_on whole screen n k (length (chars_known ps)) ps cells (sym held) (run_passed whole screen (n + 1) (length (chars_known ps)) ps cells refl (omega arith) (omega arith)) (Known b) (Char c)
-run_passed whole screen n k (Told b ∷ ps) (Char c ∷ cells) held read even =
-    run_on whole screen n k (length (chars_known ps)) ps cells (sym held) (run_passed whole screen (n + 1) (length (chars_known ps)) ps cells refl (omega arith) (omega arith)) (Told b) (Char c)
+run_passed whole screen n k (Unplaced b ∷ ps) (Char c ∷ cells) held read even =
+    run_on whole screen n k (length (chars_known ps)) ps cells (sym held) (run_passed whole screen (n + 1) (length (chars_known ps)) ps cells refl (omega arith) (omega arith)) (Unplaced b) (Char c)
 run_passed whole screen n k (Unknown ∷ ps) (Char c ∷ cells) held read even =
     run_on whole screen n k (length (chars_known ps)) ps cells (sym held) (run_passed whole screen (n + 1) (length (chars_known ps)) ps cells refl (omega arith) (omega arith)) Unknown (Char c)
 
@@ -164,10 +164,10 @@ runs_differ whole screen n (p ∷ ps) [] other even = absurd (omega arith)
 runs_differ whole screen n (Attr a m t ∷ ps) (AttrCell b ∷ cells) other even = absurd (other refl)
 runs_differ whole screen n (Attr a m t ∷ ps) (Char c ∷ cells) other even = later_read (belief_held n a m t (ps ++ whole)) (beliefs_held whole (n + 1) ps) screen (n + 1) cells (omega arith)
 runs_differ whole screen n (Known b ∷ ps) (AttrCell a ∷ cells) other even = later_held (record { place = n; attr = a; text = text_before_attribute (cells ++ screen) }) (fields_walked screen (n + 1) cells) whole (n + 1) ps (omega arith)
-runs_differ whole screen n (Told b ∷ ps) (AttrCell a ∷ cells) other even = later_held (record { place = n; attr = a; text = text_before_attribute (cells ++ screen) }) (fields_walked screen (n + 1) cells) whole (n + 1) ps (omega arith)
+runs_differ whole screen n (Unplaced b ∷ ps) (AttrCell a ∷ cells) other even = later_held (record { place = n; attr = a; text = text_before_attribute (cells ++ screen) }) (fields_walked screen (n + 1) cells) whole (n + 1) ps (omega arith)
 runs_differ whole screen n (Unknown ∷ ps) (AttrCell a ∷ cells) other even = later_held (record { place = n; attr = a; text = text_before_attribute (cells ++ screen) }) (fields_walked screen (n + 1) cells) whole (n + 1) ps (omega arith)
 runs_differ whole screen n (Known b ∷ ps) (Char c ∷ cells) other even = runs_differ whole screen (n + 1) ps cells (λ same. other (ap suc same)) (omega arith)
-runs_differ whole screen n (Told b ∷ ps) (Char c ∷ cells) other even = runs_differ whole screen (n + 1) ps cells (λ same. other (ap suc same)) (omega arith)
+runs_differ whole screen n (Unplaced b ∷ ps) (Char c ∷ cells) other even = runs_differ whole screen (n + 1) ps cells (λ same. other (ap suc same)) (omega arith)
 runs_differ whole screen n (Unknown ∷ ps) (Char c ∷ cells) other even = runs_differ whole screen (n + 1) ps cells (λ same. other (ap suc same)) (omega arith)
 
 -- the next cell, and those behind it; at the end there is none
@@ -195,7 +195,7 @@ field_read : (n : ℕ) (a : Attribute) (text : List ℕ) (ahead : List CellBelie
     → belief_held n (without_mdt a) (mark_seen a.mdt) Cells ahead ≡ belief_seen (record { place = n; attr = a; text = text })
 field_read n a text ahead is =
     let fact : fact_held Cells ahead ≡ Fact.Exact text = ap fact_known is ∙ ap (λ (o : Option (List ℕ)). exact_or_any o (map Some text)) (whole_fresh text) in
-    λ i. record { place = n; attr = without_mdt a; mark = mark_seen a.mdt; length = (ap length is ∙ length-map text Some) i; fact = fact i }
+    λ i. record { place = n; attr = without_mdt a; mdt = mark_seen a.mdt; length = (ap length is ∙ length-map text Some) i; fact = fact i }
 
 fields_read : (whole : List Cell) (n : ℕ) (rest : List Cell) → beliefs_held (places_stored whole) n (places_stored rest) ≡ map belief_seen (fields_walked whole n rest)
 fields_read whole n [] = refl

@@ -14,7 +14,7 @@ use Rattle.shadow.specs.Belief.{Fact, Belief, Shadow, nulls}
 use Rattle.shadow.specs.Heard.{is_on}
 use Rattle.shadow.specs.Meets.{Holds, IsNull, MarkIs}
 use Rattle.shadow.specs.RuleBreaks.{RulesAreNotBroken, break_at, first_break, input_rule, is_believed, is_erased, lesser, mdt_differs, operator_rule, protected_rule, rule_broken}
-use Rattle.shadow.specs.Seen.{differs, is_other}
+use Rattle.shadow.specs.AfterReadBuffer.{differs, is_other}
 use Rattle.shadow.proofs.FieldPlaces.{or_neither}
 use Rattle.shadow.proofs.FieldStep.{Followed, and_if, not_on}
 use Rattle.shadow.proofs.HeardMeets.{followed, none_now}
@@ -67,17 +67,17 @@ module _ (erased : Bool) (b : Belief) (f : Field) (h : Followed erased b f) wher
       (and_if _ _ λ p. none_differs _ f.text (chars_known b.length b.fact f.text (h.keyed.same_length ∙ h.meets.same_length)
       (subst (Holds b.fact) (sym (h.keyed.protected (sym same_attr ∙ p)).1) h.meets.holds)))
 
-  mdt_stays : f.attr.protected ≡ true → mdt_differs b.mark f.attr.mdt ≡ false
-  mdt_stays p = ap (mdt_differs b.mark) (h.keyed.protected p).0 ∙ mdt_agrees b.mark h.left.attr.mdt h.meets.mark_is
+  mdt_stays : f.attr.protected ≡ true → mdt_differs b.mdt f.attr.mdt ≡ false
+  mdt_stays p = ap (mdt_differs b.mdt) (h.keyed.protected p).0 ∙ mdt_agrees b.mdt h.left.attr.mdt h.meets.mark_is
 
-  left_alone : (e : Bool) → Untouched e h.left f → (is : Bool) → is_erased f.text ≡ is → by_tests false is (is_on b.mark) (is_believed b.fact f.text) ≡ None
+  left_alone : (e : Bool) → Untouched e h.left f → (is : Bool) → is_erased f.text ≡ is → by_tests false is (is_on b.mdt) (is_believed b.fact f.text) ≡ None
   left_alone e untouched true is = refl
   left_alone true null false is = absurd (let so = null_is_erased f.text null in cc)
   left_alone false same false is =
-      ap (λ (on : Bool). by_tests false false on (is_believed b.fact f.text)) (not_on b.mark h.left.attr.mdt h.meets.mark_is same.0)
+      ap (λ (on : Bool). by_tests false false on (is_believed b.fact f.text)) (not_on b.mdt h.left.attr.mdt h.meets.mark_is same.0)
       ∙ ap (by_tests false false false) (believed b.fact f.text (subst (Holds b.fact) (sym same.1) h.meets.holds) is)
 
-  input_kept : (mdt : Bool) → f.attr.mdt ≡ mdt → f.attr.protected ≡ false → by_tests mdt (is_erased f.text) (is_on b.mark) (is_believed b.fact f.text) ≡ None
+  input_kept : (mdt : Bool) → f.attr.mdt ≡ mdt → f.attr.protected ≡ false → by_tests mdt (is_erased f.text) (is_on b.mdt) (is_believed b.fact f.text) ≡ None
   input_kept true on free = refl
   input_kept false off free = left_alone erased (h.keyed.unprotected free off) (is_erased f.text) refl
 

@@ -9,7 +9,7 @@ use Rattle.datastream.specs.Screen.{text_before_attribute}
 use Rattle.datastream.specs.Fields.{Field, fields}
 use Rattle.datastream.proofs.FieldWalk.{fields_walked}
 use Rattle.shadow.specs.declared.cell_belief.CellBelief.{CellBelief}
-use Rattle.shadow.specs.declared.cell_belief.CellBelief.TheVariants.{Attr, Known, Told, Unknown}
+use Rattle.shadow.specs.declared.cell_belief.CellBelief.TheVariants.{Attr, Known, Unplaced, Unknown}
 use Rattle.shadow.specs.declared.rule_break.Rule.{Rule}
 use Rattle.shadow.specs.declared.rule_break.Rule.TheVariants.{Applies}
 use Rattle.shadow.specs.declared.rule_break.RuleBreak.{RuleBreak}
@@ -17,7 +17,7 @@ use Rattle.shadow.specs.Belief.{Belief, Fact}
 use Rattle.shadow.specs.InPlace.{chars_known, belief_held, beliefs_held, fact_held, known_text, other_here, shadow_held, AreHeld, IsHeld}
 use Rattle.shadow.specs.RuleBreaks.{break_at, first_break, is_believed, lesser, operator_rule, rule_break, rule_broken}
 use Rattle.shadow.specs.Runs.{operator_rule_at, rule_at, rule_next}
-use Rattle.shadow.specs.Seen.{differs, known_chars, same_attr}
+use Rattle.shadow.specs.AfterReadBuffer.{differs, known_chars, same_attr}
 use Rattle.shadow.specs.Since.{place_stored, places_stored}
 use Rattle.shadow.specs.Taken.{exact_or_any, fact_known, formatted_as, whole_text}
 use Rattle.shadow.proofs.Reading.{held_drop, read_text}
@@ -60,7 +60,7 @@ later_held f fs whole m [] later = refl
 later_held f fs whole m (Attr a k t ∷ ps) later =
     apart (belief_held m a k t (ps ++ whole)) (beliefs_held whole (m + 1) ps) f fs f.place (λ e. omega arith) (lesser_right m f.place (omega arith))
 later_held f fs whole m (Known c ∷ ps) later = later_held f fs whole (m + 1) ps (omega arith)
-later_held f fs whole m (Told c ∷ ps) later = later_held f fs whole (m + 1) ps (omega arith)
+later_held f fs whole m (Unplaced c ∷ ps) later = later_held f fs whole (m + 1) ps (omega arith)
 later_held f fs whole m (Unknown ∷ ps) later = later_held f fs whole (m + 1) ps (omega arith)
 
 -- ---- the next cell
@@ -75,10 +75,10 @@ break_on whole screen n (Attr a m t) ps (AttrCell b) cells =
     (lesser_right n n (omega arith))
 break_on whole screen n (Attr a m t) ps (Char c) cells = later_read (belief_held n a m t (ps ++ whole)) (beliefs_held whole (n + 1) ps) screen (n + 1) cells (omega arith)
 break_on whole screen n (Known k) ps (AttrCell b) cells = later_held (record { place = n; attr = b; text = text_before_attribute (cells ++ screen) }) (fields_walked screen (n + 1) cells) whole (n + 1) ps (omega arith)
-break_on whole screen n (Told k) ps (AttrCell b) cells = later_held (record { place = n; attr = b; text = text_before_attribute (cells ++ screen) }) (fields_walked screen (n + 1) cells) whole (n + 1) ps (omega arith)
+break_on whole screen n (Unplaced k) ps (AttrCell b) cells = later_held (record { place = n; attr = b; text = text_before_attribute (cells ++ screen) }) (fields_walked screen (n + 1) cells) whole (n + 1) ps (omega arith)
 break_on whole screen n Unknown ps (AttrCell b) cells = later_held (record { place = n; attr = b; text = text_before_attribute (cells ++ screen) }) (fields_walked screen (n + 1) cells) whole (n + 1) ps (omega arith)
 break_on whole screen n (Known k) ps (Char c) cells = refl
-break_on whole screen n (Told k) ps (Char c) cells = refl
+break_on whole screen n (Unplaced k) ps (Char c) cells = refl
 break_on whole screen n Unknown ps (Char c) cells = refl
 
 -- at the end there is none
@@ -111,12 +111,12 @@ run_kept whole screen n k [] (c ∷ cells) held read even = absurd (omega arith)
 run_kept whole screen n k (p ∷ ps) [] held read even = absurd (omega arith)
 run_kept whole screen n k (Attr a m t ∷ ps) (c ∷ cells) held read even = none_on whole screen n k (Attr a m t ∷ ps) (c ∷ cells) held
 run_kept whole screen n k (Known b ∷ ps) (AttrCell a ∷ cells) held read even = absurd (omega arith)
-run_kept whole screen n k (Told b ∷ ps) (AttrCell a ∷ cells) held read even = absurd (omega arith)
+run_kept whole screen n k (Unplaced b ∷ ps) (AttrCell a ∷ cells) held read even = absurd (omega arith)
 run_kept whole screen n k (Unknown ∷ ps) (AttrCell a ∷ cells) held read even = absurd (omega arith)
 run_kept whole screen n k (Known b ∷ ps) (Char c ∷ cells) held read even =
     run_on whole screen n k (length (chars_known ps)) ps cells (sym held) (run_kept whole screen (n + 1) (length (chars_known ps)) ps cells refl (omega arith) (omega arith)) (Known b) (Char c)
-run_kept whole screen n k (Told b ∷ ps) (Char c ∷ cells) held read even =
-    run_on whole screen n k (length (chars_known ps)) ps cells (sym held) (run_kept whole screen (n + 1) (length (chars_known ps)) ps cells refl (omega arith) (omega arith)) (Told b) (Char c)
+run_kept whole screen n k (Unplaced b ∷ ps) (Char c ∷ cells) held read even =
+    run_on whole screen n k (length (chars_known ps)) ps cells (sym held) (run_kept whole screen (n + 1) (length (chars_known ps)) ps cells refl (omega arith) (omega arith)) (Unplaced b) (Char c)
 run_kept whole screen n k (Unknown ∷ ps) (Char c ∷ cells) held read even =
     run_on whole screen n k (length (chars_known ps)) ps cells (sym held) (run_kept whole screen (n + 1) (length (chars_known ps)) ps cells refl (omega arith) (omega arith)) Unknown (Char c)
 
@@ -144,11 +144,11 @@ runs_broken whole screen n (Attr a m t ∷ ps) (Char c ∷ cells) other even =
     let here : lesser (n + 0) (n + suc (length (text_before_attribute cells))) ≡ n = lesser_left (n + 0) (n + suc (length (text_before_attribute cells))) (omega arith) ∙ (omega arith) in
     later_read (belief_held n a m t (ps ++ whole)) (beliefs_held whole (n + 1) ps) screen (n + 1) cells (omega arith) ∙ ap broken_at (sym here)
 runs_broken whole screen n (Known b ∷ ps) (AttrCell a ∷ cells) other even = read_first whole screen n a (length (chars_known ps)) ps cells
-runs_broken whole screen n (Told b ∷ ps) (AttrCell a ∷ cells) other even = read_first whole screen n a (length (chars_known ps)) ps cells
+runs_broken whole screen n (Unplaced b ∷ ps) (AttrCell a ∷ cells) other even = read_first whole screen n a (length (chars_known ps)) ps cells
 runs_broken whole screen n (Unknown ∷ ps) (AttrCell a ∷ cells) other even = read_first whole screen n a (length (chars_known ps)) ps cells
 runs_broken whole screen n (Known b ∷ ps) (Char c ∷ cells) other even =
     runs_broken whole screen (n + 1) ps cells (λ same. other (ap suc same)) (omega arith) ∙ further n (length (chars_known ps)) (length (text_before_attribute cells))
-runs_broken whole screen n (Told b ∷ ps) (Char c ∷ cells) other even =
+runs_broken whole screen n (Unplaced b ∷ ps) (Char c ∷ cells) other even =
     runs_broken whole screen (n + 1) ps cells (λ same. other (ap suc same)) (omega arith) ∙ further n (length (chars_known ps)) (length (text_before_attribute cells))
 runs_broken whole screen n (Unknown ∷ ps) (Char c ∷ cells) other even =
     runs_broken whole screen (n + 1) ps cells (λ same. other (ap suc same)) (omega arith) ∙ further n (length (chars_known ps)) (length (text_before_attribute cells))
@@ -181,10 +181,10 @@ module _ (whole : List CellBelief) (n : ℕ) (ps : List CellBelief) (text : List
       ∙ ap (λ (cs : List ℕ). by_other (Attr a m t) (AttrCell b) (not (same_attr b a) || (a.protected && differs (chars_known (ps ++ whole)) cs))) is
   rule_by (Attr a m t) (Char c) read is held = refl
   rule_by (Known k) (AttrCell b) read is held = refl
-  rule_by (Told k) (AttrCell b) read is held = refl
+  rule_by (Unplaced k) (AttrCell b) read is held = refl
   rule_by Unknown (AttrCell b) read is held = refl
   rule_by (Known k) (Char c) read is held = refl
-  rule_by (Told k) (Char c) read is held = refl
+  rule_by (Unplaced k) (Char c) read is held = refl
   rule_by Unknown (Char c) read is held = refl
 
 pub rule_here : (whole : List CellBelief) (n : ℕ) (cell : Cell) (read : List CellBelief) → n < length whole → IsHeld whole

@@ -7,7 +7,7 @@ use Rattle.codes3270.specs.declared.attribute.Cell.{Cell}
 use Rattle.codes3270.specs.declared.attribute.Cell.TheVariants.{Char as CharCell, Attr as AttrCell}
 use Rattle.codes3270.specs.Aid.{is_short_aid}
 use Rattle.datastream.specs.Screen.{Screen}
-use Rattle.datastream.specs.Held.{Held}
+use Rattle.datastream.specs.KeptByKeys.{KeptByKeys}
 use Rattle.datastream.specs.InboundFields.{Returned, leading_text, returned, cells_sent, field_parts, parts_of_fields, parts_of_cells, lead_of, returned_of}
 use Rattle.datastream.specs.InboundText.{stands_alone}
 use Rattle.datastream.specs.declared.inbound_part.Form.TheVariants.{Modified}
@@ -58,7 +58,7 @@ long_heard size shadow now =
     ap (λ l. heard_long size shadow l (returned (parts_of_fields (lead_of now.cells) (returned_of now.cells)))) (lead_back (lead_of now.cells) (returned_of now.cells))
     ∙ ap (heard_long size shadow (lead_of now.cells)) (returned_back (lead_of now.cells) (returned_of now.cells))
 
-long_believed : (size : ℕ) (erased : Bool) (shadow : Shadow) (left now : Screen) → Knows shadow → length now.cells ≡ size → Meets shadow left → Held erased left.cells now.cells
+long_believed : (size : ℕ) (erased : Bool) (shadow : Shadow) (left now : Screen) → Knows shadow → length now.cells ≡ size → Meets shadow left → KeptByKeys erased left.cells now.cells
     → IsOkAnd (heard_parts size shadow (parts_of_fields (lead_of now.cells) (returned_of now.cells))) (λ new. Meets new now × ListsFields new now × IsTold new now)
 long_believed size erased shadow left now knows whole meets held =
     subst (λ r. IsOkAnd r (λ new. Meets new now × ListsFields new now × IsTold new now)) (sym (long_heard size shadow now))

@@ -4,7 +4,7 @@ use Rattle.std.proofs.Math.Seq.{take-add, set-append_seam}
 use Rattle.std.proofs.lemmas.List.{length-drop, length-map, length-take-le, map-append, replicate-append-replicate, take_more, take_all}
 use Rattle.shadow.specs.declared.known.Known.{Known as KnownCell}
 use Rattle.shadow.specs.declared.cell_belief.CellBelief.{CellBelief}
-use Rattle.shadow.specs.declared.cell_belief.CellBelief.TheVariants.{Attr, Known, Told, Unknown}
+use Rattle.shadow.specs.declared.cell_belief.CellBelief.TheVariants.{Attr, Known, Unplaced, Unknown}
 use Rattle.shadow.specs.declared.cell_belief.BeforeWrite.{BeforeWrite}
 use Rattle.shadow.specs.InPlace.{chars_known}
 use Rattle.shadow.specs.Since.{never, settled}
@@ -17,7 +17,7 @@ chars_settled whole before [] qs even = refl
 chars_settled whole before (p ∷ ps) [] even = absurd (omega arith)
 chars_settled whole before (Attr a m t ∷ ps) (q ∷ qs) even = refl
 chars_settled whole before (Known c ∷ ps) (q ∷ qs) even = ap (λ (rs : List CellBelief). Known c ∷ rs) (chars_settled whole before ps qs (omega arith))
-chars_settled whole before (Told c ∷ ps) (q ∷ qs) even = ap (λ (rs : List CellBelief). Told c ∷ rs) (chars_settled whole before ps qs (omega arith))
+chars_settled whole before (Unplaced c ∷ ps) (q ∷ qs) even = ap (λ (rs : List CellBelief). Unplaced c ∷ rs) (chars_settled whole before ps qs (omega arith))
 chars_settled whole before (Unknown ∷ ps) (q ∷ qs) even = ap (λ (rs : List CellBelief). Unknown ∷ rs) (chars_settled whole before ps qs (omega arith))
 
 -- so the walk goes on at the next attribute
@@ -42,7 +42,7 @@ chars_never : (ps : List CellBelief) → map past_kept (take (length (chars_know
 chars_never [] = refl
 chars_never (Attr a m t ∷ ps) = refl
 chars_never (Known c ∷ ps) = ap (λ (qs : List BeforeWrite). never ∷ qs) (chars_never ps)
-chars_never (Told c ∷ ps) = ap (λ (qs : List BeforeWrite). never ∷ qs) (chars_never ps)
+chars_never (Unplaced c ∷ ps) = ap (λ (qs : List BeforeWrite). never ∷ qs) (chars_never ps)
 chars_never (Unknown ∷ ps) = ap (λ (qs : List BeforeWrite). never ∷ qs) (chars_never ps)
 
 pub kept_passed : (n : ℕ) (ps : List CellBelief) (from to : ℕ) → to ≡ from + length (chars_known (drop from ps)) → to ≤ n → kept_to n ps from ≡ kept_to n ps to

@@ -9,10 +9,10 @@ use Rattle.shadow.specs.declared.mdt_state.MdtState.{MdtState}
 use Rattle.shadow.specs.declared.cell_belief.TextKnowledge.{TextKnowledge}
 use Rattle.shadow.specs.declared.cell_belief.TextKnowledge.TheVariants.{Cells}
 use Rattle.shadow.specs.declared.cell_belief.CellBelief.{CellBelief}
-use Rattle.shadow.specs.declared.cell_belief.CellBelief.TheVariants.{Attr, Known as KnownPlace, Told, Unknown}
+use Rattle.shadow.specs.declared.cell_belief.CellBelief.TheVariants.{Attr, Known as KnownPlace, Unplaced, Unknown}
 use Rattle.shadow.specs.declared.cell_belief.BeforeWrite.{BeforeWrite}
 use Rattle.shadow.specs.Belief.{Fact, Belief}
-use Rattle.shadow.specs.Seen.{known_chars}
+use Rattle.shadow.specs.AfterReadBuffer.{known_chars}
 use Rattle.shadow.specs.InPlace.{cell_known, cells_known, chars_known, text_told, fact_told, fact_held, belief_held, beliefs_held, shadow_held, SaysCells, AreHeld, IsHeld}
 use Rattle.shadow.specs.Since.{knowledge_of, cells_written, Since, is_touched, knowledge_after, settled}
 use Rattle.shadow.specs.Taken.{known_ahead, fresh_ahead, whole_text, exact_or_any, fact_known, fact_before, fact_after, beliefs_from, formatted_as, believed}
@@ -66,7 +66,7 @@ neither false b e = (refl, e)
 there : (o : CellBelief) (s : TextKnowledge) → knowledge_of o ≡ Some s → (os : List CellBelief) → (chars_known (o ∷ os) ≡ []) × (text_told (o ∷ os) ≡ [])
 there (Attr a m t) s e os = (refl, refl)
 there (KnownPlace c) s e os = absurd (cc)
-there (Told c) s e os = absurd (cc)
+there (Unplaced c) s e os = absurd (cc)
 there Unknown s e os = absurd (cc)
 
 -- one character further
@@ -92,10 +92,10 @@ untouched (o ∷ os) (KnownPlace c ∷ ns) (q ∷ qs) h e =
     let both = neither q.fresh (is_touched (cells_written ns qs) qs) e in
     subst (λ (f : Bool). AsBefore (o ∷ os) (KnownPlace c ∷ ns) (KnownChar (Some c) f ∷ cells_written ns qs)) (sym both.0)
     (char_as_before o (KnownPlace c) os ns (cells_written ns qs) (Some c) (h.1 both.0) refl (λ ms. refl) (λ ms ls k. refl) (untouched os ns qs h.2 both.1))
-untouched (o ∷ os) (Told c ∷ ns) (q ∷ qs) h e =
+untouched (o ∷ os) (Unplaced c ∷ ns) (q ∷ qs) h e =
     let both = neither q.fresh (is_touched (cells_written ns qs) qs) e in
-    subst (λ (f : Bool). AsBefore (o ∷ os) (Told c ∷ ns) (KnownChar None f ∷ cells_written ns qs)) (sym both.0)
-    (char_as_before o (Told c) os ns (cells_written ns qs) None (h.1 both.0) refl (λ ms. refl) (λ ms ls k. ap (λ (cs : List ℕ). c ∷ cs) k) (untouched os ns qs h.2 both.1))
+    subst (λ (f : Bool). AsBefore (o ∷ os) (Unplaced c ∷ ns) (KnownChar None f ∷ cells_written ns qs)) (sym both.0)
+    (char_as_before o (Unplaced c) os ns (cells_written ns qs) None (h.1 both.0) refl (λ ms. refl) (λ ms ls k. ap (λ (cs : List ℕ). c ∷ cs) k) (untouched os ns qs h.2 both.1))
 untouched (o ∷ os) (Unknown ∷ ns) (q ∷ qs) h e =
     let both = neither q.fresh (is_touched (cells_written ns qs) qs) e in
     subst (λ (f : Bool). AsBefore (o ∷ os) (Unknown ∷ ns) (KnownChar None f ∷ cells_written ns qs)) (sym both.0)
@@ -106,7 +106,7 @@ untouched (o ∷ os) (Unknown ∷ ns) (q ∷ qs) h e =
 shorter : (o : CellBelief) → knowledge_of o ≡ None → (os : List CellBelief) → 0 < length (chars_known (o ∷ os))
 shorter (Attr a m t) e os = absurd (cc)
 shorter (KnownPlace c) e os = omega arith
-shorter (Told c) e os = omega arith
+shorter (Unplaced c) e os = omega arith
 shorter Unknown e os = omega arith
 
 either : (a b : Bool) → (a || b) ≡ true → a ≡ false → b ≡ true
@@ -126,9 +126,9 @@ touched_longer (o ∷ os) (Attr a m t ∷ ns) (q ∷ qs) h e f = shorter o (sym 
 touched_longer (o ∷ os) (KnownPlace c ∷ ns) (q ∷ qs) h e f =
     let both = neither q.fresh (fresh_ahead (cells_written ns qs)) f in
     one_longer o (KnownPlace c) os (length (known_ahead (cells_written ns qs))) (h.1 both.0) refl (touched_longer os ns qs h.2 (either q.fresh (is_touched (cells_written ns qs) qs) e both.0) both.1)
-touched_longer (o ∷ os) (Told c ∷ ns) (q ∷ qs) h e f =
+touched_longer (o ∷ os) (Unplaced c ∷ ns) (q ∷ qs) h e f =
     let both = neither q.fresh (fresh_ahead (cells_written ns qs)) f in
-    one_longer o (Told c) os (length (known_ahead (cells_written ns qs))) (h.1 both.0) refl (touched_longer os ns qs h.2 (either q.fresh (is_touched (cells_written ns qs) qs) e both.0) both.1)
+    one_longer o (Unplaced c) os (length (known_ahead (cells_written ns qs))) (h.1 both.0) refl (touched_longer os ns qs h.2 (either q.fresh (is_touched (cells_written ns qs) qs) e both.0) both.1)
 touched_longer (o ∷ os) (Unknown ∷ ns) (q ∷ qs) h e f =
     let both = neither q.fresh (fresh_ahead (cells_written ns qs)) f in
     one_longer o Unknown os (length (known_ahead (cells_written ns qs))) (h.1 both.0) refl (touched_longer os ns qs h.2 (either q.fresh (is_touched (cells_written ns qs) qs) e both.0) both.1)
@@ -142,7 +142,7 @@ settled_chars ks before [] (q ∷ qs) more cells e h = absurd (omega arith)
 settled_chars ks before (n ∷ ns) [] more cells e h = absurd (omega arith)
 settled_chars ks before (Attr a m t ∷ ns) (q ∷ qs) more cells e h = refl
 settled_chars ks before (KnownPlace c ∷ ns) (q ∷ qs) more cells e h = ap (λ (cs : List (Option ℕ)). Some c ∷ cs) (settled_chars ks before ns qs more cells (omega arith) h)
-settled_chars ks before (Told c ∷ ns) (q ∷ qs) more cells e h = ap (λ (cs : List (Option ℕ)). None ∷ cs) (settled_chars ks before ns qs more cells (omega arith) h)
+settled_chars ks before (Unplaced c ∷ ns) (q ∷ qs) more cells e h = ap (λ (cs : List (Option ℕ)). None ∷ cs) (settled_chars ks before ns qs more cells (omega arith) h)
 settled_chars ks before (Unknown ∷ ns) (q ∷ qs) more cells e h = ap (λ (cs : List (Option ℕ)). None ∷ cs) (settled_chars ks before ns qs more cells (omega arith) h)
 
 pub settled_told : (ks : List Known) (before : List BeforeWrite) (ns : List CellBelief) (qs : List BeforeWrite) (more others : List CellBelief) → length ns ≡ length qs → text_told more ≡ text_told others
@@ -152,7 +152,7 @@ settled_told ks before [] (q ∷ qs) more others e h = absurd (omega arith)
 settled_told ks before (n ∷ ns) [] more others e h = absurd (omega arith)
 settled_told ks before (Attr a m t ∷ ns) (q ∷ qs) more others e h = refl
 settled_told ks before (KnownPlace c ∷ ns) (q ∷ qs) more others e h = refl
-settled_told ks before (Told c ∷ ns) (q ∷ qs) more others e h = ap (λ (cs : List ℕ). c ∷ cs) (settled_told ks before ns qs more others (omega arith) h)
+settled_told ks before (Unplaced c ∷ ns) (q ∷ qs) more others e h = ap (λ (cs : List ℕ). c ∷ cs) (settled_told ks before ns qs more others (omega arith) h)
 settled_told ks before (Unknown ∷ ns) (q ∷ qs) more others e h = refl
 
 -- ---- what is told one by one says its cells
@@ -180,19 +180,19 @@ none_later : (whole : List CellBelief) (n : ℕ) (rest : List CellBelief) (p cou
 none_later whole n [] p count later = refl
 none_later whole n (Attr a m t ∷ rest) p count later = rw (ne_eqb n p (λ e. omega arith)) (none_later whole (n + 1) rest p count (omega arith))
 none_later whole n (KnownPlace c ∷ rest) p count later = none_later whole (n + 1) rest p count (omega arith)
-none_later whole n (Told c ∷ rest) p count later = none_later whole (n + 1) rest p count (omega arith)
+none_later whole n (Unplaced c ∷ rest) p count later = none_later whole (n + 1) rest p count (omega arith)
 none_later whole n (Unknown ∷ rest) p count later = none_later whole (n + 1) rest p count (omega arith)
 
 pub later_facts : (whole : List CellBelief) (n : ℕ) (o : CellBelief) (rest : List CellBelief) (p count : ℕ) → n + 1 ≤ p → fact_before (beliefs_held whole n (o ∷ rest)) p count ≡ fact_before (beliefs_held whole (n + 1) rest) p count
 later_facts whole n (Attr a m t) rest p count later = rw (ne_eqb n p (λ e. omega arith)) refl
 later_facts whole n (KnownPlace c) rest p count later = refl
-later_facts whole n (Told c) rest p count later = refl
+later_facts whole n (Unplaced c) rest p count later = refl
 later_facts whole n Unknown rest p count later = refl
 
 no_fact : (whole : List CellBelief) (n : ℕ) (o : CellBelief) (rest : List CellBelief) (count : ℕ) → knowledge_of o ≡ None → fact_before (beliefs_held whole n (o ∷ rest)) n count ≡ None
 no_fact whole n (Attr a m t) rest count e = absurd (cc)
 no_fact whole n (KnownPlace c) rest count e = none_later whole (n + 1) rest n count (omega arith)
-no_fact whole n (Told c) rest count e = none_later whole (n + 1) rest n count (omega arith)
+no_fact whole n (Unplaced c) rest count e = none_later whole (n + 1) rest n count (omega arith)
 no_fact whole n Unknown rest count e = none_later whole (n + 1) rest n count (omega arith)
 
 its_fact : (whole : List CellBelief) (n : ℕ) (o : CellBelief) (rest : List CellBelief) (count : ℕ) (t : TextKnowledge) → knowledge_of o ≡ Some t → count ≡ length (chars_known (rest ++ whole))
@@ -200,26 +200,26 @@ its_fact : (whole : List CellBelief) (n : ℕ) (o : CellBelief) (rest : List Cel
 its_fact whole n (Attr a m s) rest count t e same =
     rw (eq-eqb n n refl, eq-eqb (length (chars_known (rest ++ whole))) count (sym same)) (ap (λ (u : TextKnowledge). Some (fact_held u (rest ++ whole))) (same_Some _ _ e))
 its_fact whole n (KnownPlace c) rest count t e same = absurd (cc)
-its_fact whole n (Told c) rest count t e same = absurd (cc)
+its_fact whole n (Unplaced c) rest count t e same = absurd (cc)
 its_fact whole n Unknown rest count t e same = absurd (cc)
 
 other_fact : (whole : List CellBelief) (n : ℕ) (o : CellBelief) (rest : List CellBelief) (count : ℕ) → count < length (chars_known (rest ++ whole)) → fact_before (beliefs_held whole n (o ∷ rest)) n count ≡ None
 other_fact whole n (Attr a m s) rest count longer =
     rw (eq-eqb n n refl, ne_eqb (length (chars_known (rest ++ whole))) count (λ e. omega arith)) (none_later whole (n + 1) rest n count (omega arith))
 other_fact whole n (KnownPlace c) rest count longer = none_later whole (n + 1) rest n count (omega arith)
-other_fact whole n (Told c) rest count longer = none_later whole (n + 1) rest n count (omega arith)
+other_fact whole n (Unplaced c) rest count longer = none_later whole (n + 1) rest n count (omega arith)
 other_fact whole n Unknown rest count longer = none_later whole (n + 1) rest n count (omega arith)
 
 held_rest : (whole : List CellBelief) (o : CellBelief) (os : List CellBelief) → AreHeld whole (o ∷ os) → AreHeld whole os
 held_rest whole (Attr a m t) os h = h.1
 held_rest whole (KnownPlace c) os h = h
-held_rest whole (Told c) os h = h
+held_rest whole (Unplaced c) os h = h
 held_rest whole Unknown os h = h
 
 held_here : (whole : List CellBelief) (o : CellBelief) (os : List CellBelief) (t : TextKnowledge) → knowledge_of o ≡ Some t → AreHeld whole (o ∷ os) → SaysCells t (os ++ whole)
 held_here whole (Attr a m s) os t e h = subst (λ (u : TextKnowledge). SaysCells u (os ++ whole)) (same_Some _ _ e) h.0
 held_here whole (KnownPlace c) os t e h = absurd (cc)
-held_here whole (Told c) os t e h = absurd (cc)
+held_here whole (Unplaced c) os t e h = absurd (cc)
 held_here whole Unknown os t e h = absurd (cc)
 
 -- ---- all together
@@ -318,7 +318,7 @@ module _ (olds news : List CellBelief) (pasts : List BeforeWrite) (since : Since
   Settled n ns qs = (beliefs_held after n (settled cells pasts ns qs) ≡ beliefs_from before cells n (cells_written ns qs)) × AreHeld after (settled cells pasts ns qs)
 
   belief_of : ℕ → Attribute → MdtState → List (Option ℕ) → Fact → Belief
-  belief_of n a m known fact = record { place = n; attr = a; mark = m; length = length known; fact = fact }
+  belief_of n a m known fact = record { place = n; attr = a; mdt = m; length = length known; fact = fact }
 
   each : (n : ℕ) (os ns : List CellBelief) (qs : List BeforeWrite) → Since os ns qs → AreHeld olds os → Facts n os → Settled n ns qs
   unfolding belief_of
@@ -328,7 +328,7 @@ module _ (olds news : List CellBelief) (pasts : List BeforeWrite) (since : Since
   each n (o ∷ os) [] qs h said facts = absurd h
   each n (o ∷ os) (x ∷ ns) [] h said facts = absurd h
   each n (o ∷ os) (KnownPlace c ∷ ns) (q ∷ qs) h said facts = each (n + 1) os ns qs h.2 (held_rest olds o os said) (facts_on n o os facts)
-  each n (o ∷ os) (Told c ∷ ns) (q ∷ qs) h said facts = each (n + 1) os ns qs h.2 (held_rest olds o os said) (facts_on n o os facts)
+  each n (o ∷ os) (Unplaced c ∷ ns) (q ∷ qs) h said facts = each (n + 1) os ns qs h.2 (held_rest olds o os said) (facts_on n o os facts)
   each n (o ∷ os) (Unknown ∷ ns) (q ∷ qs) h said facts = each (n + 1) os ns qs h.2 (held_rest olds o os said) (facts_on n o os facts)
   each n (o ∷ os) (Attr a m t ∷ ns) (q ∷ qs) h said facts =
       let more = each (n + 1) os ns qs h.2 (held_rest olds o os said) (facts_on n o os facts) in

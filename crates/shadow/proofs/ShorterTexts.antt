@@ -8,8 +8,8 @@ use Rattle.shadow.specs.declared.mdt_state.MdtState.{MdtState}
 use Rattle.shadow.specs.declared.cell_belief.TextKnowledge.{TextKnowledge}
 use Rattle.shadow.specs.declared.cell_belief.TextKnowledge.TheVariants.{Cells, ExactOrNulls, Text, TextOrNulls}
 use Rattle.shadow.specs.declared.cell_belief.CellBelief.{CellBelief}
-use Rattle.shadow.specs.declared.cell_belief.CellBelief.TheVariants.{Attr, Known, Told, Unknown}
-use Rattle.shadow.specs.Asked.{value_of}
+use Rattle.shadow.specs.declared.cell_belief.CellBelief.TheVariants.{Attr, Known, Unplaced, Unknown}
+use Rattle.shadow.specs.Queries.{value_of}
 use Rattle.shadow.specs.Belief.{Fact}
 use Rattle.shadow.specs.InPlace.{chars_known, fact_held, is_whole, known_text, text_told}
 use Rattle.shadow.proofs.Placed.{exact_held, any_held}
@@ -25,14 +25,14 @@ chars_before : (xs ys : List CellBelief) (a : Attribute) (m : MdtState) (t : Tex
 chars_before [] ys a m t = omega arith
 chars_before (Attr b n u ∷ xs) ys a m t = omega arith
 chars_before (Known c ∷ xs) ys a m t = let rest = chars_before xs ys a m t in omega arith
-chars_before (Told c ∷ xs) ys a m t = let rest = chars_before xs ys a m t in omega arith
+chars_before (Unplaced c ∷ xs) ys a m t = let rest = chars_before xs ys a m t in omega arith
 chars_before (Unknown ∷ xs) ys a m t = let rest = chars_before xs ys a m t in omega arith
 
 told_before : (xs ys : List CellBelief) (a : Attribute) (m : MdtState) (t : TextKnowledge) → length (text_told (xs ++ Attr a m t ∷ ys)) ≤ length xs
 told_before [] ys a m t = omega arith
 told_before (Attr b n u ∷ xs) ys a m t = omega arith
 told_before (Known c ∷ xs) ys a m t = omega arith
-told_before (Told c ∷ xs) ys a m t = let rest = told_before xs ys a m t in omega arith
+told_before (Unplaced c ∷ xs) ys a m t = let rest = told_before xs ys a m t in omega arith
 told_before (Unknown ∷ xs) ys a m t = omega arith
 
 cells_within : (whole : Bool) (ahead : List CellBelief) (n : ℕ) → is_whole (chars_known ahead) ≡ whole → length (chars_known ahead) ≤ n → length (value_of (fact_held Cells ahead)) ≤ n

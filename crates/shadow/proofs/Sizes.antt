@@ -30,7 +30,7 @@ use Rattle.shadow.specs.declared.mdt_state.MdtState.TheVariants.{Unknown}
 use Rattle.shadow.specs.Belief.{Belief, Shadow, cells_of_fields, IsOfSize}
 use Rattle.shadow.specs.Exactness.{FieldIsExact, KnownIsExact}
 use Rattle.shadow.specs.Heard.{Answer, starts_at, is_nowhere, answer_and, answers, contradicts, was_erased, after_long, settled, heard_long, unknown_fact, after_attention, heard_attention, heard_short, heard_parts, heard}
-use Rattle.shadow.specs.Seen.{known_chars, seen, denies_buffer}
+use Rattle.shadow.specs.AfterReadBuffer.{known_chars, seen, denies_buffer}
 use Rattle.shadow.specs.Sized.{HeardIsOfSize, TakenIsOfSize}
 use Rattle.shadow.specs.Stores.{Store, stores, stores_unplaced, is_plain_order}
 use Rattle.shadow.specs.Taken.{old_char, field_cells, first_place, laid_out, new_cell, known_stored, mark_off, marks_off_if, known_ahead, beliefs_from, formatted_as, believed, resets, known_after, after_write, taken_write, taken_erase, taken_code}
@@ -53,7 +53,7 @@ attention_cells [] = refl
 attention_cells (b ∷ bs) = cases b.attr.protected (attention_cells bs)
   where
     cases : (p : Bool) → cells_of_fields (map after_attention bs) ≡ cells_of_fields bs
-        → suc (if p then b else record b { mark = Unknown; fact = unknown_fact b.length }).length + cells_of_fields (map after_attention bs) ≡ suc b.length + cells_of_fields bs
+        → suc (if p then b else record b { mdt = Unknown; fact = unknown_fact b.length }).length + cells_of_fields (map after_attention bs) ≡ suc b.length + cells_of_fields bs
     cases true e = ap (λ (k : ℕ). suc b.length + k) e
     cases false e = ap (λ (k : ℕ). suc b.length + k) e
 

@@ -19,7 +19,7 @@ use Rattle.datastream.specs.Writing.{Call, sba, sf, chars, ic, orders_of, IsAllo
 use Rattle.datastream.specs.Grammar.{IsProper}
 use Rattle.datastream.specs.declared.command_code.CommandCode.{CommandCode}
 use Rattle.datastream.specs.declared.order.Order.{Order}
-use Rattle.datastream.specs.declared.order.Order.TheVariants.{Sf, Sba, Ic, Pt, Ra, Eua, Char as Data}
+use Rattle.datastream.specs.declared.order.Order.TheVariants.{Sf, Sba, Ic, Pt, Ra, Eua, Char as CharData}
 use Rattle.datastream.specs.declared.wanted.Want.{Want}
 use Rattle.datastream.specs.declared.wanted.Want.TheVariants.{Char as WantChar, Attr as WantAttr, Keep}
 use Rattle.shadow.specs.Appending.{IsStorableCell}
@@ -36,7 +36,7 @@ use Rattle.shadow.proofs.Paints.{code_writes}
 module _ (size : ℕ) where
   -- such an order, in its range
   abbrev IsCalled : Order → Type 0
-  IsCalled (Data byte) = is_storable byte ≡ true
+  IsCalled (CharData byte) = is_storable byte ≡ true
   IsCalled (Sf attribute) = ⊤
   IsCalled (Sba address) = address < size
   IsCalled Ic = ⊤
@@ -46,7 +46,7 @@ module _ (size : ℕ) where
 
   -- its call
   abbrev call_of : Order → Call
-  call_of (Data byte) = chars (byte ∷ [])
+  call_of (CharData byte) = chars (byte ∷ [])
   call_of (Sf attribute) = sf attribute
   call_of (Sba address) = sba address
   call_of Ic = ic
@@ -55,7 +55,7 @@ module _ (size : ℕ) where
   call_of (Eua stop) = ic
 
   named : (order : Order) → IsCalled order → orders_of (call_of order) ≡ order ∷ []
-  named (Data byte) is = refl
+  named (CharData byte) is = refl
   named (Sf attribute) is = refl
   named (Sba address) is = refl
   named Ic is = refl
@@ -64,7 +64,7 @@ module _ (size : ℕ) where
   named (Eua stop) is = absurd is
 
   allowed : (order : Order) → IsCalled order → IsAllowed size (call_of order)
-  allowed (Data byte) is = All-cons (IsProper size) (Data byte) [] is (All-nil (IsProper size))
+  allowed (CharData byte) is = All-cons (IsProper size) (CharData byte) [] is (All-nil (IsProper size))
   allowed (Sf attribute) is = All-cons (IsProper size) (Sf attribute) [] tt (All-nil (IsProper size))
   allowed (Sba address) is = All-cons (IsProper size) (Sba address) [] is (All-nil (IsProper size))
   allowed Ic is = All-cons (IsProper size) Ic [] tt (All-nil (IsProper size))

@@ -24,12 +24,12 @@ use Rattle.datastream.proofs.InboundViews.{any_returned_proper}
 use Rattle.datastream.proofs.Texts.{All-ring}
 use Rattle.shadow.specs.declared.fault.HeardFault.TheVariants.{NoSuchField, Contradiction}
 use Rattle.shadow.specs.declared.mdt_state.MdtState.TheVariants.{Unknown}
-use Rattle.shadow.specs.Asked.{belief_with}
+use Rattle.shadow.specs.Queries.{belief_with}
 use Rattle.shadow.specs.Belief.{Fact, Belief, Shadow, nulls}
 use Rattle.shadow.specs.Doubt.{DoubtCanBeStored}
 use Rattle.shadow.specs.Heard.{Answer, starts_at, is_nowhere, answer_and, answers, contradicts, was_erased, text_fact, or_nulls, unprotected_fact, after_long, settled, heard_long, unknown_fact, after_attention, heard_attention, heard_short, heard_parts, heard}
 use Rattle.shadow.specs.Meets.{told}
-use Rattle.shadow.specs.Seen.{belief_seen, formatted_or, seen, denies_buffer}
+use Rattle.shadow.specs.AfterReadBuffer.{belief_seen, formatted_or, seen, denies_buffer}
 use Rattle.shadow.specs.Storable.{IsStorable, IsTextChar, IsStorableIfKnown, FactCanBeStored, FieldCanBeStored, CanBeStored, HeardCanBeStored, ToldCanBeStored}
 
 -- ---- a screen that is wholly known
@@ -96,7 +96,7 @@ long_storable erased b text h came = cases b.attr.protected text came
 attention_storable : (b : Belief) → FieldCanBeStored b → FieldCanBeStored (after_attention b)
 attention_storable b h = cases b.attr.protected
   where
-    cases : (p : Bool) → FieldCanBeStored (if p then b else record b { mark = Unknown; fact = unknown_fact b.length })
+    cases : (p : Bool) → FieldCanBeStored (if p then b else record b { mdt = Unknown; fact = unknown_fact b.length })
     cases true = h
     cases false = unknown_storable b.length
 

@@ -15,12 +15,12 @@ use Rattle.datastream.specs.Span.{distance, is_within}
 use Rattle.datastream.specs.declared.command_code.CommandCode.{CommandCode}
 use Rattle.datastream.specs.declared.command_code.CommandCode.TheVariants.{Write, EraseWrite, EraseWriteAlternate, ReadBuffer, ReadModified, ReadModifiedAll, EraseAllUnprotected}
 use Rattle.datastream.specs.declared.order.Order.{Order}
-use Rattle.datastream.specs.declared.order.Order.TheVariants.{Sf, Sba, Ic, Pt, Ra, Eua, Char as Data}
+use Rattle.datastream.specs.declared.order.Order.TheVariants.{Sf, Sba, Ic, Pt, Ra, Eua, Char as CharData}
 use Rattle.datastream.proofs.Commands.{command_proper}
 use Rattle.shadow.specs.declared.known.Known.{Known}
 use Rattle.shadow.specs.declared.known.Known.TheVariants.{Attr as KnownAttr, Char as KnownChar}
 use Rattle.shadow.specs.Belief.{Fact, Belief, Shadow}
-use Rattle.shadow.specs.Seen.{known_chars, seen}
+use Rattle.shadow.specs.AfterReadBuffer.{known_chars, seen}
 use Rattle.shadow.specs.Storable.{IsStorable, IsStorableIfKnown, FactCanBeStored, FieldCanBeStored, CanBeStored, TakenCanBeStored}
 use Rattle.shadow.specs.Stores.{Store, stores, address_after, stores_unplaced}
 use Rattle.shadow.specs.Taken.{old_char, field_cells, first_place, laid_out, new_cell, known_stored, mark_off, marks_off_if, known_ahead, fresh_ahead, and_char, whole_text, exact_or_any, fact_known, fact_before, fact_after, belief_after, beliefs_from, formatted_as, believed, resets, known_after, after_write, taken_write, taken}
@@ -47,7 +47,7 @@ each_field_storable [] h = All-nil IsStorableKnown
 each_field_storable (b ∷ bs) h =
     let chars : List (Option ℕ) = known_chars b.length b.fact in
     All-append IsStorableKnown (field_cells b) (flat_map field_cells bs)
-    (All-cons IsStorableKnown (KnownAttr b.attr b.mark) (map old_char chars) tt (old_storable chars (chars_storable b.length b.fact (All-head FieldCanBeStored b bs h))))
+    (All-cons IsStorableKnown (KnownAttr b.attr b.mdt) (map old_char chars) tt (old_storable chars (chars_storable b.length b.fact (All-head FieldCanBeStored b bs h))))
     (each_field_storable bs (All-tail FieldCanBeStored b bs h))
 
 laid_out_storable : (size : ℕ) (bs : List Belief) → All FieldCanBeStored bs → All IsStorableKnown (laid_out size bs)
@@ -65,9 +65,9 @@ IsStorableStore store = IsStorableCell store.cell
 module _ (n : ℕ) where
   stores_storable : (size at : ℕ) (orders : List Order) → All (IsProper n) orders → All IsStorableStore (stores size at orders)
   stores_storable size at [] h = All-nil IsStorableStore
-  stores_storable size at (Data c ∷ orders) h =
-      All-cons IsStorableStore (record { at = at; cell = Char c }) (stores size (address_after size at (Data c)) orders) (All-head (IsProper n) (Data c) orders h)
-      (stores_storable size (address_after size at (Data c)) orders (All-tail (IsProper n) (Data c) orders h))
+  stores_storable size at (CharData c ∷ orders) h =
+      All-cons IsStorableStore (record { at = at; cell = Char c }) (stores size (address_after size at (CharData c)) orders) (All-head (IsProper n) (CharData c) orders h)
+      (stores_storable size (address_after size at (CharData c)) orders (All-tail (IsProper n) (CharData c) orders h))
   stores_storable size at (Sf a ∷ orders) h =
       All-cons IsStorableStore (record { at = at; cell = Attr a }) (stores size (address_after size at (Sf a)) orders) tt
       (stores_storable size (address_after size at (Sf a)) orders (All-tail (IsProper n) (Sf a) orders h))
@@ -209,7 +209,7 @@ module _ (n : ℕ) where
   tabbed_storable false from count cells h = h
 
   order_storable : (order : Order) (write : WriteProgress) → IsProper n order → All IsStorableCell write.screen.cells → All IsStorableCell (executed order write).screen.cells
-  order_storable (Data c) write p h = All-set IsStorableCell write.screen.cells write.address (Char c) p h
+  order_storable (CharData c) write p h = All-set IsStorableCell write.screen.cells write.address (Char c) p h
   order_storable (Sf a) write p h = All-set IsStorableCell write.screen.cells write.address (Attr a) tt h
   order_storable (Sba to) write p h = h
   order_storable Ic write p h = h

@@ -7,7 +7,7 @@ use Rattle.codes3270.specs.declared.attribute.Cell.TheVariants.{Char, Attr}
 use Rattle.datastream.specs.Screen.{Screen}
 use Rattle.datastream.specs.Meaning.{WriteProgress, all_executed, executed}
 use Rattle.datastream.specs.declared.order.Order.{Order}
-use Rattle.datastream.specs.declared.order.Order.TheVariants.{Sf, Sba, Ic, Pt, Ra, Eua, Char as Data}
+use Rattle.datastream.specs.declared.order.Order.TheVariants.{Sf, Sba, Ic, Pt, Ra, Eua, Char as CharData}
 use Rattle.shadow.specs.Belief.{next_address}
 use Rattle.shadow.specs.Stores.{Store, stores, is_plain_order}
 
@@ -21,7 +21,7 @@ cursor_after size cursor at [] = cursor
 cursor_after size cursor at (Sba to ∷ orders) = cursor_after size cursor to orders
 cursor_after size cursor at (Sf attr ∷ orders) = cursor_after size cursor (next_address size at) orders
 cursor_after size cursor at (Ic ∷ orders) = cursor_after size at at orders
-cursor_after size cursor at (Data c ∷ orders) = cursor_after size cursor (next_address size at) orders
+cursor_after size cursor at (CharData c ∷ orders) = cursor_after size cursor (next_address size at) orders
 cursor_after size cursor at (Pt ∷ orders) = cursor_after size cursor at orders
 cursor_after size cursor at (Ra stop c ∷ orders) = cursor_after size cursor at orders
 cursor_after size cursor at (Eua stop ∷ orders) = cursor_after size cursor at orders
@@ -42,8 +42,8 @@ plain_orders size (Ic ∷ orders) write p whole = plain_orders size orders (exec
 plain_orders size (Sf attr ∷ orders) write p whole =
     plain_orders size orders (executed (Sf attr) write) p (length-set write.screen.cells write.address (Attr attr) ∙ whole)
     ∙ ap (λ n. screen_stored size (record { screen = record write.screen { cells = set write.screen.cells write.address (Attr attr) }; address = next_address n write.address; after_data = false }) orders) whole
-plain_orders size (Data c ∷ orders) write p whole =
-    plain_orders size orders (executed (Data c) write) p (length-set write.screen.cells write.address (Char c) ∙ whole)
+plain_orders size (CharData c ∷ orders) write p whole =
+    plain_orders size orders (executed (CharData c) write) p (length-set write.screen.cells write.address (Char c) ∙ whole)
     ∙ ap (λ n. screen_stored size (record { screen = record write.screen { cells = set write.screen.cells write.address (Char c) }; address = next_address n write.address; after_data = true }) orders) whole
 plain_orders size (Pt ∷ orders) write p whole = absurd (cc)
 plain_orders size (Ra stop c ∷ orders) write p whole = absurd (cc)

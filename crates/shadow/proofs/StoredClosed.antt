@@ -12,7 +12,7 @@ use Rattle.datastream.proofs.Fields.{option_or_assoc, option_or-none, last_attri
 use Rattle.shadow.specs.declared.known.Known.{Known}
 use Rattle.shadow.specs.declared.known.Known.TheVariants.{Attr as KnownAttr, Char as KnownChar}
 use Rattle.shadow.specs.Belief.{Belief}
-use Rattle.shadow.specs.Seen.{known_chars}
+use Rattle.shadow.specs.AfterReadBuffer.{known_chars}
 use Rattle.shadow.specs.Notes.{IsOutsideInput, IsOverProtected}
 use Rattle.shadow.specs.Pairs.{Pairwise}
 use Rattle.shadow.specs.Stores.{Store}
@@ -64,7 +64,7 @@ stale_fields : (bs : List Belief) → All IsStale (flat_map field_cells bs)
 stale_fields [] = All-nil IsStale
 stale_fields (b ∷ bs) =
     All-append IsStale (field_cells b) (flat_map field_cells bs)
-    (All-cons IsStale (KnownAttr b.attr b.mark) (map old_char (known_chars b.length b.fact)) tt (stale_chars (known_chars b.length b.fact)))
+    (All-cons IsStale (KnownAttr b.attr b.mdt) (map old_char (known_chars b.length b.fact)) tt (stale_chars (known_chars b.length b.fact)))
     (stale_fields bs)
 
 pub stale_laid : (size : ℕ) (bs : List Belief) → All IsStale (laid_out size bs)

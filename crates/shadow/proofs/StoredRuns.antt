@@ -6,7 +6,7 @@ use Rattle.std.proofs.lemmas.List.{ext_get_or, get_or_default, length-set, get_o
 use Rattle.codes3270.specs.declared.attribute.Cell.TheVariants.{Char}
 use Rattle.datastream.specs.Reading.{characters_ahead}
 use Rattle.datastream.specs.declared.order.Order.{Order}
-use Rattle.datastream.specs.declared.order.Order.TheVariants.{Sf, Sba, Ic, Pt, Ra, Eua, Char as Data}
+use Rattle.datastream.specs.declared.order.Order.TheVariants.{Sf, Sba, Ic, Pt, Ra, Eua, Char as CharData}
 use Rattle.shadow.specs.declared.cell_belief.CellBelief.{CellBelief}
 use Rattle.shadow.specs.declared.cell_belief.CellBelief.TheVariants.{Known}
 use Rattle.shadow.specs.declared.cell_belief.BeforeWrite.{BeforeWrite}
@@ -63,7 +63,7 @@ one_marked from to qs rs low some (size, inside, apart) =
 module _ (n : ℕ) where
   abbrev pub AreStored : ℕ → ℕ → List ℕ → List CellBelief → List BeforeWrite → List CellBelief → List BeforeWrite → Type 0
   AreStored from to text ps qs after rs =
-      ((more : List Order) → known_stored (stores n from (map Data text ++ more)) (cells_written ps qs) ≡ known_stored (stores n to more) (cells_written after rs))
+      ((more : List Order) → known_stored (stores n from (map CharData text ++ more)) (cells_written ps qs) ≡ known_stored (stores n to more) (cells_written after rs))
       × ((old : List CellBelief) → Since old ps qs → Since old after rs)
 
   one_stored : (from char : ℕ) (ps : List CellBelief) (qs : List BeforeWrite) → from < length qs → AreStored from ((from + 1) % n) (char ∷ []) ps qs (set ps from (Known char)) (set qs from (stored_since (get_or qs from never)))
@@ -76,7 +76,7 @@ module _ (n : ℕ) where
   stored_then : (from mid to char : ℕ) (text : List ℕ) (ps ps_ after : List CellBelief) (qs qs_ rs : List BeforeWrite) → AreStored from mid (char ∷ []) ps qs ps_ qs_ → AreStored mid to text ps_ qs_ after rs
       → AreStored from to (char ∷ text) ps qs after rs
   stored_then from mid to char text ps ps_ after qs qs_ rs one others = (
-    λ more. one.0 (map Data text ++ more) ∙ others.0 more,
+    λ more. one.0 (map CharData text ++ more) ∙ others.0 more,
     λ old since. others.1 old (one.1 old since),
   )
 
@@ -105,12 +105,12 @@ module _ (n : ℕ) where
 
 -- ---- the characters ahead of other orders
 
-characters_split : (orders : List Order) → map Data (characters_ahead orders) ++ drop (length (characters_ahead orders)) orders ≡ orders
+characters_split : (orders : List Order) → map CharData (characters_ahead orders) ++ drop (length (characters_ahead orders)) orders ≡ orders
 characters_split [] = refl
-characters_split (Data code ∷ orders) =
+characters_split (CharData code ∷ orders) =
     let more : length (code ∷ characters_ahead orders) ≡ suc (length (characters_ahead orders)) = omega arith in
-    ap (λ (n : ℕ). map Data (code ∷ characters_ahead orders) ++ drop n (Data code ∷ orders)) more
-    ∙ ap (λ (os : List Order). Data code ∷ os) (characters_split orders)
+    ap (λ (n : ℕ). map CharData (code ∷ characters_ahead orders) ++ drop n (CharData code ∷ orders)) more
+    ∙ ap (λ (os : List Order). CharData code ∷ os) (characters_split orders)
 characters_split (Sf attr ∷ orders) = refl
 characters_split (Sba address ∷ orders) = refl
 characters_split (Ic ∷ orders) = refl
@@ -118,10 +118,10 @@ characters_split (Pt ∷ orders) = refl
 characters_split (Ra stop char ∷ orders) = refl
 characters_split (Eua stop ∷ orders) = refl
 
-pub orders_split : (text : List ℕ) (orders left : List Order) → text ≡ characters_ahead orders → left ≡ drop (length text) orders → orders ≡ map Data text ++ left
+pub orders_split : (text : List ℕ) (orders left : List Order) → text ≡ characters_ahead orders → left ≡ drop (length text) orders → orders ≡ map CharData text ++ left
 orders_split text orders left ahead behind =
-    sym (ap (λ (os : List Order). map Data text ++ os) behind ∙ ap (λ (cs : List ℕ). map Data cs ++ drop (length cs) orders) ahead ∙ characters_split orders)
+    sym (ap (λ (os : List Order). map CharData text ++ os) behind ∙ ap (λ (cs : List ℕ). map CharData cs ++ drop (length cs) orders) ahead ∙ characters_split orders)
 
-pub text_split : (text front behind : List ℕ) (more : List Order) → front ++ behind ≡ text → map Data text ++ more ≡ map Data front ++ (map Data behind ++ more)
+pub text_split : (text front behind : List ℕ) (more : List Order) → front ++ behind ≡ text → map CharData text ++ more ≡ map CharData front ++ (map CharData behind ++ more)
 text_split text front behind more whole =
-    ap (λ (cs : List ℕ). map Data cs ++ more) (sym whole) ∙ ap (λ (os : List Order). os ++ more) (map-append Data front behind) ∙ append_assoc (map Data front) (map Data behind) more
+    ap (λ (cs : List ℕ). map CharData cs ++ more) (sym whole) ∙ ap (λ (os : List Order). os ++ more) (map-append CharData front behind) ∙ append_assoc (map CharData front) (map CharData behind) more

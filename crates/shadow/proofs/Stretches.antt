@@ -5,8 +5,8 @@ use Rattle.std.proofs.Math.Seq.{drop-nil}
 use Rattle.std.proofs.lemmas.Bool.{cases_lt, lt-ltb, le-ltb}
 use Rattle.std.proofs.lemmas.List.{get_or-drop, get_or_default, length-drop}
 use Rattle.shadow.specs.declared.cell_belief.CellBelief.{CellBelief}
-use Rattle.shadow.specs.declared.cell_belief.CellBelief.TheVariants.{Attr, Known, Told, Unknown}
-use Rattle.shadow.specs.declared.cell_beliefs.Head.{Head}
+use Rattle.shadow.specs.declared.cell_belief.CellBelief.TheVariants.{Attr, Known, Unplaced, Unknown}
+use Rattle.shadow.specs.declared.cell_beliefs.AttributeKnowledge.{AttributeKnowledge}
 use Rattle.shadow.specs.InPlace.{is_attribute, has_attribute, chars_known, beliefs_held}
 use Rattle.datastream.specs.CellBits.{has_bit, kept}
 use Rattle.shadow.specs.PackedBeliefs.{no_head, place_kept, place_by}
@@ -18,20 +18,20 @@ stretch : (ps : List CellBelief) (n : ℕ) → n ≤ length ps → ((i : ℕ) �
 stretch [] n few none here = omega arith
 stretch (Attr a m t ∷ ps) zero few none here = refl
 stretch (Known c ∷ ps) zero few none here = absurd (let no = here (omega arith) in cc)
-stretch (Told c ∷ ps) zero few none here = absurd (let no = here (omega arith) in cc)
+stretch (Unplaced c ∷ ps) zero few none here = absurd (let no = here (omega arith) in cc)
 stretch (Unknown ∷ ps) zero few none here = absurd (let no = here (omega arith) in cc)
 stretch (Attr a m t ∷ ps) (suc n) few none here = absurd (let no = none 0 (omega arith) in cc)
 stretch (Known c ∷ ps) (suc n) few none here = ap suc (stretch ps n (omega arith) (λ i low. none (suc i) (omega arith)) (λ low. here (omega arith)))
-stretch (Told c ∷ ps) (suc n) few none here = ap suc (stretch ps n (omega arith) (λ i low. none (suc i) (omega arith)) (λ low. here (omega arith)))
+stretch (Unplaced c ∷ ps) (suc n) few none here = ap suc (stretch ps n (omega arith) (λ i low. none (suc i) (omega arith)) (λ low. here (omega arith)))
 stretch (Unknown ∷ ps) (suc n) few none here = ap suc (stretch ps n (omega arith) (λ i low. none (suc i) (omega arith)) (λ low. here (omega arith)))
 
-kept_attribute : (head : Head) (a k t : Bool) (byte : ℕ) → is_attribute (place_kept head a k t byte) ≡ a
+kept_attribute : (head : AttributeKnowledge) (a k t : Bool) (byte : ℕ) → is_attribute (place_kept head a k t byte) ≡ a
 kept_attribute head true k t byte = refl
 kept_attribute head false true t byte = refl
 kept_attribute head false false true byte = refl
 kept_attribute head false false false byte = refl
 
-module _ (heads : List Head) (attributes known told bytes : List ℕ) (now : List CellBelief) (view : kept (place_by heads attributes known told) 0 bytes ≡ now) where
+module _ (heads : List AttributeKnowledge) (attributes known told bytes : List ℕ) (now : List CellBelief) (view : kept (place_by heads attributes known told) 0 bytes ≡ now) where
   size : length now ≡ length bytes
   size = sym (ap length view) ∙ length_kept (place_by heads attributes known told) 0 bytes
 
@@ -57,7 +57,7 @@ pub stands_attribute : (ps : List CellBelief) (at : ℕ) → at < length ps → 
 stands_attribute [] at low none = absurd (omega arith)
 stands_attribute (Attr a m t ∷ ps) zero low none = refl
 stands_attribute (Known c ∷ ps) zero low none = absurd (omega arith)
-stands_attribute (Told c ∷ ps) zero low none = absurd (omega arith)
+stands_attribute (Unplaced c ∷ ps) zero low none = absurd (omega arith)
 stands_attribute (Unknown ∷ ps) zero low none = absurd (omega arith)
 stands_attribute (p ∷ ps) (suc at) low none = stands_attribute ps at (omega arith) none
 
@@ -73,7 +73,7 @@ any_within : (ps : List CellBelief) → nat_lt (length (chars_known ps)) (length
 any_within [] = refl
 any_within (Attr a m t ∷ ps) = lt-ltb 0 (suc (length ps)) (omega arith)
 any_within (Known c ∷ ps) = less_further (length (chars_known ps)) (length ps) ∙ any_within ps
-any_within (Told c ∷ ps) = less_further (length (chars_known ps)) (length ps) ∙ any_within ps
+any_within (Unplaced c ∷ ps) = less_further (length (chars_known ps)) (length ps) ∙ any_within ps
 any_within (Unknown ∷ ps) = less_further (length (chars_known ps)) (length ps) ∙ any_within ps
 
 pub any_before : (ps : List CellBelief) (first size : ℕ) → first ≡ 0 + length (chars_known (drop 0 ps)) → size ≡ length ps → nat_lt first size ≡ has_attribute ps
@@ -87,14 +87,14 @@ pub count_inner : (xs ys : List CellBelief) → length (chars_known xs) < length
 count_inner [] ys h = absurd (omega arith)
 count_inner (Attr a m t ∷ xs) ys h = refl
 count_inner (Known c ∷ xs) ys h = ap suc (count_inner xs ys (omega arith))
-count_inner (Told c ∷ xs) ys h = ap suc (count_inner xs ys (omega arith))
+count_inner (Unplaced c ∷ xs) ys h = ap suc (count_inner xs ys (omega arith))
 count_inner (Unknown ∷ xs) ys h = ap suc (count_inner xs ys (omega arith))
 
 pub count_round : (xs ys : List CellBelief) → length (chars_known xs) ≡ length xs → length (chars_known (xs ++ ys)) ≡ length xs + length (chars_known ys)
 count_round [] ys e = omega arith
 count_round (Attr a m t ∷ xs) ys e = absurd (omega arith)
 count_round (Known c ∷ xs) ys e = let h = count_round xs ys (omega arith) in omega arith
-count_round (Told c ∷ xs) ys e = let h = count_round xs ys (omega arith) in omega arith
+count_round (Unplaced c ∷ xs) ys e = let h = count_round xs ys (omega arith) in omega arith
 count_round (Unknown ∷ xs) ys e = let h = count_round xs ys (omega arith) in omega arith
 
 -- ---- the fields that are left
@@ -111,7 +111,7 @@ fields_on whole at (Known c ∷ ps) more =
     let k : ℕ = length (chars_known (ps ++ more)) in
     let same : (at + 1) + k ≡ at + suc k = omega arith in
     fields_on whole (at + 1) ps more ∙ ap (λ (n : ℕ). beliefs_held whole n (drop k ps)) same
-fields_on whole at (Told c ∷ ps) more =
+fields_on whole at (Unplaced c ∷ ps) more =
     let k : ℕ = length (chars_known (ps ++ more)) in
     let same : (at + 1) + k ≡ at + suc k = omega arith in
     fields_on whole (at + 1) ps more ∙ ap (λ (n : ℕ). beliefs_held whole n (drop k ps)) same

@@ -8,16 +8,16 @@ use Rattle.codes3270.specs.declared.attribute.Cell.TheVariants.{Char, Attr}
 use Rattle.datastream.specs.Screen.{Screen, text_before_attribute, field_text}
 use Rattle.datastream.specs.Fields.{fields, fields_from}
 use Rattle.datastream.proofs.FieldWalk.{fields_walked, fields_are_walked, text_is}
-use Rattle.datastream.specs.Held.{without_mdt}
+use Rattle.datastream.specs.KeptByKeys.{without_mdt}
 use Rattle.datastream.specs.Meaning.{unmodified}
 use Rattle.datastream.specs.declared.order.Order.{Order}
-use Rattle.datastream.specs.declared.order.Order.TheVariants.{Sf, Sba, Ic, Pt, Ra, Eua, Char as Data}
+use Rattle.datastream.specs.declared.order.Order.TheVariants.{Sf, Sba, Ic, Pt, Ra, Eua, Char as CharData}
 use Rattle.shadow.specs.declared.known.Known.{Known}
 use Rattle.shadow.specs.declared.known.Known.TheVariants.{Attr as KnownAttr, Char as KnownChar}
 use Rattle.shadow.specs.Pairs.{Pairwise}
 use Rattle.shadow.specs.Belief.{Fact, Belief}
 use Rattle.shadow.specs.Meets.{FieldMeets, MarkIs, Holds, KnownIs, Meets}
-use Rattle.shadow.specs.Seen.{mark_seen}
+use Rattle.shadow.specs.AfterReadBuffer.{mark_seen}
 use Rattle.shadow.specs.Stores.{Store, stores, stores_unplaced, is_plain_order}
 use Rattle.shadow.specs.Taken.{new_cell, known_stored, mark_off, known_ahead, fresh_ahead, and_char, whole_text, exact_or_any, fact_known, fact_before, fact_after, beliefs_from, formatted_as, believed}
 use Rattle.shadow.proofs.Stored.{stored}
@@ -213,7 +213,7 @@ placed size a b [] h p = refl
 placed size a b (Sba to ∷ orders) h p = refl
 placed size a b (Sf attr ∷ orders) h p = absurd (cc)
 placed size a b (Ic ∷ orders) h p = placed size a b orders h p
-placed size a b (Data c ∷ orders) h p = absurd (cc)
+placed size a b (CharData c ∷ orders) h p = absurd (cc)
 placed size a b (Pt ∷ orders) h p = absurd (cc)
 placed size a b (Ra stop c ∷ orders) h p = absurd (cc)
 placed size a b (Eua stop ∷ orders) h p = absurd (cc)

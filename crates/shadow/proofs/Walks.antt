@@ -8,8 +8,8 @@ use Rattle.shadow.specs.declared.mdt_state.MdtState.{MdtState}
 use Rattle.shadow.specs.declared.cell_belief.TextKnowledge.{TextKnowledge}
 use Rattle.shadow.specs.declared.cell_belief.TextKnowledge.TheVariants.{Cells, ExactOrNulls, Text, TextOrNulls}
 use Rattle.shadow.specs.declared.cell_belief.CellBelief.{CellBelief}
-use Rattle.shadow.specs.declared.cell_belief.CellBelief.TheVariants.{Attr, Known, Told, Unknown}
-use Rattle.shadow.specs.declared.hearing.Unreturned.{Unreturned}
+use Rattle.shadow.specs.declared.cell_belief.CellBelief.TheVariants.{Attr, Known, Unplaced, Unknown}
+use Rattle.shadow.specs.declared.apply_inbound.Unreturned.{Unreturned}
 use Rattle.shadow.specs.Filled.{Fill, Change, filled, fill_next, fill_after, changed, came_behind, text_came, of_known, unreturned_at, unreturned_from, long_change, long_changes, all_changed, last_fill, front_filled}
 use Rattle.shadow.specs.InPlace.{chars_known}
 use Rattle.shadow.specs.PackedBeliefs.{with_head}
@@ -23,7 +23,7 @@ fill_here Fill.Same = refl
 fill_here Fill.Unknown = refl
 fill_here Fill.Null = refl
 fill_here (Fill.Chars text) = refl
-fill_here Fill.Told = refl
+fill_here Fill.Unplaced = refl
 
 pub fill_further : (k : ℕ) (f : Fill) → fill_after k (fill_next f) ≡ fill_after (suc k) f
 fill_further k Fill.Same = refl
@@ -31,27 +31,27 @@ fill_further k Fill.Unknown = refl
 fill_further k Fill.Null = refl
 fill_further k (Fill.Chars []) = ap Fill.Chars (drop-nil k ∙ sym (drop-nil (suc k)))
 fill_further k (Fill.Chars (c ∷ text)) = refl
-fill_further k Fill.Told = refl
+fill_further k Fill.Unplaced = refl
 
 pub front_parts : (f : Fill) (ps : List CellBelief) → front_filled f ps ≡ fills f ps ++ drop (length (chars_known ps)) ps
 front_parts f [] = refl
 front_parts f (Attr a m t ∷ ps) = refl
 front_parts f (Known c ∷ ps) = ap (λ (qs : List CellBelief). filled f (Known c) ∷ qs) (front_parts (fill_next f) ps)
-front_parts f (Told c ∷ ps) = ap (λ (qs : List CellBelief). filled f (Told c) ∷ qs) (front_parts (fill_next f) ps)
+front_parts f (Unplaced c ∷ ps) = ap (λ (qs : List CellBelief). filled f (Unplaced c) ∷ qs) (front_parts (fill_next f) ps)
 front_parts f (Unknown ∷ ps) = ap (λ (qs : List CellBelief). filled f Unknown ∷ qs) (front_parts (fill_next f) ps)
 
 length-fills : (f : Fill) (ps : List CellBelief) → length (fills f ps) ≡ length (chars_known ps)
 length-fills f [] = refl
 length-fills f (Attr a m t ∷ ps) = refl
 length-fills f (Known c ∷ ps) = ap suc (length-fills (fill_next f) ps)
-length-fills f (Told c ∷ ps) = ap suc (length-fills (fill_next f) ps)
+length-fills f (Unplaced c ∷ ps) = ap suc (length-fills (fill_next f) ps)
 length-fills f (Unknown ∷ ps) = ap suc (length-fills (fill_next f) ps)
 
 pub same_fills : (ps : List CellBelief) → fills Fill.Same ps ≡ take (length (chars_known ps)) ps
 same_fills [] = refl
 same_fills (Attr a m t ∷ ps) = refl
 same_fills (Known c ∷ ps) = ap (λ (qs : List CellBelief). Known c ∷ qs) (same_fills ps)
-same_fills (Told c ∷ ps) = ap (λ (qs : List CellBelief). Told c ∷ qs) (same_fills ps)
+same_fills (Unplaced c ∷ ps) = ap (λ (qs : List CellBelief). Unplaced c ∷ qs) (same_fills ps)
 same_fills (Unknown ∷ ps) = ap (λ (qs : List CellBelief). Unknown ∷ qs) (same_fills ps)
 
 pub same_front : (ps : List CellBelief) → front_filled Fill.Same ps ≡ ps
@@ -62,7 +62,7 @@ pub none_left : (ps : List CellBelief) → length (chars_known (drop (length (ch
 none_left [] = refl
 none_left (Attr a m t ∷ ps) = refl
 none_left (Known c ∷ ps) = none_left ps
-none_left (Told c ∷ ps) = none_left ps
+none_left (Unplaced c ∷ ps) = none_left ps
 none_left (Unknown ∷ ps) = none_left ps
 
 -- ---- what is known of a field's characters
@@ -71,7 +71,7 @@ known_tail : (xs ys zs : List CellBelief) → chars_known ys ≡ chars_known zs 
 known_tail [] ys zs e = e
 known_tail (Attr a m t ∷ xs) ys zs e = refl
 known_tail (Known c ∷ xs) ys zs e = ap (λ (ks : List (Option ℕ)). Some c ∷ ks) (known_tail xs ys zs e)
-known_tail (Told c ∷ xs) ys zs e = ap (λ (ks : List (Option ℕ)). None ∷ ks) (known_tail xs ys zs e)
+known_tail (Unplaced c ∷ xs) ys zs e = ap (λ (ks : List (Option ℕ)). None ∷ ks) (known_tail xs ys zs e)
 known_tail (Unknown ∷ xs) ys zs e = ap (λ (ks : List (Option ℕ)). None ∷ ks) (known_tail xs ys zs e)
 
 unreturned_alike : (p : CellBelief) (xs ys : List CellBelief) → chars_known xs ≡ chars_known ys → unreturned_at p xs ≡ unreturned_at p ys
@@ -80,7 +80,7 @@ unreturned_alike (Attr a m ExactOrNulls) xs ys e = refl
 unreturned_alike (Attr a m Text) xs ys e = refl
 unreturned_alike (Attr a m TextOrNulls) xs ys e = refl
 unreturned_alike (Known c) xs ys e = refl
-unreturned_alike (Told c) xs ys e = refl
+unreturned_alike (Unplaced c) xs ys e = refl
 unreturned_alike Unknown xs ys e = refl
 
 -- ---- the walk
@@ -109,7 +109,7 @@ module _ (erased : Bool) (whole : List CellBelief) where
   walk_passed f at came [] = refl
   walk_passed f at came (Attr a m t ∷ ps) = let same : at ≡ at + 0 = omega arith in ap (λ (n : ℕ). walk f n came (Attr a m t ∷ ps)) same
   walk_passed f at came (Known c ∷ ps) = walk_on f at came (Known c) ps (walk_passed (fill_next f) (at + 1) came ps)
-  walk_passed f at came (Told c ∷ ps) = walk_on f at came (Told c) ps (walk_passed (fill_next f) (at + 1) came ps)
+  walk_passed f at came (Unplaced c ∷ ps) = walk_on f at came (Unplaced c) ps (walk_passed (fill_next f) (at + 1) came ps)
   walk_passed f at came (Unknown ∷ ps) = walk_on f at came Unknown ps (walk_passed (fill_next f) (at + 1) came ps)
 
   fill_on : (f : Fill) (at : ℕ) (came : List Returned) (ps : List CellBelief) → (let k = length (chars_known ps) in walk_fill (fill_next f) (at + 1) came ps ≡ walk_fill (fill_after k (fill_next f)) (at + 1 + k) came (drop k ps))
@@ -123,7 +123,7 @@ module _ (erased : Bool) (whole : List CellBelief) where
   fill_passed f at came [] = fill_here f
   fill_passed f at came (Attr a m t ∷ ps) = let same : at ≡ at + 0 = omega arith in ap (λ (n : ℕ). walk_fill f n came (Attr a m t ∷ ps)) same
   fill_passed f at came (Known c ∷ ps) = fill_on f at came ps (fill_passed (fill_next f) (at + 1) came ps)
-  fill_passed f at came (Told c ∷ ps) = fill_on f at came ps (fill_passed (fill_next f) (at + 1) came ps)
+  fill_passed f at came (Unplaced c ∷ ps) = fill_on f at came ps (fill_passed (fill_next f) (at + 1) came ps)
   fill_passed f at came (Unknown ∷ ps) = fill_on f at came ps (fill_passed (fill_next f) (at + 1) came ps)
 
   -- what holds between two fields
@@ -169,7 +169,7 @@ module _ (erased : Bool) (whole : List CellBelief) where
   -- the places after a field's step, by what stands before its attribute, and behind
   module _ (at k : ℕ) (xs rest : List CellBelief) (a : Attribute) (m : MdtState) (t : TextKnowledge) (one : Change) (before : length xs ≡ at) (count : k ≡ length (chars_known rest)) where
     abbrev new : CellBelief
-    new = Attr a one.mark one.knowledge
+    new = Attr a one.mdt one.knowledge
 
     parts : (xs ++ new ∷ front_filled one.fill rest) ≡ (xs ++ new ∷ fills one.fill rest) ++ drop k rest
     parts =
@@ -207,7 +207,7 @@ module _ (erased : Bool) (whole : List CellBelief) where
           walked = h.walked
               ∙ ap (λ (qs : List CellBelief). qs ++ walk f at came (drop at whole)) is_taken
               ∙ ap (λ (qs : List CellBelief). xs ++ walk f at came qs) there
-              ∙ ap (λ (c : Change). xs ++ Attr a c.mark c.knowledge ∷ walk c.fill (at + 1) behind rest) change
+              ∙ ap (λ (c : Change). xs ++ Attr a c.mdt c.knowledge ∷ walk c.fill (at + 1) behind rest) change
               ∙ ap (λ (qs : List CellBelief). xs ++ new ∷ qs) (walk_passed one.fill (at + 1) behind rest)
               ∙ ap (λ (n : ℕ). xs ++ new ∷ (fills one.fill rest ++ walk (fill_after n one.fill) (at + 1 + n) behind (drop n rest))) (sym count)
               ∙ sym (append_assoc xs (new ∷ fills one.fill rest) (walk (fill_after k one.fill) (at + 1 + k) behind (drop k rest)))
@@ -246,24 +246,24 @@ module _ (erased : Bool) (whole : List CellBelief) where
           → Between (fill_after k one.fill) (at + 1 + k) (came_behind (length whole) p at came) all after
       by_place (Attr a m t) there stands is_one is_after =
           stepped at k (take at now) (drop (at + 1) now) a m t one (length-take-le at now (omega arith)) count f came all now after h
-          (sym (take-append-drop at now) ∙ ap (λ (qs : List CellBelief). take at now ++ qs) there) there is_one (is_after ∙ put_parts (Attr a one.mark one.knowledge) one.fill) refl
+          (sym (take-append-drop at now) ∙ ap (λ (qs : List CellBelief). take at now ++ qs) there) there is_one (is_after ∙ put_parts (Attr a one.mdt one.knowledge) one.fill) refl
       by_place (Known c) there stands is_one is_after = absurd (let no = ap (λ (qs : List CellBelief). length (chars_known qs)) there in omega arith)
-      by_place (Told c) there stands is_one is_after = absurd (let no = ap (λ (qs : List CellBelief). length (chars_known qs)) there in omega arith)
+      by_place (Unplaced c) there stands is_one is_after = absurd (let no = ap (λ (qs : List CellBelief). length (chars_known qs)) there in omega arith)
       by_place Unknown there stands is_one is_after = absurd (let no = ap (λ (qs : List CellBelief). length (chars_known qs)) there in omega arith)
 
 -- an attribute's head alone is changed
-headed : (p : CellBelief) (rest : List CellBelief) (f : Fill) (one : Change) → length (chars_known (p ∷ rest)) ≡ 0 → with_head one.mark one.knowledge p ≡ changed p f one
+headed : (p : CellBelief) (rest : List CellBelief) (f : Fill) (one : Change) → length (chars_known (p ∷ rest)) ≡ 0 → with_head one.mdt one.knowledge p ≡ changed p f one
 headed (Attr a m t) rest f one none = refl
 headed (Known c) rest f one none = absurd (omega arith)
-headed (Told c) rest f one none = absurd (omega arith)
+headed (Unplaced c) rest f one none = absurd (omega arith)
 headed Unknown rest f one none = absurd (omega arith)
 
 pub head_changed : (now : List CellBelief) (at : ℕ) (held : CellBelief) (f : Fill) (one : Change) → at < length now → held ≡ get_or now at held → length (chars_known (drop at now)) ≡ 0
-    → set now at (with_head one.mark one.knowledge (get_or now at Unknown)) ≡ set now at (changed held f one)
+    → set now at (with_head one.mdt one.knowledge (get_or now at Unknown)) ≡ set now at (changed held f one)
 head_changed now at held f one within is stands =
     let there : drop at now ≡ held ∷ drop (at + 1) now = drop_more now at held within ∙ ap (λ (p : CellBelief). p ∷ drop (at + 1) now) (sym is) in
     let none : length (chars_known (held ∷ drop (at + 1) now)) ≡ 0 = ap (λ (qs : List CellBelief). length (chars_known qs)) (sym there) ∙ stands in
-    ap (set now at) (ap (with_head one.mark one.knowledge) (get_or_default now at Unknown held within ∙ sym is) ∙ headed held (drop (at + 1) now) f one none)
+    ap (set now at) (ap (with_head one.mdt one.knowledge) (get_or_default now at Unknown held within ∙ sym is) ∙ headed held (drop (at + 1) now) f one none)
 
 -- what is filled with what it holds stays
 pub same_filled : (from : ℕ) (ps : List CellBelief) → ps ≡ take from ps ++ front_filled Fill.Same (drop from ps)
@@ -275,7 +275,7 @@ same_filled from ps =
 -- the step of a field, whose attribute's head is held, and then its characters
 pub passed : (erased : Bool) (whole : List CellBelief) (f : Fill) (at end : ℕ) (came left all : List Returned) (now headed_ after : List CellBelief) (held : CellBelief) (one : Change) → Between erased whole f at came all now
     → at < length now → held ≡ get_or now at held → one ≡ long_change erased held (unreturned_at held (drop (at + 1) now ++ now)) (text_came (length whole) held at came)
-    → end ≡ at + 1 + length (chars_known (drop (at + 1) now)) → headed_ ≡ set now at (with_head one.mark one.knowledge (get_or now at Unknown))
+    → end ≡ at + 1 + length (chars_known (drop (at + 1) now)) → headed_ ≡ set now at (with_head one.mdt one.knowledge (get_or now at Unknown))
     → after ≡ take (at + 1) headed_ ++ front_filled one.fill (drop (at + 1) headed_) → left ≡ came_behind (length whole) held at came → Between erased whole (fill_after (end - at - 1) one.fill) end left all after
 passed erased whole f at end came left all now headed_ after held one h within is is_one is_end is_headed is_after is_left =
     let k : ℕ = end - at - 1 in

@@ -13,7 +13,7 @@ use Rattle.shadow.specs.Filled.{long_after}
 use Rattle.shadow.specs.Heard.{heard_long, heard_attention, after_attention}
 use Rattle.shadow.specs.InPlace.{chars_known, cells_known, beliefs_held, shadow_held, has_attribute, has_fields, IsHeld}
 use Rattle.shadow.specs.Paint.{known_nulls, known_before, writes_over}
-use Rattle.shadow.specs.Seen.{others, is_formatted, denies_buffer}
+use Rattle.shadow.specs.AfterReadBuffer.{others, is_formatted, denies_buffer}
 use Rattle.shadow.specs.Taken.{formatted_as, marks_off_if}
 use Rattle.shadow.proofs.Placed.{formatted_held, unformatted_held, no_beliefs, bare_known, base_known, over_held, has_held, length-cells}
 

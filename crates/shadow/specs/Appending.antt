@@ -6,8 +6,9 @@ use Rattle.codes3270.specs.declared.attribute.Cell.{Cell}
 use Rattle.codes3270.specs.declared.attribute.Cell.TheVariants.{Char, Attr}
 use Rattle.codes3270.specs.Storable.{is_storable}
 
--- it appended the bytes, or was refused behind some of them
-pub record WritesSome {A E : Type 0} (old new : MutBor (Vec ℕ A)) (result : Result (Unit {0}) E) (bytes : List ℕ) : Type 0 where
+-- holds if the call appended the bytes, or appended a first part of them and returned an error
+pub record WritesSome {A E : Type 0} (old new : MutBor (Vec ℕ A)) (result : Result (Unit {0}) E)
+    (bytes : List ℕ) : Type 0 where
   pub same_vector : new.ghost_name ≡ old.ghost_name
   pub appends : AppendsSome old.now new.now result bytes
 

@@ -1,4 +1,4 @@
--- For proofs alone: what a paint finds on the screen (our profile).
+-- For proofs alone: the screen that the orders of a paint write on (our profile).
 use Rattle.std.specs.Prelude.{◌≡◌, Bool, true, List, length, if◌then◌else◌}
 use Rattle.shadow.specs.declared.known.Known.{Known}
 use Rattle.shadow.specs.declared.painting.Base.{Base}
@@ -10,8 +10,9 @@ abbrev pub mark_off_if : Bool → Known → Known
 mark_off_if resets known = if resets then mark_off known else known
 
 abbrev pub known_base : Base → List Known
-known_base base = if base.formatted then marks_off_if base.reset (cells_known base.places.now) else known_nulls base.cells
+known_base base = if base.formatted then marks_off_if base.reset (cells_known base.beliefs.now)
+    else known_nulls base.cells
 
--- the places that a paint writes over are those of a screen with as many cells
+-- holds if the paint erases, or the screen that it writes over has the wanted number of cells
 abbrev pub IsBase : Base → Type 0
-IsBase base = base.formatted ≡ true → length base.places.now ≡ base.cells
+IsBase base = base.formatted ≡ true → length base.beliefs.now ≡ base.cells

@@ -1,10 +1,10 @@
--- What a host believes of a terminal's screen (our profile): nothing; the characters of an unformatted screen; or its fields.
+-- What a host believes of a screen (our profile): nothing; the characters of an unformatted screen; or its fields.
 use Rattle.std.specs.Prelude.{◌≡◌, ◌<◌, ◌+◌, ◌%◌, suc, ℕ, List, [], ◌∷◌, length, Option, Some, None, IfSome, replicate}
 use Rattle.codes3270.specs.declared.attribute.Attr.{Attr as Attribute}
 use Rattle.shadow.specs.declared.mdt_state.MdtState.{MdtState}
 
--- What is believed of a field's characters: they are a text; a text or all null; without nulls a text; without nulls a
--- text or all null; or anything. `Any` has each character, where it is known.
+-- What is believed of a field's characters: they are a text; they are a text or all nulls; they are a text once nulls
+-- are left out; that or all nulls; or anything. `Any` lists each character, None if it isn't known.
 pub data Fact : Type 0 where
   Exact : List ℕ → Fact
   ExactOrNulls : List ℕ → Fact
@@ -12,16 +12,17 @@ pub data Fact : Type 0 where
   TextOrNulls : List ℕ → Fact
   Any : List (Option ℕ) → Fact
 
--- A field: the address of its attribute, the attribute with MDT off, what is known of MDT, how many characters it has, and
--- what is believed of them.
+-- What is believed of a field: the address of its attribute, the attribute with MDT off, what is known of its MDT, how
+-- many characters it has, and what is believed of them.
 pub record Belief : Type 0 where
   pub place : ℕ
   pub attr : Attribute
-  pub mark : MdtState
+  pub mdt : MdtState
   pub length : ℕ
   pub fact : Fact
 
--- of an unformatted screen each character, if it is known; the fields are in the order of their addresses
+-- What is believed of a screen: nothing; that it is unformatted, with each character (None if it isn't known); or that
+-- it has these fields, in the order of their addresses.
 pub data Shadow : Type 0 where
   NothingKnown : Shadow
   Unformatted : List (Option ℕ) → Shadow
@@ -35,22 +36,22 @@ fields_of (Shadow.Formatted beliefs) = beliefs
 
 -- ---- the size of the screen that is believed
 
--- how many cells fields have: each has its attribute and its characters
+-- how many cells these fields have together: each has its attribute and its characters
 abbrev pub cells_of_fields : List Belief → ℕ
 cells_of_fields [] = 0
 cells_of_fields (belief ∷ beliefs) = suc belief.length + cells_of_fields beliefs
 
--- how many cells the screen has of which something is known; their number tells its size
+-- how many cells the believed screen has, from which its size follows; None if nothing is known
 abbrev pub cells_believed : Shadow → Option ℕ
 cells_believed Shadow.NothingKnown = None
 cells_believed (Shadow.Unformatted known) = Some (length known)
 cells_believed (Shadow.Formatted beliefs) = Some (cells_of_fields beliefs)
 
--- a screen of which something is known has `size` cells
+-- holds if nothing is known, or the believed screen has `size` cells
 abbrev pub IsOfSize : ℕ → Shadow → Type 0
 IsOfSize size shadow = IfSome (cells_believed shadow) (λ cells. cells ≡ size)
 
--- a screen of which something is known has a cell at this address
+-- holds if nothing is known, or the believed screen has a cell at this address
 abbrev pub HasCell : ℕ → Shadow → Type 0
 HasCell address shadow = IfSome (cells_believed shadow) (λ cells. address < cells)
 
@@ -59,6 +60,6 @@ HasCell address shadow = IfSome (cells_believed shadow) (λ cells. address < cel
 abbrev pub nulls : ℕ → List ℕ
 nulls count = replicate count 0
 
--- the address behind another, round the end
+-- the address after another, wrapping at the end
 abbrev pub next_address : ℕ → ℕ → ℕ
 next_address size place = (place + 1) % size

@@ -1,12 +1,12 @@
--- Where the text of a field is held (our profile); only for private functions.
+-- For private functions: which cells hold the text of a field (our profile).
 use Rattle.std.specs.Prelude.{ℕ, List, []}
 use Rattle.shadow.specs.declared.cell_belief.CellBelief.{CellBelief}
 use Rattle.shadow.specs.declared.field_text.TextPlaces.{TextPlaces}
-use Rattle.shadow.specs.declared.field_text.TextPlaces.TheVariants.{Known, Told, Nowhere}
+use Rattle.shadow.specs.declared.field_text.TextPlaces.TheVariants.{Known, Unplaced, Nowhere}
 use Rattle.shadow.specs.InPlace.{chars_known, known_text, text_told}
 
--- the text that begins at the first of some places: it ends at the first place that isn't one of its own
+-- the text that begins at the first of these cells; it ends before the first cell that isn't of the given kind
 abbrev pub text_in : TextPlaces → List CellBelief → List ℕ
-text_in Known places = known_text (chars_known places)
-text_in Told places = text_told places
-text_in Nowhere places = []
+text_in Known beliefs = known_text (chars_known beliefs)
+text_in Unplaced beliefs = text_told beliefs
+text_in Nowhere beliefs = []

@@ -1,5 +1,5 @@
--- What a host believes once it has heard what a terminal sent, and which texts can't be so (our profile). What comes, and after
--- which keys an AID alone, is GA23-0059-07 on read commands.
+-- What a host believes after inbound data, and which data contradicts its belief (our profile). What a terminal sends,
+-- and after which keys an AID alone, is GA23-0059-07 on read commands.
 use Rattle.std.specs.Prelude.{◌==◌, nat_lt, ◌&&◌, ◌||◌, not, ℕ, Bool, true, false, List, [], ◌∷◌, length, map, replicate, Option, Some, None, option_map, Result, Ok, Err, if◌then◌else◌, bytes_eq}
 use Rattle.std.specs.List.{list_any}
 use Rattle.codes3270.specs.declared.attention.Aid.{Aid}
@@ -16,11 +16,11 @@ use Rattle.datastream.specs.declared.inbound_part.Form.{Form}
 use Rattle.datastream.specs.declared.inbound_part.Form.TheVariants.{Modified, All as AllModified, Buffer}
 use Rattle.datastream.specs.declared.inbound_part.Part.{Part}
 use Rattle.shadow.specs.Belief.{Fact, Belief, Shadow, nulls, next_address}
-use Rattle.shadow.specs.Seen.{heard_buffer}
+use Rattle.shadow.specs.AfterReadBuffer.{heard_buffer}
 
--- ---- which field each text came for
+-- ---- which field each text is returned for
 
--- a field with the text that came for it, if one came
+-- a believed field, and the text that was returned for it, if one was
 pub record Answer : Type 0 where
   pub field : Belief
   pub text : Option (List ℕ)
@@ -28,14 +28,15 @@ pub record Answer : Type 0 where
 abbrev pub starts_at : ℕ → Belief → ℕ → Bool
 starts_at size belief address = next_address size belief.place == address
 
--- an address that is the first of no field
+-- whether the returned field's address is that of no believed field's first cell
 abbrev pub is_nowhere : ℕ → List Belief → Returned → Bool
 is_nowhere size beliefs came = not (list_any (λ belief. starts_at size belief came.first) beliefs)
 
 abbrev pub answer_and : Belief → Option (List ℕ) → Option (List Answer) → Option (List Answer)
 answer_and belief text others = option_map (λ answers. record { field = belief; text = text } ∷ answers) others
 
--- each field with what was returned for it; None if the texts are out of the fields' order, or one is there twice
+-- Each field with the text that was returned for it. None if a text isn't for any field that is left: the texts are out
+-- of the fields' order, or a field is returned twice.
 abbrev pub answers : ℕ → List Belief → List Returned → Option (List Answer)
 answers size [] [] = Some []
 answers size [] (came ∷ more) = None
@@ -45,7 +46,7 @@ answers size (belief ∷ beliefs) (came ∷ more) =
     then answer_and belief (Some came.text) (answers size beliefs more)
     else answer_and belief None (answers size beliefs (came ∷ more))
 
--- ---- the fields of a long text
+-- ---- data that returns fields
 
 abbrev pub is_on : MdtState → Bool
 is_on On = true
@@ -57,7 +58,7 @@ is_off On = false
 is_off Off = true
 is_off Unknown = false
 
--- known exactly, and without nulls another text
+-- whether the fact is exact, and its text without nulls isn't this one
 abbrev pub denies : Fact → List ℕ → Bool
 denies (Fact.Exact value) text = not (bytes_eq (without_nulls value) text)
 denies (Fact.ExactOrNulls value) text = false
@@ -65,31 +66,33 @@ denies (Fact.Text value) text = false
 denies (Fact.TextOrNulls value) text = false
 denies (Fact.Any known) text = false
 
--- a protected field that is on has to come; a text has to fit, and of a protected field to be the one that is known
+-- Whether the belief contradicts what was returned for a field: a protected field must be returned if its MDT is on,
+-- must not be if it is off, and only with its text if that is known; no text may be longer than its field.
 abbrev pub contradicts_text : Belief → Option (List ℕ) → Bool
-contradicts_text belief None = belief.attr.protected && is_on belief.mark
+contradicts_text belief None = belief.attr.protected && is_on belief.mdt
 contradicts_text belief (Some text) =
-    nat_lt belief.length (length text) || (belief.attr.protected && (is_off belief.mark || denies belief.fact text))
+    nat_lt belief.length (length text) || (belief.attr.protected && (is_off belief.mdt || denies belief.fact text))
 
 abbrev pub contradicts : Answer → Bool
 contradicts answer = contradicts_text answer.field answer.text
 
--- an unprotected field that was on and isn't returned: the operator erased the input
+-- whether an unprotected field had MDT on and isn't returned: the operator has pressed Erase Input
 abbrev pub lost_text : Belief → Option (List ℕ) → Bool
-lost_text belief None = not belief.attr.protected && is_on belief.mark
+lost_text belief None = not belief.attr.protected && is_on belief.mdt
 lost_text belief (Some text) = false
 
 abbrev pub was_erased : Answer → Bool
 was_erased answer = lost_text answer.field answer.text
 
--- the text of a field; without characters it is all null
+-- what is believed of a field of `count` characters for which a text is returned: all nulls if the text is empty
 abbrev pub text_fact : ℕ → List ℕ → Fact
 text_fact count [] = Fact.Exact (nulls count)
 text_fact count (char ∷ chars) = Fact.Text (char ∷ chars)
 
--- an unreturned field is as it was, or null
+-- what is believed of an unprotected field that isn't returned: it is as it was, or all nulls
 abbrev pub or_nulls : Fact → Fact
-or_nulls (Fact.Exact value) = if bytes_eq value (nulls (length value)) then Fact.Exact value else Fact.ExactOrNulls value
+or_nulls (Fact.Exact value) = if bytes_eq value (nulls (length value)) then Fact.Exact value
+    else Fact.ExactOrNulls value
 or_nulls (Fact.ExactOrNulls value) = Fact.ExactOrNulls value
 or_nulls (Fact.Text value) = Fact.TextOrNulls value
 or_nulls (Fact.TextOrNulls value) = Fact.TextOrNulls value
@@ -103,19 +106,21 @@ abbrev pub unprotected_fact : Bool → Belief → Option (List ℕ) → Fact
 unprotected_fact erased belief (Some text) = text_fact belief.length text
 unprotected_fact erased belief None = if erased then Fact.Exact (nulls belief.length) else or_nulls belief.fact
 
--- a field after a long text; `erased`: the operator erased the input
+-- what is believed of a field after data that returns fields; `erased`: the operator has pressed Erase Input
 abbrev pub after_long : Bool → Answer → Belief
 after_long erased answer = record answer.field {
-  mark = mark_of answer.text;
+  mdt = mark_of answer.text;
   fact = if answer.field.attr.protected then answer.field.fact else unprotected_fact erased answer.field answer.text;
 }
 
+-- the belief of a formatted screen after these answers, or Contradiction
 abbrev pub settled : Option (List Answer) → Result Shadow HeardFault
 settled None = Err Contradiction
 settled (Some found) =
     if list_any contradicts found then Err Contradiction
     else Ok (Shadow.Formatted (map (after_long (list_any was_erased found)) found))
 
+-- the belief, or the fault, after data with this text before the first address and these returned fields
 abbrev pub heard_long : ℕ → Shadow → List ℕ → List Returned → Result Shadow HeardFault
 heard_long size Shadow.NothingKnown leading_text [] = Ok Shadow.NothingKnown
 heard_long size Shadow.NothingKnown leading_text (came ∷ more) = Err NoSuchField
@@ -127,22 +132,22 @@ heard_long size (Shadow.Formatted beliefs) leading_text returned =
     else if nat_lt 0 (length leading_text) then Err Contradiction
     else settled (answers size beliefs returned)
 
--- ---- a key alone
+-- ---- a key that sends its AID alone
 
--- nothing known of a field's characters; without cells it is exact
+-- the fact of a field of whose characters nothing is known; if it has none, the fact is exact
 abbrev pub unknown_fact : ℕ → Fact
 unknown_fact count = if count == 0 then Fact.Exact [] else Fact.Any (replicate count None)
 
 abbrev pub after_attention : Belief → Belief
 after_attention belief =
-    if belief.attr.protected then belief else record belief { mark = Unknown; fact = unknown_fact belief.length }
+    if belief.attr.protected then belief else record belief { mdt = Unknown; fact = unknown_fact belief.length }
 
 abbrev pub heard_attention : Shadow → Shadow
 heard_attention Shadow.NothingKnown = Shadow.NothingKnown
 heard_attention (Shadow.Unformatted known) = Shadow.NothingKnown
 heard_attention (Shadow.Formatted beliefs) = Shadow.Formatted (map after_attention beliefs)
 
--- Clear leaves nulls; a PA key sends no fields
+-- the belief after a key that sends its AID alone: Clear leaves nulls, a PA key leaves input in doubt
 abbrev pub heard_short : ℕ → Aid → Shadow → Shadow
 heard_short size Clear shadow = Shadow.Unformatted (replicate size (Some 0))
 heard_short size (Pa key) shadow = heard_attention shadow
@@ -150,16 +155,18 @@ heard_short size NoAid shadow = heard_attention shadow
 heard_short size Enter shadow = heard_attention shadow
 heard_short size (Pf key) shadow = heard_attention shadow
 
--- ---- any of the three
+-- ---- any form of data
 
 abbrev pub heard_parts : ℕ → Shadow → List Part → Result Shadow HeardFault
 heard_parts size shadow parts = heard_long size shadow (leading_text parts) (returned parts)
 
--- after a key that sends its AID alone there are no fields
+-- the belief, or the fault, after data of this form; Read Modified is answered by the AID alone after Clear or a PA key
 abbrev pub heard_form : Form → ℕ → Shadow → Aid → List Part → Result Shadow HeardFault
-heard_form Modified size shadow aid parts = if is_short_aid aid then Ok (heard_short size aid shadow) else heard_parts size shadow parts
+heard_form Modified size shadow aid parts = if is_short_aid aid then Ok (heard_short size aid shadow)
+    else heard_parts size shadow parts
 heard_form AllModified size shadow aid parts = heard_parts size shadow parts
 heard_form Buffer size shadow aid parts = heard_buffer shadow (cells_sent parts)
 
+-- the belief, or the fault, after inbound data; `size`: the number of cells that it was read for
 abbrev pub heard : ℕ → Shadow → InboundParts → Result Shadow HeardFault
 heard size shadow inbound = heard_form inbound.form size shadow inbound.aid inbound.parts

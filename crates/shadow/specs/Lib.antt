@@ -1,7 +1,7 @@
 pub mod Pairs
 pub mod Belief
 pub mod Meets
-pub mod Seen
+pub mod AfterReadBuffer
 pub mod Heard
 pub mod Stores
 pub mod Taken
@@ -13,13 +13,13 @@ pub mod Looks
 pub mod Laws
 pub mod Exactness
 pub mod Sized
-pub mod Openness
+pub mod TextUnknown
 pub mod Storable
 pub mod Doubt
 pub mod RuleBreaks
 pub mod Notes
-pub mod Asked
-pub mod Held
+pub mod Queries
+pub mod Borrowed
 pub mod Came
 pub mod Appending
 pub mod InPlace

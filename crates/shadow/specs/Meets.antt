@@ -2,7 +2,7 @@
 use Rattle.std.specs.Prelude.{◌≡◌, ◌⊎◌, ⊤, ℕ, Bool, true, false, List, length, Option, Some, None}
 use Rattle.datastream.specs.Screen.{Screen, text_before_attribute}
 use Rattle.datastream.specs.Fields.{Field, fields, IsFormatted as IsFormattedScreen, IsUnformatted}
-use Rattle.datastream.specs.Held.{without_mdt}
+use Rattle.datastream.specs.KeptByKeys.{without_mdt}
 use Rattle.datastream.specs.Inbound.{without_nulls}
 use Rattle.shadow.specs.declared.mdt_state.MdtState.{MdtState}
 use Rattle.shadow.specs.declared.mdt_state.MdtState.TheVariants.{On, Off, Unknown}
@@ -12,7 +12,7 @@ use Rattle.shadow.specs.Belief.{Fact, Belief, Shadow, nulls}
 abbrev pub IsNull : List ℕ → Type 0
 IsNull text = text ≡ nulls (length text)
 
--- a character that is known is the screen's
+-- holds if the character on the screen isn't known, or is the known one
 abbrev pub KnownIs : Option ℕ → ℕ → Type 0
 KnownIs None char = ⊤
 KnownIs (Some known) char = char ≡ known
@@ -22,7 +22,7 @@ MarkIs On mdt = mdt ≡ true
 MarkIs Off mdt = mdt ≡ false
 MarkIs Unknown mdt = ⊤
 
--- the characters are as a fact says
+-- holds if the field's characters are as the fact says
 abbrev pub Holds : Fact → List ℕ → Type 0
 Holds (Fact.Exact value) text = text ≡ value
 Holds (Fact.ExactOrNulls value) text = (text ≡ value) ⊎ IsNull text
@@ -30,35 +30,39 @@ Holds (Fact.Text value) text = without_nulls text ≡ value
 Holds (Fact.TextOrNulls value) text = (without_nulls text ≡ value) ⊎ IsNull text
 Holds (Fact.Any known) text = Pairwise KnownIs known text
 
+-- holds if the field is as it is believed: address, attribute, length, MDT and characters
 pub record FieldMeets (belief : Belief) (field : Field) : Type 0 where
   pub same_place : field.place ≡ belief.place
   pub same_attr : without_mdt field.attr ≡ belief.attr
   pub same_length : length field.text ≡ belief.length
-  pub mark_is : MarkIs belief.mark field.attr.mdt
+  pub mark_is : MarkIs belief.mdt field.attr.mdt
   pub holds : Holds belief.fact field.text
 
+-- holds if the belief allows the screen
 abbrev pub Meets : Shadow → Screen → Type 0
 Meets Shadow.NothingKnown screen = ⊤
-Meets (Shadow.Unformatted known) screen = IsUnformatted screen.cells × Pairwise KnownIs known (text_before_attribute screen.cells)
-Meets (Shadow.Formatted beliefs) screen = IsFormattedScreen screen.cells × Pairwise FieldMeets beliefs (fields screen.cells)
+Meets (Shadow.Unformatted known) screen = IsUnformatted screen.cells
+    × Pairwise KnownIs known (text_before_attribute screen.cells)
+Meets (Shadow.Formatted beliefs) screen = IsFormattedScreen screen.cells
+    × Pairwise FieldMeets beliefs (fields screen.cells)
 
--- the host knows something of the screen
+-- holds if the host knows anything of the screen
 abbrev pub Knows : Shadow → Type 0
 Knows Shadow.NothingKnown = ⊥
 Knows (Shadow.Unformatted known) = ⊤
 Knows (Shadow.Formatted beliefs) = ⊤
 
--- the belief has fields
+-- holds if the belief has fields
 abbrev pub IsFormatted : Shadow → Type 0
 IsFormatted Shadow.NothingKnown = ⊥
 IsFormatted (Shadow.Unformatted known) = ⊥
 IsFormatted (Shadow.Formatted beliefs) = ⊤
 
--- If the screen is formatted, so is the belief. (That they have the same fields follows, if the screen meets the belief.)
+-- holds if the belief is formatted whenever the screen is (that the fields are the same then follows from `Meets`)
 abbrev pub ListsFields : Shadow → Screen → Type 0
 ListsFields shadow screen = IsFormattedScreen screen.cells → IsFormatted shadow
 
--- the text without nulls that a fact tells
+-- a field's characters without nulls, if they follow from its fact
 abbrev pub told : Fact → Option (List ℕ)
 told (Fact.Exact value) = Some (without_nulls value)
 told (Fact.ExactOrNulls value) = None
@@ -66,10 +70,12 @@ told (Fact.Text value) = Some value
 told (Fact.TextOrNulls value) = None
 told (Fact.Any known) = None
 
--- the fact of an unprotected field with MDT on tells its text
+-- holds if the field is protected, has MDT off, or its text without nulls follows from its fact
 abbrev pub FieldTold : Belief → Field → Type 0
-FieldTold belief field = field.attr.protected ≡ false → field.attr.mdt ≡ true → told belief.fact ≡ Some (without_nulls field.text)
+FieldTold belief field = field.attr.protected ≡ false → field.attr.mdt ≡ true
+    → told belief.fact ≡ Some (without_nulls field.text)
 
+-- holds if the host knows the text, without nulls, of each unprotected field with MDT on that it lists
 abbrev pub IsTold : Shadow → Screen → Type 0
 IsTold Shadow.NothingKnown screen = ⊤
 IsTold (Shadow.Unformatted known) screen = ⊤

@@ -1,4 +1,4 @@
--- For private functions: what was known of a field's text, if a cell had an attribute, in a single byte (our profile).
+-- For private functions: what was known of the text of the field whose attribute a cell held, in a byte (our profile).
 use Rattle.std.specs.Prelude.{◌≡◌, Option, Some, None}
 use Rattle.std.proofs.Common.{refl}
 use Rattle.shadow.specs.declared.cell_belief.TextKnowledge.{TextKnowledge}
@@ -20,7 +20,7 @@ kept_of (Some ExactOrNulls) = kept.ExactOrNulls
 kept_of (Some Text) = kept.Text
 kept_of (Some TextOrNulls) = kept.TextOrNulls
 
--- one byte is kept for each option
+-- the two conversions are inverse: a byte is kept for the option that it is read as
 pub kept_again : (byte : Kept) → kept_of (knowledge_kept byte) ≡ byte
 kept_again kept.NoField = refl
 kept_again kept.Cells = refl

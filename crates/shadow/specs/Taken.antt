@@ -1,5 +1,5 @@
--- What a host believes once a plain write was taken (our profile). That a write may set each MDT off is GA23-0059-07, "Write
--- Control Character (WCC)".
+-- What a host believes after the terminal has carried out a plain write (our profile). That a write may turn each MDT
+-- off is GA23-0059-07, "Write Control Character (WCC)".
 use Rattle.std.specs.Prelude.{◌==◌, ◌+◌, ◌-◌, ◌&&◌, ◌||◌, ℕ, Bool, true, false, List, [], ◌∷◌, ◌++◌, length, map, flat_map, slice_set, take, drop, Option, Some, None, option_map, unwrap_or, if◌then◌else◌}
 use Rattle.codes3270.specs.declared.attribute.Attr.{Attr as Attribute}
 use Rattle.codes3270.specs.declared.attribute.Cell.{Cell}
@@ -9,7 +9,7 @@ use Rattle.codes3270.specs.declared.write_control.Wcc.{Wcc}
 use Rattle.datastream.specs.Grammar.{CommandParts}
 use Rattle.datastream.specs.Screen.{blank_screen}
 use Rattle.datastream.specs.Meaning.{after_command}
-use Rattle.datastream.specs.Held.{without_mdt}
+use Rattle.datastream.specs.KeptByKeys.{without_mdt}
 use Rattle.datastream.specs.declared.order.Order.{Order}
 use Rattle.datastream.specs.declared.command_code.CommandCode.{CommandCode}
 use Rattle.datastream.specs.declared.command_code.CommandCode.TheVariants.{Write, EraseWrite, EraseWriteAlternate, ReadBuffer, ReadModified, ReadModifiedAll, EraseAllUnprotected}
@@ -18,7 +18,7 @@ use Rattle.shadow.specs.declared.mdt_state.MdtState.TheVariants.{Off}
 use Rattle.shadow.specs.declared.known.Known.{Known}
 use Rattle.shadow.specs.declared.known.Known.TheVariants.{Attr as KnownAttr, Char as KnownChar}
 use Rattle.shadow.specs.Belief.{Fact, Belief, Shadow}
-use Rattle.shadow.specs.Seen.{known_chars, mark_seen, seen}
+use Rattle.shadow.specs.AfterReadBuffer.{known_chars, mark_seen, seen}
 use Rattle.shadow.specs.Stores.{Store, stores, stores_unplaced}
 
 -- In what follows, `size` is the number of cells of the screen that is written on.
@@ -29,19 +29,19 @@ abbrev pub old_char : Option ℕ → Known
 old_char known = KnownChar known false
 
 abbrev pub field_cells : Belief → List Known
-field_cells belief = KnownAttr belief.attr belief.mark ∷ map old_char (known_chars belief.length belief.fact)
+field_cells belief = KnownAttr belief.attr belief.mdt ∷ map old_char (known_chars belief.length belief.fact)
 
 abbrev pub first_place : List Belief → ℕ
 first_place [] = 0
 first_place (belief ∷ beliefs) = belief.place
 
--- the fields' cells one after another, from the first field's place on, and past the end from address 0
+-- the fields' cells by address: they begin at the first field's attribute, and wrap at the end
 abbrev pub laid_out : ℕ → List Belief → List Known
 laid_out size beliefs =
     let cells = flat_map field_cells beliefs in
     drop (size - first_place beliefs) cells ++ take (size - first_place beliefs) cells
 
--- ---- what a write makes of it
+-- ---- what is known of each cell after a write
 
 abbrev pub new_cell : Cell → Known
 new_cell (Char byte) = KnownChar (Some byte) true
@@ -53,30 +53,30 @@ known_stored (store ∷ stores) cells = known_stored stores (slice_set cells sto
 
 abbrev pub mark_off : Known → Known
 mark_off (KnownChar known fresh) = KnownChar known fresh
-mark_off (KnownAttr attribute mark) = KnownAttr attribute Off
+mark_off (KnownAttr attribute mdt) = KnownAttr attribute Off
 
 abbrev pub marks_off_if : Bool → List Known → List Known
 marks_off_if resets cells = if resets then map mark_off cells else cells
 
--- ---- the fields of what is known
+-- ---- the fields that these cells make up
 
--- the characters before the first attribute, where they are known
+-- the characters before the first attribute, None for each that isn't known
 abbrev pub known_ahead : List Known → List (Option ℕ)
 known_ahead [] = []
 known_ahead (KnownChar known fresh ∷ cells) = known ∷ known_ahead cells
-known_ahead (KnownAttr attribute mark ∷ cells) = []
+known_ahead (KnownAttr attribute mdt ∷ cells) = []
 
--- whether the write stored one of them
+-- whether the write has stored one of the characters before the first attribute
 abbrev pub fresh_ahead : List Known → Bool
 fresh_ahead [] = false
 fresh_ahead (KnownChar known fresh ∷ cells) = fresh || fresh_ahead cells
-fresh_ahead (KnownAttr attribute mark ∷ cells) = false
+fresh_ahead (KnownAttr attribute mdt ∷ cells) = false
 
 abbrev pub and_char : Option ℕ → Option (List ℕ) → Option (List ℕ)
 and_char None rest = None
 and_char (Some char) rest = option_map (λ chars. char ∷ chars) rest
 
--- the characters, if all are known
+-- the characters, if all of them are known
 abbrev pub whole_text : List (Option ℕ) → Option (List ℕ)
 whole_text [] = Some []
 whole_text (known ∷ more) = and_char known (whole_text more)
@@ -88,34 +88,42 @@ exact_or_any None known = Fact.Any known
 abbrev pub fact_known : List (Option ℕ) → Fact
 fact_known known = exact_or_any (whole_text known) known
 
--- the fact of the field that had this attribute address and length
+-- the fact of the field that had this attribute address and this length, if there was one
 abbrev pub fact_before : List Belief → ℕ → ℕ → Option Fact
 fact_before [] place count = None
 fact_before (belief ∷ beliefs) place count =
     if belief.place == place && belief.length == count then Some belief.fact else fact_before beliefs place count
 
--- a field where none was stored keeps its fact; `ahead`: the cells behind its attribute
+-- the fact of a field after a write: unchanged if the field was there with this length and nothing was stored in it,
+-- else what its cells say; `ahead`: the cells after its attribute
 abbrev pub fact_after : List Belief → ℕ → List Known → Fact
 fact_after before place ahead =
     let known = known_ahead ahead in
-    if fresh_ahead ahead then fact_known known else unwrap_or (fact_before before place (length known)) (fact_known known)
+    if fresh_ahead ahead then fact_known known
+    else unwrap_or (fact_before before place (length known)) (fact_known known)
 
 abbrev pub belief_after : List Belief → ℕ → Attribute → MdtState → List Known → Belief
-belief_after before place attribute mark ahead =
-    record { place = place; attr = attribute; mark = mark; length = length (known_ahead ahead); fact = fact_after before place ahead }
+belief_after before place attribute mdt ahead =
+    record {
+      place = place;
+      attr = attribute;
+      mdt = mdt;
+      length = length (known_ahead ahead);
+      fact = fact_after before place ahead;
+    }
 
--- the fields whose attributes are in `rest`, the cells of `whole` from an address on
+-- the fields whose attributes are in `rest`, the part of `whole` from an address on
 abbrev pub beliefs_from : List Belief → List Known → ℕ → List Known → List Belief
 beliefs_from before whole at [] = []
 beliefs_from before whole at (KnownChar known fresh ∷ rest) = beliefs_from before whole (at + 1) rest
-beliefs_from before whole at (KnownAttr attribute mark ∷ rest) =
-    belief_after before at attribute mark (rest ++ whole) ∷ beliefs_from before whole (at + 1) rest
+beliefs_from before whole at (KnownAttr attribute mdt ∷ rest) =
+    belief_after before at attribute mdt (rest ++ whole) ∷ beliefs_from before whole (at + 1) rest
 
 abbrev pub formatted_as : List Belief → List (Option ℕ) → Shadow
 formatted_as [] known = Shadow.Unformatted known
 formatted_as (belief ∷ beliefs) known = Shadow.Formatted (belief ∷ beliefs)
 
--- what is believed of a screen with these cells
+-- the belief of a screen of whose cells this is known; `before`: the fields before the write
 abbrev pub believed : List Belief → List Known → Shadow
 believed before cells = formatted_as (beliefs_from before cells 0 cells) (known_ahead cells)
 
@@ -125,7 +133,7 @@ abbrev pub resets : Option Wcc → Bool
 resets None = false
 resets (Some wcc) = wcc.reset
 
--- the cells after the orders of a write that begins with an SBA
+-- what is known of the cells after a write that stores none before its first SBA
 abbrev pub known_after : ℕ → Option Wcc → List Order → List Known → List Known
 known_after size wcc orders cells = known_stored (stores size 0 orders) (marks_off_if (resets wcc) cells)
 
@@ -133,12 +141,13 @@ abbrev pub after_write : ℕ → Option Wcc → List Order → List Belief → L
 after_write size wcc orders before cells =
     if stores_unplaced orders then Shadow.NothingKnown else believed before (known_after size wcc orders cells)
 
+-- the belief after a Write
 abbrev pub taken_write : ℕ → Option Wcc → List Order → Shadow → Shadow
 taken_write size wcc orders Shadow.NothingKnown = Shadow.NothingKnown
 taken_write size wcc orders (Shadow.Unformatted known) = after_write size wcc orders [] (map old_char known)
 taken_write size wcc orders (Shadow.Formatted beliefs) = after_write size wcc orders beliefs (laid_out size beliefs)
 
--- after an erase all cells are known, of a screen of the command's size
+-- the belief after an erase: all cells are known, and the size is the command's
 abbrev pub taken_erase : CommandParts → Shadow
 taken_erase command = seen (after_command command (blank_screen (cells_in command.size))).cells
 
@@ -151,6 +160,6 @@ taken_code ReadModified size command shadow = shadow
 taken_code ReadModifiedAll size command shadow = shadow
 taken_code EraseAllUnprotected size command shadow = shadow
 
--- what is believed after a plain command
+-- the belief after a plain write
 abbrev pub taken : ℕ → CommandParts → Shadow → Shadow
 taken size command shadow = taken_code command.code size command shadow

@@ -1,4 +1,4 @@
-//! Whether a screen that was read can be the one that is believed.
+//! Whether the answer to Read Buffer can come from the believed screen, and how it replaces the belief.
 ghost use Rattle.std.specs.Prelude.{◌≡◌, ◌<◌, ◌≤◌, ◌+◌, ◌++◌, ◌∷◌, [], MatchOption, length, drop, slice_index_or};
 ghost use Rattle.codes3270.specs.Size.{cells_in};
 ghost use Rattle.datastream.specs.Fields.{fields as fields_in};
@@ -6,25 +6,26 @@ ghost use Rattle.shadow.specs.declared.cell_belief.CellBelief.TheVariants.{Unkno
 ghost use Rattle.shadow.specs.InPlace.{chars_known, beliefs_held, known_text, misses_here, other_here, IsHeld};
 ghost use Rattle.shadow.specs.Runs.{placed, other_next};
 ghost use Rattle.shadow.specs.Since.{place_stored, places_stored};
-ghost use Rattle.shadow.specs.Seen.{differs, others, same_attr as are_same};
+ghost use Rattle.shadow.specs.AfterReadBuffer.{differs, others, same_attr as are_same};
 
+use crate::apply_write::place_of;
 use crate::cell_belief::CellBelief;
 use crate::cell_beliefs::{Ahead, CellBeliefs};
-use crate::taking::place_of;
 use codes3270::{Attr, Cell, Size, attr_code};
 use datastream::Cells;
 
-/// Whether two attributes have the same code without MDT.
+/// Whether two attributes have the same code, MDT aside.
 pub(crate) fn same_attr(one: Attr, other: Attr) -> bool
     ensures { result ≡ are_same one other }
 {
     attr_code(one.with_mdt(false)) == attr_code(other.with_mdt(false))
 }
 
-/// The next character that was read, if there is one before the first attribute; `whole`: what follows the rest, round the end.
+/// The next character that was read, if one comes before the first attribute; `whole` follows `rest`.
 pub(crate) fn next_char(rest: &mut Cells<'_>, whole: &mut Cells<'_>) -> Option<u8>
     ensures { let ahead = places_stored rest.old ++ places_stored whole.old in
-        MatchOption result (known_text (chars_known ahead) ≡ []) (λ char. known_text (chars_known ahead) ≡ char ∷ known_text (chars_known (places_stored rest.new ++ places_stored whole.new))) }
+        MatchOption result (known_text (chars_known ahead) ≡ []) (λ char. known_text (chars_known ahead)
+        ≡ char ∷ known_text (chars_known (places_stored rest.new ++ places_stored whole.new))) }
 {
     match rest.next() {
         Some(Cell::Char(char)) => Some(char),
@@ -33,9 +34,10 @@ pub(crate) fn next_char(rest: &mut Cells<'_>, whole: &mut Cells<'_>) -> Option<u
     }
 }
 
-/// The same of the cells from the first one on.
+/// The next character of `whole`; `None` at an attribute or at the end.
 fn next_round(whole: &mut Cells<'_>) -> Option<u8>
-    ensures { MatchOption result (known_text (chars_known (places_stored whole.old)) ≡ []) (λ char. known_text (chars_known (places_stored whole.old)) ≡ char ∷ known_text (chars_known (places_stored whole.new))) }
+    ensures { MatchOption result (known_text (chars_known (places_stored whole.old)) ≡ []) (λ char. known_text
+        (chars_known (places_stored whole.old)) ≡ char ∷ known_text (chars_known (places_stored whole.new))) }
 {
     match whole.next() {
         Some(Cell::Char(char)) => Some(char),
@@ -43,7 +45,7 @@ fn next_round(whole: &mut Cells<'_>) -> Option<u8>
     }
 }
 
-/// Whether a place shows that a text is another: `char` is its next character.
+/// Whether a cell shows that the text that was read differs from the field's; `char`: the next character of the text.
 fn differs_here(place: CellBelief, char: Option<u8>) -> bool
     ensures { result ≡ misses_here place char }
 {
@@ -55,9 +57,10 @@ fn differs_here(place: CellBelief, char: Option<u8>) -> bool
     }
 }
 
-/// Whether the characters before the first attribute that are known aren't those that were read.
+/// Whether the characters read before the first attribute differ from the known ones, or are more or fewer.
 fn are_others(known: Ahead<'_>, rest: Cells<'_>, whole: Cells<'_>) -> bool
-    ensures { result ≡ differs (chars_known known.entry) (known_text (chars_known (places_stored rest.entry ++ places_stored whole.entry))) }
+    ensures { result ≡ differs (chars_known known.entry)
+        (known_text (chars_known (places_stored rest.entry ++ places_stored whole.entry))) }
 {
     let mut rest = rest;
     let mut whole = whole;
@@ -69,49 +72,51 @@ fn are_others(known: Ahead<'_>, rest: Cells<'_>, whole: Cells<'_>) -> bool
         match place {
             CellBelief::Attr(_, _, _) => return false,
             CellBelief::Known(_) => {}
-            CellBelief::Told(_) => {}
+            CellBelief::Unplaced(_) => {}
             CellBelief::Unknown => {}
         }
     }
     next_char(&mut rest, &mut whole).is_some()
 }
 
-/// Whether the characters of the field whose attribute is at a place aren't those that were read; `rest`: the cells that were read
-/// behind its attribute. Mostly they are known, and the same.
+/// Whether the text that was read for the field whose attribute is at `place` differs from what is known of it; `rest`
+/// are the cells that were read after that attribute. Usually the text is known and equal, which is checked first.
 pub(crate) fn is_other_text(
-    places: &CellBeliefs,
+    beliefs: &CellBeliefs,
     place: usize,
     rest: &Cells<'_>,
     whole: &Cells<'_>,
 ) -> bool
-    requires { place < length places.now }
-    ensures { result ≡ differs (chars_known (drop (place + 1) places.now ++ places.now)) (known_text (chars_known (places_stored rest.now ++ places_stored whole.now))) }
+    requires { place < length beliefs.now }
+    ensures { result ≡ differs (chars_known (drop (place + 1) beliefs.now ++ beliefs.now))
+        (known_text (chars_known (places_stored rest.now ++ places_stored whole.now))) }
 {
-    // For the contract: there is room for the screen.
-    let _cells = places.len();
+    // For the contract: the screen has at most `MOST_CELLS` cells.
+    let _cells = beliefs.len();
     let mut ahead = rest.copy();
     let text = ahead.characters();
-    if ahead.next().is_some() && places.has_text(place + 1, text) {
+    if ahead.next().is_some() && beliefs.has_text(place + 1, text) {
         return false;
     }
-    are_others(places.ahead(place), rest.copy(), whole.copy())
+    are_others(beliefs.ahead(place), rest.copy(), whole.copy())
 }
 
-/// Whether a cell that was read shows that a screen isn't the one that is believed; `rest`: those after it.
+/// Whether a cell that was read shows that the screen isn't the believed one; `rest` are the cells after it.
 pub(crate) fn is_other(
-    places: &CellBeliefs,
+    beliefs: &CellBeliefs,
     place: usize,
     cell: Cell,
     rest: &Cells<'_>,
     whole: &Cells<'_>,
 ) -> bool
-    requires { place < length places.now }
-    ensures { result ≡ other_here (slice_index_or places.now place Unknown) (place_stored cell) (drop (place + 1) places.now ++ places.now) (places_stored rest.now ++ places_stored whole.now) }
+    requires { place < length beliefs.now }
+    ensures { result ≡ other_here (slice_index_or beliefs.now place Unknown) (place_stored cell)
+        (drop (place + 1) beliefs.now ++ beliefs.now) (places_stored rest.now ++ places_stored whole.now) }
 {
-    match (places.get(place), cell) {
+    match (beliefs.get(place), cell) {
         (CellBelief::Attr(believed, _, _), Cell::Attr(attr)) => {
             !same_attr(attr.with_mdt(false), believed)
-                || believed.protected && is_other_text(places, place, rest, whole)
+                || believed.protected && is_other_text(beliefs, place, rest, whole)
         }
         (CellBelief::Attr(_, _, _), Cell::Char(_)) => true,
         (_, Cell::Attr(_)) => true,
@@ -119,33 +124,33 @@ pub(crate) fn is_other(
     }
 }
 
-/// Whether the next cell that was read shows it; `place`: its address. At the end there is none.
-fn is_other_at(places: &CellBeliefs, place: usize, rest: &mut Cells<'_>, whole: &Cells<'_>) -> bool
-    requires { place + length rest.old ≡ length places.now }
-    ensures other { result ≡ other_next places.now place rest.old whole.now }
+/// Whether the next cell that was read, at `place`, shows that the screen isn't the believed one; false at the end.
+fn is_other_at(beliefs: &CellBeliefs, place: usize, rest: &mut Cells<'_>, whole: &Cells<'_>) -> bool
+    requires { place + length rest.old ≡ length beliefs.now }
+    ensures other { result ≡ other_next beliefs.now place rest.old whole.now }
     ensures left { rest.new ≡ drop 1 rest.old }
 {
     match rest.next() {
-        Some(cell) => is_other(places, place, cell, rest, whole),
+        Some(cell) => is_other(beliefs, place, cell, rest, whole),
         None => false,
     }
 }
 
-/// Whether the fields that were read aren't those that are believed.
-pub(crate) fn any_other(places: &CellBeliefs, cells: Cells<'_>) -> bool
-    requires held { IsHeld places.now }
-    requires whole { length cells ≡ length places.now }
-    ensures { result ≡ others (beliefs_held places.now 0 places.now) (fields_in cells.entry) }
+/// Whether the fields that were read differ from the believed ones in address, attribute, or known protected text.
+pub(crate) fn any_other(beliefs: &CellBeliefs, cells: Cells<'_>) -> bool
+    requires held { IsHeld beliefs.now }
+    requires whole { length cells ≡ length beliefs.now }
+    ensures { result ≡ others (beliefs_held beliefs.now 0 beliefs.now) (fields_in cells.entry) }
 {
-    let count = places.len();
+    let count = beliefs.len();
     let mut rest = cells.copy();
     let mut from = 0;
     while from < count {
-        let place = places.attribute_from(from);
+        let place = beliefs.attribute_from(from);
         if from + rest.characters().len() != place {
             return true;
         }
-        if is_other_at(places, place, &mut rest, &cells) {
+        if is_other_at(beliefs, place, &mut rest, &cells) {
             return true;
         }
         from = place + 1;
@@ -153,32 +158,32 @@ pub(crate) fn any_other(places: &CellBeliefs, cells: Cells<'_>) -> bool
     false
 }
 
-/// Puts characters that were read from an address on, and answers the address behind them.
+/// Stores characters that were read as known ones from an address on, and returns the address after them.
 #[inline(always)]
-fn put_run(places: &mut CellBeliefs, from: usize, text: &[u8]) -> usize
-    requires { from + length text.now ≤ length places.old }
-    ensures places { places.new ≡ placed from text.now places.old }
-    ensures size { length places.new ≡ length places.old }
+fn put_run(beliefs: &mut CellBeliefs, from: usize, text: &[u8]) -> usize
+    requires { from + length text.now ≤ length beliefs.old }
+    ensures beliefs { beliefs.new ≡ placed from text.now beliefs.old }
+    ensures size { length beliefs.new ≡ length beliefs.old }
     ensures behind { result ≡ from + length text.now }
 {
-    // For the contract: there is room for the screen.
-    let _cells = places.len();
-    places.hold_characters(from, text);
+    // For the contract: the screen has at most `MOST_CELLS` cells.
+    let _cells = beliefs.len();
+    beliefs.hold_characters(from, text);
     from + text.len()
 }
 
-/// Puts the places of a screen of this size that was read.
-pub(crate) fn put_read(places: &mut CellBeliefs, cells: Cells<'_>, size: Size)
+/// Replaces all beliefs by the cells that were read of a screen of this size.
+pub(crate) fn put_read(beliefs: &mut CellBeliefs, cells: Cells<'_>, size: Size)
     requires { length cells ≡ cells_in size }
-    ensures { places.new ≡ places_stored cells.entry }
+    ensures { beliefs.new ≡ places_stored cells.entry }
 {
-    places.clear(size);
-    // For the contract: there is room for the screen.
+    beliefs.clear(size);
+    // For the contract: the screen has at most `MOST_CELLS` cells.
     let _cells = size.cells();
     let mut rest = cells;
-    let mut at = put_run(places, 0, rest.characters());
+    let mut at = put_run(beliefs, 0, rest.characters());
     while let Some(cell) = rest.next() {
-        places.set(at, place_of(cell));
-        at = put_run(places, at + 1, rest.characters());
+        beliefs.set(at, place_of(cell));
+        at = put_run(beliefs, at + 1, rest.characters());
     }
 }

@@ -8,25 +8,25 @@ use std::marker::Model;
 /// What is known of the text of a field.
 #[derive(Clone, Copy, Debug, PartialEq, Eq)]
 pub(crate) enum TextKnowledge {
-    /// Each character by itself, where it is known.
+    /// Each cell says itself whether its character is known.
     Cells,
-    /// They are the text that the told characters spell, or all null.
+    /// The field's characters are the text of its `Told` cells, or all nulls.
     ExactOrNulls,
-    /// Without nulls they are the text that the told characters spell.
+    /// The field's characters without nulls are the text of its `Told` cells.
     Text,
-    /// Without nulls they are that text, or there are nulls alone.
+    /// The field's characters without nulls are the text of its `Told` cells, or all are nulls.
     TextOrNulls,
 }
 
 /// What the host believes of one cell.
 #[derive(Clone, Copy)]
 pub(crate) enum CellBelief {
-    /// An attribute, with MDT off; what is known of its MDT; and what is known of its field's text.
+    /// An attribute (held with MDT off), what is known of its MDT, and what is known of its field's text.
     Attr(Attr, MdtState, TextKnowledge),
     /// A character that is known.
     Known(u8),
-    /// A character of the field's text; which cell of the field holds it isn't known.
-    Told(u8),
+    /// A character of the field's text. Which cell of the field holds it isn't known; this one only stores it.
+    Unplaced(u8),
     /// A character of which nothing is known.
     Unknown,
 }
@@ -41,8 +41,8 @@ enum Kept {
     TextOrNulls,
 }
 
-/// What was known of the text of the field whose attribute this cell had, if it had one: an option in a
-/// single byte, so that a whole screen of them takes little room. Contracts see the option.
+/// What was known of the text of the field whose attribute this cell held, if it held one. It is an option in a single
+/// byte, so that a screen of them takes little room. Contracts see the option.
 #[derive(Clone, Copy)]
 pub(crate) struct PriorKnowledge {
     kept: Kept,
@@ -64,7 +64,7 @@ impl Model for PriorKnowledge {
     ghost inverse_ok = { λ former _. ap (λ (kept : Kept). record { kept = kept }) (kept_again former.kept) };
 }
 
-/// No field's attribute.
+/// The cell held no attribute.
 pub(crate) const NO_FIELD: PriorKnowledge = PriorKnowledge {
     kept: Kept::NoField,
 };
@@ -96,8 +96,8 @@ impl PriorKnowledge {
     }
 }
 
-/// A cell before a write: what was known of its field's text, if it was an attribute; and whether the write
-/// has stored there since.
+/// A cell before a write: what was known of its field's text, if it held an attribute; and whether the write has stored
+/// in it since (`fresh`).
 #[derive(Clone, Copy)]
 pub(crate) struct BeforeWrite {
     pub knowledge: PriorKnowledge,

@@ -1,14 +1,14 @@
-/// What is believed of a field's characters.
+/// What is believed of a field's characters, with respect to the text that `Shadow::text` gives.
 #[derive(Clone, Copy, Debug, PartialEq, Eq)]
 pub enum Fact {
-    /// They are a text.
+    /// They are that text.
     Exact,
-    /// They are a text, or all null.
+    /// They are that text, or all nulls.
     ExactOrNulls,
-    /// Without nulls they are a text.
+    /// They are that text once nulls are left out.
     Text,
-    /// Without nulls they are a text, or there are nulls alone.
+    /// They are that text once nulls are left out, or all nulls.
     TextOrNulls,
-    /// They may be anything, but for those that are known.
+    /// There is no such text: single characters may be known (`Shadow::known`), others may be anything.
     Any,
 }

@@ -1,8 +1,8 @@
-/// Why a shadow refuses what a terminal sent.
+/// Why `Shadow::heard` rejects inbound data.
 #[derive(Clone, Copy, Debug, PartialEq, Eq)]
 pub enum HeardFault {
-    /// An address is the first of no field.
+    /// An address in the data isn't that of any believed field's first cell.
     NoSuchField,
-    /// It can't be so, by what is believed.
+    /// No screen that is so believed can have sent the data.
     Contradiction,
 }

@@ -2,25 +2,25 @@
 ghost use Rattle.std.specs.Prelude.{◌≡◌, ◌∷◌, List, [], MatchOption};
 ghost use Rattle.std.specs.Iterator.{YieldsFirst, item_count};
 ghost use Rattle.shadow.specs.FieldTexts.{text_in};
-ghost use Rattle.shadow.specs.declared.cell_belief.CellBelief.{CellBelief as Place};
+ghost use Rattle.shadow.specs.declared.cell_belief.CellBelief.{CellBelief as CellBeliefPlace};
 
 use crate::cell_belief::CellBelief;
 use crate::cell_beliefs::{Ahead, CellBeliefs};
 use datastream::Ring;
 use std::marker::Model;
 
-/// Which places of a field have the characters of its text.
+/// Which cells of a field hold the characters of its text.
 #[derive(Clone, Copy)]
 pub(crate) enum TextPlaces {
     /// Those whose characters are known.
     Known,
-    /// Those that tell a character.
-    Told,
+    /// The `Told` ones.
+    Unplaced,
     /// None: there is no text.
     Nowhere,
 }
 
-/// The characters that are left of the text that the fact of a field speaks of. Contracts see their list.
+/// An iterator over the text of a field's fact (`Shadow::text`). Contracts see the list of the characters left.
 #[derive(Drop)]
 pub struct FieldText<'a> {
     ahead: Ahead<'a>,
@@ -36,32 +36,32 @@ impl<'a> Model for FieldText<'a> {
     ghost view = { λ text. text_in text.text_places text.ahead };
 }
 
-/// The character of a text that begins at a place, if that has one.
+/// The character that a cell has of the text, if it has one.
 fn character_at(text_places: TextPlaces, place: CellBelief) -> Option<u8>
-    ensures { (rest : List Place) → MatchOption result (text_in text_places (place ∷ rest) ≡ [])
+    ensures { (rest : List CellBeliefPlace) → MatchOption result (text_in text_places (place ∷ rest) ≡ [])
         (λ char. text_in text_places (place ∷ rest) ≡ char ∷ text_in text_places rest) }
 {
     match (text_places, place) {
         (TextPlaces::Known, CellBelief::Known(char)) => Some(char),
-        (TextPlaces::Told, CellBelief::Told(char)) => Some(char),
+        (TextPlaces::Unplaced, CellBelief::Unplaced(char)) => Some(char),
         _ => None,
     }
 }
 
 impl<'a> FieldText<'a> {
-    /// The text in these places from the first on.
+    /// The text that begins at the first of these cells.
     pub(crate) fn new(ahead: Ahead<'a>, text_places: TextPlaces) -> FieldText<'a>
         ensures { result ≡ text_in text_places ahead.entry }
     {
         FieldText { ahead, text_places }
     }
 
-    /// No characters.
-    pub(crate) fn none(places: &'a CellBeliefs) -> FieldText<'a>
+    /// The empty text.
+    pub(crate) fn none(beliefs: &'a CellBeliefs) -> FieldText<'a>
         ensures { result ≡ [] }
     {
         FieldText {
-            ahead: Ring::all(places),
+            ahead: Ring::all(beliefs),
             text_places: TextPlaces::Nowhere,
         }
     }

@@ -10,22 +10,22 @@ use crate::mdt_state::MdtState;
 /// How an update changes the characters of a field.
 #[derive(Clone, Copy)]
 pub(crate) enum FieldUpdate<'a> {
-    /// They stay as they are held.
+    /// They stay as they are.
     Same,
     /// Nothing is known of them.
     Unknown,
-    /// They are null.
+    /// They are known nulls.
     Null,
-    /// They tell a text, and after it nothing is known.
+    /// They tell this text; those after it are unknown.
     Text(&'a [u8]),
-    /// Those that are known tell a text.
-    Told,
+    /// The known ones become told ones.
+    Unplaced,
 }
 
-/// What becomes of a field.
+/// How inbound data changes a field: its MDT, what is known of its text, and its characters.
 #[derive(Clone, Copy)]
 pub(crate) struct Change<'a> {
-    pub mark: MdtState,
+    pub mdt: MdtState,
     pub knowledge: TextKnowledge,
     pub update: FieldUpdate<'a>,
 }
@@ -34,14 +34,14 @@ fn told(place: CellBelief) -> CellBelief
     ensures { result ≡ place_told place }
 {
     match place {
-        CellBelief::Known(char) => CellBelief::Told(char),
+        CellBelief::Known(char) => CellBelief::Unplaced(char),
         CellBelief::Attr(_, _, _) => place,
-        CellBelief::Told(_) => place,
+        CellBelief::Unplaced(_) => place,
         CellBelief::Unknown => place,
     }
 }
 
-/// What becomes of a character's place.
+/// What is believed of a character's cell after an update whose characters begin there.
 pub(crate) fn fill(place: CellBelief, update: FieldUpdate<'_>) -> CellBelief
     ensures { result ≡ filled (fill_of update.entry) place }
 {
@@ -49,13 +49,13 @@ pub(crate) fn fill(place: CellBelief, update: FieldUpdate<'_>) -> CellBelief
         FieldUpdate::Same => place,
         FieldUpdate::Unknown => CellBelief::Unknown,
         FieldUpdate::Null => CellBelief::Known(0),
-        FieldUpdate::Text([char, ..]) => CellBelief::Told(*char),
+        FieldUpdate::Text([char, ..]) => CellBelief::Unplaced(*char),
         FieldUpdate::Text([]) => CellBelief::Unknown,
-        FieldUpdate::Told => told(place),
+        FieldUpdate::Unplaced => told(place),
     }
 }
 
-/// What becomes of the next one.
+/// The update of the characters after the first.
 pub(crate) fn update_next(update: FieldUpdate<'_>) -> FieldUpdate<'_>
     ensures { fill_of result ≡ fill_next (fill_of update.entry) }
 {
@@ -76,7 +76,7 @@ fn text_after(text: &[u8], count: usize) -> &[u8]
     }
 }
 
-/// What becomes of the characters after the first `count`.
+/// The update of the characters after the first `count`.
 pub(crate) fn update_after(update: FieldUpdate<'_>, count: usize) -> FieldUpdate<'_>
     ensures { fill_of result ≡ fill_after count (fill_of update.entry) }
 {
@@ -86,52 +86,52 @@ pub(crate) fn update_after(update: FieldUpdate<'_>, count: usize) -> FieldUpdate
     }
 }
 
-/// Fills the characters from an address to the next attribute, or to the end, one by one.
+/// Updates the characters from an address to the next attribute, or to the end, one by one.
 #[inline(never)]
-fn fill_each(places: &mut CellBeliefs, from: usize, update: FieldUpdate<'_>)
-    requires { from ≤ length places.old }
-    ensures { places.new ≡ take from places.old ++ front_filled (fill_of update.entry) (drop from places.old) }
+fn fill_each(beliefs: &mut CellBeliefs, from: usize, update: FieldUpdate<'_>)
+    requires { from ≤ length beliefs.old }
+    ensures { beliefs.new ≡ take from beliefs.old ++ front_filled (fill_of update.entry) (drop from beliefs.old) }
 {
     let mut update = update;
-    for place in from..places.len() {
-        let held = places.get(place);
+    for place in from..beliefs.len() {
+        let held = beliefs.get(place);
         match held {
             CellBelief::Attr(_, _, _) => return,
             CellBelief::Known(_) => {}
-            CellBelief::Told(_) => {}
+            CellBelief::Unplaced(_) => {}
             CellBelief::Unknown => {}
         }
-        places.set(place, fill(held, update));
+        beliefs.set(place, fill(held, update));
         update = update_next(update);
     }
 }
 
-/// Fills the characters from an address to another, where the next attribute stands, or the end.
+/// Updates the characters in `from..to`. `to` must be the next attribute's address or the number of cells.
 #[inline(always)]
 pub(crate) fn fill_between(
-    places: &mut CellBeliefs,
+    beliefs: &mut CellBeliefs,
     from: usize,
     to: usize,
     update: FieldUpdate<'_>,
 )
-    requires few { to ≤ length places.old }
-    requires chars { to ≡ from + length (chars_known (drop from places.old)) }
-    ensures { places.new ≡ take from places.old ++ front_filled (fill_of update.entry) (drop from places.old) }
+    requires few { to ≤ length beliefs.old }
+    requires chars { to ≡ from + length (chars_known (drop from beliefs.old)) }
+    ensures { beliefs.new ≡ take from beliefs.old ++ front_filled (fill_of update.entry) (drop from beliefs.old) }
 {
     match update {
         FieldUpdate::Same => {}
-        FieldUpdate::Unknown => places.forget(from, to),
-        FieldUpdate::Null => places.hold_nulls(from, to),
-        FieldUpdate::Text(text) => places.tell(from, to, text),
-        FieldUpdate::Told => fill_each(places, from, update),
+        FieldUpdate::Unknown => beliefs.forget(from, to),
+        FieldUpdate::Null => beliefs.hold_nulls(from, to),
+        FieldUpdate::Text(text) => beliefs.tell(from, to, text),
+        FieldUpdate::Unplaced => fill_each(beliefs, from, update),
     }
 }
 
-/// Fills the characters from the first address to the first attribute, or to the end.
+/// Updates the characters from address 0 to the first attribute, or to the end.
 #[inline(never)]
-pub(crate) fn fill_front(places: &mut CellBeliefs, update: FieldUpdate<'_>)
-    ensures { places.new ≡ front_filled (fill_of update.entry) places.old }
+pub(crate) fn fill_front(beliefs: &mut CellBeliefs, update: FieldUpdate<'_>)
+    ensures { beliefs.new ≡ front_filled (fill_of update.entry) beliefs.old }
 {
-    let to = places.attribute_from(0);
-    fill_between(places, 0, to, update);
+    let to = beliefs.attribute_from(0);
+    fill_between(beliefs, 0, to, update);
 }

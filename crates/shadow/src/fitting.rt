@@ -1,4 +1,4 @@
-//! Whether what is to be kept is believed to be there.
+//! Whether the fields that a wanted screen keeps (Keep) are believed to be there.
 ghost use Rattle.std.specs.Prelude.{◌≡◌, ◌<◌, ◌≤◌, ◌+◌, ◌&&◌, ◌||◌, ◌*◌, ◌==◌, not, length, drop, IfSome};
 ghost use Rattle.std.specs.List.{list_any};
 ghost use Rattle.codes3270.specs.Size.{cells_in, most_cells};
@@ -6,10 +6,10 @@ ghost use Rattle.shadow.specs.Fits.{is_keep, is_attribute, is_field, fits_from, 
 ghost use Rattle.shadow.specs.InPlace.{beliefs_held, beliefs_of, HoldsCells};
 ghost use Rattle.shadow.specs.Painted.{keeps_ahead as keeps_before, count_ahead as count_before};
 
-use crate::asking::count_chars;
 use crate::buffer::same_attr;
 use crate::cell_belief::CellBelief;
 use crate::cell_beliefs::CellBeliefs;
+use crate::queries::count_chars;
 use codes3270::Attr;
 use datastream::{Want, Wanted, Wants};
 
@@ -27,7 +27,7 @@ pub(crate) fn keeps_ahead(ahead: Wants<'_>) -> bool
     false
 }
 
-/// How many cells stand before the first attribute.
+/// How many cells come before the first attribute.
 fn count_ahead(ahead: Wants<'_>) -> usize
     requires few { length ahead ≤ 2 * most_cells }
     ensures { result ≡ count_before ahead.entry }
@@ -44,36 +44,37 @@ fn count_ahead(ahead: Wants<'_>) -> usize
     count
 }
 
-/// Whether a field is believed to be.
+/// Whether a field with this attribute (but for MDT) and `count` characters is believed to be at `place`.
 fn any_field(held: Option<&CellBeliefs>, place: usize, attr: Attr, count: usize) -> bool
-    requires { IfSome held (λ places. place < length places.now) }
+    requires { IfSome held (λ beliefs. place < length beliefs.now) }
     ensures { result ≡ list_any (is_field place attr count) (beliefs_of held.entry) }
 {
     match held {
-        Some(places) => is_field_at(places, place, attr, count),
+        Some(beliefs) => is_field_at(beliefs, place, attr, count),
         None => false,
     }
 }
 
-fn is_field_at(places: &CellBeliefs, place: usize, attr: Attr, count: usize) -> bool
-    requires { place < length places.now }
-    ensures { result ≡ list_any (is_field place attr count) (beliefs_held places.now 0 places.now) }
+fn is_field_at(beliefs: &CellBeliefs, place: usize, attr: Attr, count: usize) -> bool
+    requires { place < length beliefs.now }
+    ensures { result ≡ list_any (is_field place attr count) (beliefs_held beliefs.now 0 beliefs.now) }
 {
-    match places.get(place) {
+    match beliefs.get(place) {
         CellBelief::Attr(there, _, _) => {
-            same_attr(there, attr) && count_chars(places.ahead(place)) == count
+            same_attr(there, attr) && count_chars(beliefs.ahead(place)) == count
         }
         CellBelief::Known(_) => false,
-        CellBelief::Told(_) => false,
+        CellBelief::Unplaced(_) => false,
         CellBelief::Unknown => false,
     }
 }
 
-/// Whether what is wanted of a cell fits.
+/// Whether the wanted field whose attribute is at `place` fits; true if no attribute is wanted there.
 fn fits_at(held: Option<&CellBeliefs>, wanted: &Wanted, place: usize) -> bool
     requires placed { place < cells_in wanted.now.size }
     requires whole { HoldsCells (cells_in wanted.now.size) held }
-    ensures { fits_from (beliefs_of held.entry) wanted.now.cells place (drop place wanted.now.cells) ≡ (result && fits_from (beliefs_of held.entry) wanted.now.cells (place + 1) (drop (place + 1) wanted.now.cells)) }
+    ensures { fits_from (beliefs_of held.entry) wanted.now.cells place (drop place wanted.now.cells) ≡ (result
+        && fits_from (beliefs_of held.entry) wanted.now.cells (place + 1) (drop (place + 1) wanted.now.cells)) }
 {
     match wanted.at(place) {
         Want::Attr(attr) => {
@@ -98,7 +99,7 @@ fn all_fit(held: Option<&CellBeliefs>, wanted: &Wanted) -> bool
     true
 }
 
-/// Whether some cell is to be kept (our profile).
+/// Whether any wanted cell is Keep (our profile).
 pub fn any_keep(cells: Wants<'_>) -> bool
     ensures { result ≡ list_any is_keep cells.entry }
 {
@@ -112,7 +113,7 @@ pub fn any_keep(cells: Wants<'_>) -> bool
     false
 }
 
-/// Whether some cell is to be an attribute.
+/// Whether any wanted cell is an attribute.
 fn any_attribute(cells: Wants<'_>) -> bool
     ensures { result ≡ list_any is_attribute cells.entry }
 {
@@ -126,7 +127,7 @@ fn any_attribute(cells: Wants<'_>) -> bool
     false
 }
 
-/// Whether there is a Keep only in fields, and each of these fits.
+/// Whether Keep is only in fields, and each of these fits.
 pub(crate) fn fits_fields(held: Option<&CellBeliefs>, wanted: &Wanted) -> bool
     requires { HoldsCells (cells_in wanted.now.size) held }
     ensures { result ≡ fields_fit (beliefs_of held.entry) wanted.now.cells }
@@ -134,9 +135,10 @@ pub(crate) fn fits_fields(held: Option<&CellBeliefs>, wanted: &Wanted) -> bool
     (!any_keep(wanted.cells()) || any_attribute(wanted.cells())) && all_fit(held, wanted)
 }
 
-/// Whether the places are of a screen of the wanted size, there is a Keep only in fields, and each of these fits.
-pub(crate) fn fits_over(places: &CellBeliefs, wanted: &Wanted) -> bool
-    ensures { result ≡ (length places.now == cells_in wanted.now.size && fields_fit (beliefs_held places.now 0 places.now) wanted.now.cells) }
+/// Whether the believed screen has the wanted size, Keep is only in fields, and each of these fits.
+pub(crate) fn fits_over(beliefs: &CellBeliefs, wanted: &Wanted) -> bool
+    ensures { result ≡ (length beliefs.now == cells_in wanted.now.size
+        && fields_fit (beliefs_held beliefs.now 0 beliefs.now) wanted.now.cells) }
 {
-    places.len() == usize::from(wanted.size().cells()) && fits_fields(Some(places), wanted)
+    beliefs.len() == usize::from(wanted.size().cells()) && fits_fields(Some(beliefs), wanted)
 }

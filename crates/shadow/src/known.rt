@@ -1,13 +1,13 @@
-//! What is known of a cell.
+//! What is known of a cell, for paints and contracts.
 use crate::mdt_state::MdtState;
 use codes3270::Attr;
 
 /// What is known of a cell.
 #[derive(Clone, Copy)]
 pub(crate) enum Known {
-    /// An attribute, without its modified data tag, and what is known of that.
+    /// An attribute with MDT off, and what is known of its MDT.
     Attr(Attr, MdtState),
-    /// A character, if it is known, and whether the write at hand stored it.
+    /// A character, if it is known, and whether the current write stored it.
     Char(Option<u8>, bool),
 }
 

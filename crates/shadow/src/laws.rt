@@ -1,7 +1,7 @@
 //! Laws of beliefs: each is the contract of a function that does nothing. Proofs of
 //! other crates use them; no program calls them, and the root doesn't export them.
 ghost use Rattle.shadow.specs.Doubt.{DoubtAllowsTheScreen, DoubtAllowsInput, DoubtListsFields, DoubtKeepsTheSize, DoubtStaysExact, DoubtStaysProtected, DoubtCanBeStored, DoubtIsOnce};
-ghost use Rattle.shadow.specs.Openness.{LongOpensNothing, ReadLeavesNothingOpen, EraseLeavesNothingOpen, ClearIsHeard, PaintOpensNothing};
+ghost use Rattle.shadow.specs.TextUnknown.{LongOpensNothing, ReadLeavesNothingOpen, EraseLeavesNothingOpen, ClearIsHeard, PaintOpensNothing};
 ghost use Rattle.shadow.specs.Notes.{NoteOverwritesProtected, NoteOverwritesBare, PlacedStaysKnown, NoteStaysListed, NoteStaysTold, NoteStaysExact, NoteOpensNothing, NoteStaysWhole};
 ghost use Rattle.shadow.specs.Laws.{HearsModified, HearsAll, HearsBuffer, WrittenIsTaken, WantedIsPainted, PaintIsTaken, PaintedIsKnown, PaintIsBounded, PaintIsPlain, PaintIsSpelt, KnownIsThere, AttributesAreKnown};
 ghost use Rattle.shadow.specs.Exactness.{NothingIsExact, HeardStaysExact, HeardStaysProtected, TakenStaysExact, ErasedIsExact, PaintedIsExact, WrittenStaysProtected, ProtectedIsSeen, ReturnedIsTold};
@@ -12,26 +12,25 @@ ghost use Rattle.shadow.specs.Storable.{HeardCanBeStored, TakenCanBeStored, Told
 
 use datastream::laws::written_is_read;
 
-/// Law: what a terminal sends after keys isn't refused, and what the host then believes is so.
+/// Law: if the host knows anything, it doesn't reject data that a terminal sends after keys, nor its answer to Read
+/// Modified All, and the belief then is true of the terminal's screen.
 pub fn what_is_sent_is_heard()
     ensures modified { HearsModified }
     ensures all { HearsAll }
 {}
 
-/// Law: the same of the answer to Read Buffer.
+/// Law: a terminal's answer to Read Buffer isn't rejected, and the belief then is true of its screen.
 pub fn what_is_read_is_heard()
     ensures { HearsBuffer }
 {}
 
-/// Law: a plain write on a screen that meets what is believed leaves one that meets what is then
-/// believed.
+/// Law: if a screen meets the belief before a plain write, the screen after the write meets the belief after it.
 pub fn what_is_written_is_taken()
     ensures { WrittenIsTaken }
 {}
 
-/// Law: a paint is a plain write, is spelt by its bytes, which are no more than a bound, makes the
-/// wanted screen of every screen that meets what is believed, and leaves what the wanted screen
-/// meets, and so something known.
+/// Law: a paint is a plain write, its bytes spell it and are bounded in number, and it turns every screen that meets
+/// the belief into the wanted one, which meets the belief after the paint. Something is known then.
 pub fn what_is_wanted_is_painted()
     ensures plain { PaintIsPlain }
     ensures spelt { PaintIsSpelt }
@@ -43,39 +42,36 @@ pub fn what_is_wanted_is_painted()
     written_is_read();
 }
 
-/// Law: a paint, field by field. If nothing is to be kept, each field that is wanted is on the painted
-/// screen, with its attribute and its characters. A field that is to be kept is on the painted screen
-/// as it was on the screen before, with its attribute and its characters.
+/// Law: a paint, field by field. If there is no Keep, each wanted field is on the painted screen, with its attribute
+/// and its characters. A field that is kept has the attribute and the characters that it had before.
 pub fn painted_fields_are_there()
     ensures written { WrittenIsThere }
     ensures kept { KeptStaysThere }
 {}
 
-/// Law: a cell that is known is that of every screen which meets what is believed, but for the MDT
-/// of an attribute; and where something is known, so is each attribute.
+/// Law: a known cell is the cell of every screen that meets the belief, but for the MDT of an attribute. If anything is
+/// known, so is each attribute.
 pub fn what_is_known_is_there()
     ensures cells { KnownIsThere }
     ensures attributes { AttributesAreKnown }
 {}
 
-/// Law: a screen that meets what is believed has its size; and what is heard, or written, keeps the
-/// size that it was read for.
+/// Law: a screen that meets the belief has the believed size. After inbound data and after a plain write the believed
+/// size is the one that these were read for.
 pub fn what_is_believed_has_a_size()
     ensures meets { MeetsIsOfSize }
     ensures heard { HeardIsOfSize }
     ensures taken { TakenIsOfSize }
 {}
 
-/// Law: where all characters of a field are known its fact is exact. This stays so, whatever is
-/// heard or written.
+/// Law: if the fact of each field with all characters known is `Exact`, this stays so whatever is heard or written.
 pub fn what_is_known_is_exact()
     ensures heard { HeardStaysExact }
     ensures taken { TakenStaysExact }
 {}
 
-/// Law: the fact of each protected field is exact where nothing is known, after each erase and
-/// after each paint that fits; and it stays so whatever is heard, and where characters alone are
-/// written over characters.
+/// Law: the fact of each protected field is `Exact` if nothing is known (there is no field), after each erase and after
+/// each paint that fits. It stays so whatever is heard, and after writes that store only characters over characters.
 pub fn what_is_protected_is_exact()
     ensures nothing { NothingIsExact }
     ensures heard { HeardStaysProtected }
@@ -84,17 +80,16 @@ pub fn what_is_protected_is_exact()
     ensures written { WrittenStaysProtected }
 {}
 
-/// Law: if the facts of protected fields are exact, the host knows their texts and the text of each
-/// returned field.
+/// Law: if the facts of protected fields are `Exact`, the host knows their texts. If it also knows the texts of
+/// unprotected fields with MDT on, it knows the text of each field with MDT on.
 pub fn what_is_exact_is_so()
     ensures protected { ProtectedIsSeen }
     ensures returned { ReturnedIsTold }
 {}
 
-/// Law: a note, which is a write over characters of protected fields or of none, preserves known
-/// cells, the list of fields, the returned texts and exact facts, and leaves nothing open; an
-/// unformatted screen that was wholly known stays so. That the new screen meets what is then
-/// believed is `what_is_written_is_taken`.
+/// Law: a note, which is a write over characters of protected fields or of no field, preserves that something is known,
+/// the list of fields, the returned texts and exact facts, and opens no field. An unformatted screen that was wholly
+/// known stays so. That the new screen meets the new belief is `what_is_written_is_taken`.
 pub fn what_a_note_leaves()
     ensures noted { NoteOverwritesProtected }
     ensures bare { NoteOverwritesBare }
@@ -106,9 +101,9 @@ pub fn what_a_note_leaves()
     ensures whole { NoteStaysWhole }
 {}
 
-/// Law: data of Enter or a PF key, and what is asked for, opens no field whose text, or text or
-/// nulls, was believed; the answer to Read Buffer and an erase leave none open at all; Clear leaves
-/// an unformatted screen of known nulls; a paint that keeps whole fields opens none.
+/// Law: a field is open if it is unprotected and its fact is `Any`. If no field is open, none is after data of Enter or
+/// a PF key, after an answer to Read Modified All, and after a paint that keeps whole fields. After an answer to Read
+/// Buffer or an erase none is open in any case. Clear leaves an unformatted screen of known nulls.
 pub fn what_leaves_nothing_open()
     ensures long { LongOpensNothing }
     ensures buffer { ReadLeavesNothingOpen }
@@ -117,19 +112,18 @@ pub fn what_leaves_nothing_open()
     ensures painted { PaintOpensNothing }
 {}
 
-/// Law: what is believed can be stored: if a cell can hold each known character, and texts have no
-/// nulls, this stays so, whatever is heard or written; and the texts that the host knows have such
-/// characters, and no nulls.
+/// Law: if a cell can hold each known character, and returned texts have no nulls, this stays so whatever is heard or
+/// written. The texts that the host knows then have only characters that a cell can hold, and no nulls.
 pub fn what_is_believed_can_be_stored()
     ensures heard { HeardCanBeStored }
     ensures taken { TakenCanBeStored }
     ensures told { ToldCanBeStored }
 {}
 
-/// Law: if input is in doubt, the belief allows each screen that it allowed, and each one that differs
-/// from such a screen in input alone; so what holds of paints holds on both. The fields stay listed,
-/// and the size stays; facts stay exact where all is known, and in protected fields; what is believed
-/// can be stored. What is in doubt already stays so.
+/// Law: after `Shadow::doubt` the belief allows each screen that it allowed before, and each one that differs from such
+/// a screen only in what the operator may have changed; so the laws of paints hold of both. The list of fields, the
+/// size, the exact facts of protected fields and of fields without unknown characters, and that each character can be
+/// stored are preserved. A second `doubt` changes nothing.
 pub fn what_is_in_doubt_is_allowed()
     ensures allowed { DoubtAllowsTheScreen }
     ensures input { DoubtAllowsInput }
@@ -141,9 +135,8 @@ pub fn what_is_in_doubt_is_allowed()
     ensures once { DoubtIsOnce }
 {}
 
-/// Law: a terminal that keeps the rules is never found to have broken one: not by a screen that meets
-/// what is believed, and not by one that an operator can make of it before the screen is read. So
-/// what is found to break a rule is no screen of such a terminal.
+/// Law: `Shadow::rule_break` finds nothing on a screen that meets the belief, nor on one that an operator can make of
+/// such a screen before it is read. So a terminal of which it reports a break doesn't keep the rules.
 pub fn rules_are_not_broken()
     ensures { RulesAreNotBroken }
 {}

@@ -1,4 +1,4 @@
-/// What is known of a modified data tag.
+/// What is known of the modified data tag (MDT) of a field attribute.
 #[derive(Clone, Copy, Debug, PartialEq, Eq)]
 pub enum MdtState {
     On,

@@ -1,4 +1,4 @@
-//! The bytes of a paint.
+//! The bytes of a paint: the write that makes a wanted screen.
 ghost use Rattle.std.specs.Prelude.{◌≡◌, ◌<◌, ◌≤◌, ◌+◌, ◌*◌, ◌∷◌, ◌++◌, [], IfSome, Some, None, false, drop, length, slice_index_or};
 ghost use Rattle.codes3270.specs.Size.{cells_in};
 ghost use Rattle.datastream.specs.declared.order.Order.TheVariants.{Sba, Ic};
@@ -21,29 +21,29 @@ use crate::searching::{Search, bits_written};
 use codes3270::{Addr, Cell, Size};
 use datastream::{CommandWriter, Memory, Want, Wanted};
 
-/// What a paint finds on the screen, once it has erased it or set marks off.
+/// The screen that the orders of a paint write on: after the erase, or after the WCC has reset MDT.
 #[derive(Drop)]
 pub(crate) struct Base<'a> {
-    pub places: &'a CellBeliefs,
-    /// Whether it writes over the fields that are there; else it erases.
+    pub beliefs: &'a CellBeliefs,
+    /// Whether the paint is a Write over the fields that are there; else it erases.
     pub formatted: bool,
     /// How many cells are wanted.
     pub cells: usize,
-    /// Whether it sets marks off.
+    /// Whether the WCC resets MDT.
     pub reset: bool,
 }
 
-/// What is known of a place.
+/// What is known of a cell, with MDT off if it is reset.
 fn known_place(place: CellBelief, reset: bool) -> Known
     ensures { result ≡ mark_off_if reset (cell_known place false) }
 {
     match place {
-        CellBelief::Attr(attr, mark, _) => Known::Attr(
+        CellBelief::Attr(attr, mdt, _) => Known::Attr(
             attr,
-            if reset { MdtState::Off } else { mark },
+            if reset { MdtState::Off } else { mdt },
         ),
         CellBelief::Known(char) => Known::Char(Some(char), false),
-        CellBelief::Told(_) => Known::Char(None, false),
+        CellBelief::Unplaced(_) => Known::Char(None, false),
         CellBelief::Unknown => Known::Char(None, false),
     }
 }
@@ -56,7 +56,7 @@ impl<'a> Base<'a> {
         ensures { result ≡ slice_index_or (known_base self.now) place result }
     {
         if self.formatted {
-            known_place(self.places.get(place), self.reset)
+            known_place(self.beliefs.get(place), self.reset)
         } else {
             Known::Char(Some(0), false)
         }
@@ -68,20 +68,21 @@ impl<'a> Base<'a> {
         ensures cells { result ≡ self.now.cells }
         ensures known { length (known_base self.now) ≡ result }
     {
-        // For the contract: the places that are written over are as many.
-        let _count = self.places.len();
+        // For the contract: the cells that are written over are as many.
+        let _count = self.beliefs.len();
         self.cells
     }
 
-    /// A bit for each cell of a word, set unless the cell is known to have the character of these bytes.
+    /// A bit for each of the 64 cells of a word, set unless the cell is known to hold the same character as `bytes`.
     pub(crate) fn unlike(&self, bytes: &[u8], word: usize) -> u64
         requires word { 64 * word ≤ self.now.cells }
         requires whole { length bytes.now ≡ self.now.cells }
         requires base { IsBase self.now }
-        ensures { SetUnless self.now.cells (λ cell. slice_index_or (known_base self.now) cell (KnownChar None false) ≡ KnownChar (Some (slice_index_or bytes.now cell 0)) false) word result }
+        ensures { SetUnless self.now.cells (λ cell. slice_index_or (known_base self.now) cell (KnownChar None false)
+            ≡ KnownChar (Some (slice_index_or bytes.now cell 0)) false) word result }
     {
         if self.formatted {
-            self.places.unlike(bytes, word)
+            self.beliefs.unlike(bytes, word)
         } else {
             bits_written(bytes, word)
         }
@@ -93,12 +94,12 @@ fn is_there(known: Known, cell: Cell) -> bool
     ensures { result ≡ is_there_already known cell }
 {
     match (known, cell) {
-        (Known::Attr(believed, mark), Cell::Attr(attr)) => {
+        (Known::Attr(believed, mdt), Cell::Attr(attr)) => {
             same_attr(believed, attr)
                 && if attr.mdt {
-                    mark == MdtState::On
+                    mdt == MdtState::On
                 } else {
-                    mark == MdtState::Off
+                    mdt == MdtState::Off
                 }
         }
         (Known::Char(Some(char), _), Cell::Char(byte)) => char == byte,
@@ -106,10 +107,12 @@ fn is_there(known: Known, cell: Cell) -> bool
     }
 }
 
-/// What a paint stores in a cell.
+/// What a paint stores in a cell: nothing if the wanted cell is known to be there, or if it is Keep or the attribute of
+/// a field with Keep.
 pub(crate) fn cell_to_store(wanted: &Wanted, place: usize, known: Known) -> Option<Cell>
     requires { place < cells_in wanted.now.size }
-    ensures stored { result ≡ cell_stored (drop (place + 1) wanted.now.cells ++ wanted.now.cells) (slice_index_or wanted.now.cells place Keep) known }
+    ensures stored { result ≡ cell_stored (drop (place + 1) wanted.now.cells ++ wanted.now.cells)
+        (slice_index_or wanted.now.cells place Keep) known }
     ensures storable { IfSome result IsStorableCell }
 {
     match wanted.at(place) {
@@ -131,7 +134,7 @@ pub(crate) fn cell_to_store(wanted: &Wanted, place: usize, known: Known) -> Opti
     }
 }
 
-/// Puts an address, unless the write is at it.
+/// Appends an SBA, unless the write's current address `at` is that address already.
 fn put_address(writer: &mut CommandWriter<'_>, at: Option<u16>, address: Addr) -> Result<(), Memory>
     ensures { Writes writer.old.out writer.new.out result (orders_bytes (sba_unless (is_at at address) address [])) }
 {
@@ -141,7 +144,7 @@ fn put_address(writer: &mut CommandWriter<'_>, at: Option<u16>, address: Addr) -
     writer.sba(address)
 }
 
-/// Puts a cell.
+/// Appends the data byte or the SF that stores a cell.
 fn put_cell(writer: &mut CommandWriter<'_>, cell: Cell) -> Result<(), Memory>
     requires { IsStorableCell cell }
     ensures { Writes writer.old.out writer.new.out result (order_bytes (order_of cell)) }
@@ -152,7 +155,7 @@ fn put_cell(writer: &mut CommandWriter<'_>, cell: Cell) -> Result<(), Memory>
     }
 }
 
-/// Puts a cell with its address.
+/// Appends the orders that store a cell at an address; `at` is the write's current address, if it is known.
 fn put_store(
     writer: &mut CommandWriter<'_>,
     at: Option<u16>,
@@ -160,7 +163,8 @@ fn put_store(
     cell: Cell,
 ) -> Result<(), Memory>
     requires { IsStorableCell cell }
-    ensures { WritesSome writer.old.out writer.new.out result (orders_bytes (sba_unless (is_at at address) address (order_of cell ∷ []))) }
+    ensures { WritesSome writer.old.out writer.new.out result
+        (orders_bytes (sba_unless (is_at at address) address (order_of cell ∷ []))) }
 {
     match put_address(writer, at, address) {
         Ok(()) => put_cell(writer, cell),
@@ -168,7 +172,7 @@ fn put_store(
     }
 }
 
-/// Puts the cursor's address, and the cursor there.
+/// Appends an SBA to the cursor's address, and IC.
 fn put_cursor(writer: &mut CommandWriter<'_>, cursor: Addr) -> Result<(), Memory>
     ensures { WritesSome writer.old.out writer.new.out result (orders_bytes (Sba cursor ∷ Ic ∷ [])) }
 {
@@ -178,7 +182,7 @@ fn put_cursor(writer: &mut CommandWriter<'_>, cursor: Addr) -> Result<(), Memory
     }
 }
 
-/// The address of a place on a screen of this size.
+/// A cell's number as an address on a screen of this size.
 fn address_of(place: u16, size: Size) -> Addr
     requires { place < cells_in size }
     ensures { result ≡ place }
@@ -189,7 +193,7 @@ fn address_of(place: u16, size: Size) -> Addr
     }
 }
 
-/// Puts the cells that aren't known to be right, and then the cursor.
+/// Appends the orders that store the cells that aren't known to be right, and then those that set the cursor.
 pub(crate) fn put_cells(
     writer: &mut CommandWriter<'_>,
     wanted: &Wanted,
@@ -198,7 +202,8 @@ pub(crate) fn put_cells(
 ) -> Result<(), Memory>
     requires base { IsBase base.now }
     requires whole { cells_in wanted.now.size ≡ base.now.cells }
-    ensures { WritesSome writer.old.out writer.new.out result (orders_bytes (painting (cells_in wanted.now.size) cursor None (to_store wanted.now.cells 0 wanted.now.cells (known_base base.now)))) }
+    ensures { WritesSome writer.old.out writer.new.out result (orders_bytes (painting (cells_in wanted.now.size) cursor
+        None (to_store wanted.now.cells 0 wanted.now.cells (known_base base.now)))) }
 {
     let size = wanted.size();
     let mut at = None;

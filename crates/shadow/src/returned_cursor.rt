@@ -4,7 +4,7 @@ ghost use Rattle.codes3270.specs.Size.{most_cells};
 ghost use Rattle.shadow.specs.Belief.{next_address};
 ghost use Rattle.shadow.specs.Came.{came_of, text_at, came_past};
 ghost use Rattle.shadow.specs.Filled.{text_came, came_behind};
-ghost use Rattle.shadow.specs.Held.{text_of};
+ghost use Rattle.shadow.specs.Borrowed.{text_of};
 
 use crate::cell_belief::CellBelief;
 use codes3270::MOST_CELLS;
@@ -14,9 +14,9 @@ use std::marker::Model;
 /// A cursor over returned fields: the next one, and those after it. Contracts see their list.
 #[derive(Drop)]
 pub(crate) struct ReturnedCursor<'a> {
-    /// The address of the next one's first cell, `MOST_CELLS` where none is left.
+    /// The address of the next field's first cell; `MOST_CELLS` if none is left.
     first: usize,
-    /// Its characters.
+    /// Its characters, without nulls.
     text: &'a [u8],
     behind: ReturnedFields<'a>,
 }
@@ -31,7 +31,7 @@ impl<'a> Model for ReturnedCursor<'a> {
     ghost view = { λ returned_cursor. came_of returned_cursor.first returned_cursor.text.now returned_cursor.behind };
 }
 
-/// The address behind an attribute's, on a screen with this many cells.
+/// The address after that of an attribute, wrapping at the end, on a screen with this many cells.
 fn first_address(place: usize, cells: usize) -> usize
     requires placed { place < cells }
     requires few { cells ≤ most_cells }
@@ -41,7 +41,7 @@ fn first_address(place: usize, cells: usize) -> usize
     if place + 1 < cells { place + 1 } else { 0 }
 }
 
-/// The first of the fields that are left.
+/// Takes the first of the fields that are left: its first cell's address and its text, or (`MOST_CELLS`, empty).
 #[inline(always)]
 fn next_of<'a>(rest: &mut ReturnedFields<'a>) -> (usize, &'a [u8])
     ensures { came_of result.0 result.1.now rest.new ≡ rest.old }
@@ -53,7 +53,7 @@ fn next_of<'a>(rest: &mut ReturnedFields<'a>) -> (usize, &'a [u8])
 }
 
 impl<'a> ReturnedCursor<'a> {
-    /// All these fields are left.
+    /// A cursor before the first of these fields.
     pub(crate) fn new(fields: ReturnedFields<'a>) -> ReturnedCursor<'a>
         ensures { result ≡ fields.entry }
     {
@@ -73,8 +73,8 @@ impl<'a> ReturnedCursor<'a> {
         self.first == MOST_CELLS
     }
 
-    /// The text that came for the field whose attribute is held at a place, on a screen with this many cells. That field is passed
-    /// then.
+    /// The text that was returned for the field whose attribute is at `place`, on a screen with this many cells, if it
+    /// is the next one; the cursor then passes it. `None` if a character is held there.
     #[inline(always)]
     pub(crate) fn take(&mut self, held: CellBelief, place: usize, cells: usize) -> Option<&'a [u8]>
         requires placed { place < cells }
@@ -85,12 +85,12 @@ impl<'a> ReturnedCursor<'a> {
         match held {
             CellBelief::Attr(_, _, _) => self.take_at(first_address(place, cells)),
             CellBelief::Known(_) => None,
-            CellBelief::Told(_) => None,
+            CellBelief::Unplaced(_) => None,
             CellBelief::Unknown => None,
         }
     }
 
-    /// The text of the next field, if that begins at an address.
+    /// The text of the next field, if its first cell is at an address; the cursor then passes it.
     #[inline(always)]
     fn take_at(&mut self, first: usize) -> Option<&'a [u8]>
         requires { first < most_cells }

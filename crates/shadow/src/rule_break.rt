@@ -1,17 +1,19 @@
-/// What a terminal does that keeps the rules (our profile): a host is right about each such terminal.
+/// The rules of our profile for terminals: of a terminal that keeps all three the host's belief is always true.
 #[derive(Clone, Copy, Debug, PartialEq, Eq)]
 pub enum Rule {
-    /// It applies each write that it answers positively, whole and in order.
+    /// The terminal applies each write that it answers positively, as a whole and in order.
     Applies,
-    /// Its operator edits input alone; each change but Erase Input turns MDT on.
+    /// The operator changes only unprotected fields; each change but Erase Input turns MDT on.
     Edits,
-    /// It sends with a key exactly the fields with MDT on.
+    /// The terminal returns with a key exactly the fields with MDT on.
     Sends,
 }
 
-/// Which rule a terminal has broken, and at which cell its screen shows it: that of a field's attribute.
+/// A break of a rule, and where the terminal's screen shows it (our profile).
 #[derive(Clone, Copy, Debug, PartialEq, Eq)]
 pub struct RuleBreak {
+    /// The rule that the terminal has broken.
     pub rule: Rule,
+    /// The address (0-based) of the field attribute at which its screen shows it.
     pub cell: usize,
 }

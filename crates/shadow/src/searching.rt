@@ -13,23 +13,23 @@ use datastream::Wanted;
 /// How many bits a word has.
 pub(crate) const BITS: usize = 64;
 
-/// A cell to store.
+/// A cell to store, and its address.
 #[derive(Clone, Copy)]
 pub(crate) struct ToStore {
     pub place: u16,
     pub cell: Cell,
 }
 
-/// Where the search has come to.
+/// How far the search for cells to store has come.
 #[derive(Clone, Copy)]
 pub(crate) struct Search {
-    /// The cells from here on are left.
+    /// The address of the first cell that is left.
     from: usize,
-    /// The cells of the same word that have to be looked at; all others are right.
+    /// A bit for each cell of its word that is still to be examined; the others are known to be right.
     look: u64,
 }
 
-/// The bits, with one set where bytes differ.
+/// The bits, with the one at `place` set if `differ`.
 fn marked(bits: u64, place: usize, differ: bool) -> u64
     requires { place < 64 }
     ensures here { bit_at result place ≡ 0 → differ ≡ false }
@@ -46,10 +46,11 @@ fn differ(one: &[u8], other: &[u8], cell: usize) -> bool
     cell < one.len() && one[cell] != other[cell]
 }
 
-/// The bytes of eight cells, or as many as are left.
+/// The bytes of the eight cells from `cell` on, or as many as are left.
 fn eight(bytes: &[u8], cell: usize) -> &[u8]
     requires { cell ≤ length bytes.now }
-    ensures { (place : ℕ) → place < 8 → cell + place < length bytes.now → slice_index_or result.now place 0 ≡ slice_index_or bytes.now (cell + place) 0 }
+    ensures { (place : ℕ) → place < 8 → cell + place < length bytes.now
+        → slice_index_or result.now place 0 ≡ slice_index_or bytes.now (cell + place) 0 }
 {
     let end = (cell + 8).min(bytes.len());
     &bytes[cell..end]
@@ -61,12 +62,13 @@ pub(crate) fn are_same(one: &[u8], other: &[u8]) -> bool
     one == other
 }
 
-/// The bits, with one set for each of eight cells of a word whose bytes differ.
+/// The bits, with one set for each of the eight cells from `first` on in a word whose bytes differ.
 fn marked_eight(one: &[u8], other: &[u8], word: usize, first: usize, bits: u64) -> u64
     requires word { 64 * word ≤ length one.now }
     requires first { first + 8 ≤ 64 }
     requires whole { length one.now ≡ length other.now }
-    ensures here { (place : ℕ) → first ≤ place → place < first + 8 → 64 * word + place < length one.now → bit_at result place ≡ 0 → slice_index_or one.now (64 * word + place) 0 ≡ slice_index_or other.now (64 * word + place) 0 }
+    ensures here { (place : ℕ) → first ≤ place → place < first + 8 → 64 * word + place < length one.now → bit_at result
+        place ≡ 0 → slice_index_or one.now (64 * word + place) 0 ≡ slice_index_or other.now (64 * word + place) 0 }
     ensures others { (place : ℕ) → bit_at result place ≡ 0 → bit_at bits place ≡ 0 }
 {
     let cell = (BITS * word + first).min(one.len());
@@ -80,11 +82,12 @@ fn marked_eight(one: &[u8], other: &[u8], word: usize, first: usize, bits: u64) 
     marks
 }
 
-/// A bit for each cell of a word, set where the bytes differ.
+/// A bit for each cell of a word, set if the bytes differ.
 fn bits_differing(one: &[u8], other: &[u8], word: usize) -> u64
     requires word { 64 * word ≤ length one.now }
     requires whole { length one.now ≡ length other.now }
-    ensures { SetUnless (length one.now) (λ cell. slice_index_or one.now cell 0 ≡ slice_index_or other.now cell 0) word result }
+    ensures { SetUnless (length one.now)
+        (λ cell. slice_index_or one.now cell 0 ≡ slice_index_or other.now cell 0) word result }
 {
     let mut bits = 0;
     for group in 0..BITS / 8 {
@@ -96,14 +99,15 @@ fn bits_differing(one: &[u8], other: &[u8], word: usize) -> u64
 /// The bytes of a word's cells.
 fn part(bytes: &[u8], word: usize) -> &[u8]
     requires { 64 * word ≤ length bytes.now }
-    ensures { (place : ℕ) → place < 64 → 64 * word + place < length bytes.now → slice_index_or result.now place 0 ≡ slice_index_or bytes.now (64 * word + place) 0 }
+    ensures { (place : ℕ) → place < 64 → 64 * word + place < length bytes.now
+        → slice_index_or result.now place 0 ≡ slice_index_or bytes.now (64 * word + place) 0 }
 {
     let start = BITS * word;
     let end = (start + BITS).min(bytes.len());
     &bytes[start..end]
 }
 
-/// A bit for each cell of a word, set where its byte isn't null.
+/// A bit for each cell of a word, set if its byte isn't null.
 pub(crate) fn bits_written(bytes: &[u8], word: usize) -> u64
     requires { 64 * word ≤ length bytes.now }
     ensures { SetUnless (length bytes.now) (λ cell. slice_index_or bytes.now cell 0 ≡ 0) word result }
@@ -122,11 +126,12 @@ fn is_written(bytes: &[u8], cell: usize) -> bool
     cell < bytes.len() && bytes[cell] != 0
 }
 
-/// A bit for each cell of a word, set where the bytes differ. Mostly none do, which is seen at once.
+/// A bit for each cell of a word, set if the bytes differ. Usually none do, which one comparison finds.
 pub(crate) fn differing(one: &[u8], other: &[u8], word: usize) -> u64
     requires word { 64 * word ≤ length one.now }
     requires whole { length one.now ≡ length other.now }
-    ensures { SetUnless (length one.now) (λ cell. slice_index_or one.now cell 0 ≡ slice_index_or other.now cell 0) word result }
+    ensures { SetUnless (length one.now)
+        (λ cell. slice_index_or one.now cell 0 ≡ slice_index_or other.now cell 0) word result }
 {
     if part(one, word) == part(other, word) {
         0
@@ -135,7 +140,7 @@ pub(crate) fn differing(one: &[u8], other: &[u8], word: usize) -> u64
     }
 }
 
-/// How many bits from a place on are clear.
+/// How many bits from a place on are clear, up to the first that is set.
 pub(crate) fn clear_bits(bits: u64, place: usize) -> usize
     requires { place < 64 }
     ensures few { place + result ≤ 64 }
@@ -176,8 +181,8 @@ impl Search {
         }
     }
 
-    /// The next cell to look at, or where none is left in the word, the next word's first. The screen's end where that comes first;
-    /// the screen has this many cells.
+    /// The next cell of the word that is to be examined, or if there is none the first cell of the next word; at most
+    /// `cells`, the screen's number of cells.
     fn next_look(self, cells: usize) -> usize
         requires from { self.from < cells }
         requires few { cells ≤ most_cells }
@@ -207,13 +212,14 @@ impl Search {
         Search { from: cell, look }
     }
 
-    /// The next cell to store.
+    /// The next cell to store; `None` if none is left.
     pub(crate) fn next_to_store(&mut self, wanted: &Wanted, base: &Base<'_>) -> Option<ToStore>
         requires search { IsSearch wanted.now.cells (known_base base.now) self.old }
         requires whole { cells_in wanted.now.size ≡ base.now.cells }
         requires base { IsBase base.now }
         ensures search { IsSearch wanted.now.cells (known_base base.now) self.new }
-        ensures left { stores_from wanted.now.cells (known_base base.now) self.old.from ≡ stored_first result (stores_from wanted.now.cells (known_base base.now) self.new.from) }
+        ensures left { stores_from wanted.now.cells (known_base base.now) self.old.from
+            ≡ stored_first result (stores_from wanted.now.cells (known_base base.now) self.new.from) }
         ensures placed { IfSome result (λ store. store.place < cells_in wanted.now.size) }
         ensures storable { IfSome result (λ store. IsStorableCell store.cell) }
     {

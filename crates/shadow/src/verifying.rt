@@ -1,4 +1,4 @@
-//! Which rule a terminal has broken, by a screen that was read.
+//! Which rule a terminal has broken, judged by its answer to Read Buffer.
 ghost use Rattle.std.specs.Prelude.{◌≡◌, ◌<◌, ◌+◌, ◌++◌, Some, bytes_eq, drop, length, slice_index_or};
 ghost use Rattle.codes3270.specs.declared.attribute.Attr.{Attr as Attribute};
 ghost use Rattle.datastream.specs.Fields.{Field, fields as fields_in};
@@ -20,7 +20,7 @@ use crate::rule_break::{Rule, RuleBreak};
 use codes3270::{Attr, Cell};
 use datastream::Cells;
 
-/// Whether the characters that were read are null; `whole`: what follows the rest, round the end.
+/// Whether the characters that were read before the first attribute are all nulls; `whole` follows `rest`.
 fn are_erased(rest: Cells<'_>, whole: Cells<'_>) -> bool
     ensures { result ≡ is_erased (known_text (chars_known (places_stored rest.entry ++ places_stored whole.entry))) }
 {
@@ -34,9 +34,10 @@ fn are_erased(rest: Cells<'_>, whole: Cells<'_>) -> bool
     true
 }
 
-/// Whether the characters that were read are this text.
+/// Whether the characters that were read before the first attribute are this text.
 fn are_told(told: FieldText<'_>, rest: Cells<'_>, whole: Cells<'_>) -> bool
-    ensures { result ≡ bytes_eq told.entry (known_text (chars_known (places_stored rest.entry ++ places_stored whole.entry))) }
+    ensures { result
+        ≡ bytes_eq told.entry (known_text (chars_known (places_stored rest.entry ++ places_stored whole.entry))) }
 {
     let mut rest = rest;
     let mut whole = whole;
@@ -49,9 +50,10 @@ fn are_told(told: FieldText<'_>, rest: Cells<'_>, whole: Cells<'_>) -> bool
     next_char(&mut rest, &mut whole).is_none()
 }
 
-/// The same, if nulls are left out.
+/// Whether the characters that were read before the first attribute are this text once nulls are left out.
 fn are_told_without_nulls(told: FieldText<'_>, rest: Cells<'_>, whole: Cells<'_>) -> bool
-    ensures { result ≡ bytes_eq told.entry (without_nulls (known_text (chars_known (places_stored rest.entry ++ places_stored whole.entry)))) }
+    ensures { result ≡ bytes_eq told.entry
+        (without_nulls (known_text (chars_known (places_stored rest.entry ++ places_stored whole.entry)))) }
 {
     let mut told = told;
     let mut rest = rest;
@@ -67,52 +69,59 @@ fn are_told_without_nulls(told: FieldText<'_>, rest: Cells<'_>, whole: Cells<'_>
     told.next().is_none()
 }
 
-/// Whether the characters that were read are the text that is believed of the field whose attribute is at a place.
+/// Whether the text that was read is the one that is believed of the field whose attribute is at `place`.
 fn is_believed(
-    places: &CellBeliefs,
+    beliefs: &CellBeliefs,
     place: usize,
     knowledge: TextKnowledge,
     rest: &Cells<'_>,
     whole: &Cells<'_>,
 ) -> bool
-    requires { place < length places.now }
-    ensures { result ≡ is_believed (fact_held knowledge (drop (place + 1) places.now ++ places.now)) (known_text (chars_known (places_stored rest.now ++ places_stored whole.now))) }
+    requires { place < length beliefs.now }
+    ensures { result ≡ is_believed (fact_held knowledge (drop (place + 1) beliefs.now ++ beliefs.now))
+        (known_text (chars_known (places_stored rest.now ++ places_stored whole.now))) }
 {
     match knowledge {
-        TextKnowledge::Cells => !is_other_text(places, place, rest, whole),
+        TextKnowledge::Cells => !is_other_text(beliefs, place, rest, whole),
         TextKnowledge::ExactOrNulls => {
-            let told = FieldText::new(places.ahead(place), TextPlaces::Told);
+            let told = FieldText::new(beliefs.ahead(place), TextPlaces::Unplaced);
             are_told(told, rest.copy(), whole.copy())
         }
         TextKnowledge::Text => {
-            let told = FieldText::new(places.ahead(place), TextPlaces::Told);
+            let told = FieldText::new(beliefs.ahead(place), TextPlaces::Unplaced);
             are_told_without_nulls(told, rest.copy(), whole.copy())
         }
         TextKnowledge::TextOrNulls => {
-            let told = FieldText::new(places.ahead(place), TextPlaces::Told);
+            let told = FieldText::new(beliefs.ahead(place), TextPlaces::Unplaced);
             are_told_without_nulls(told, rest.copy(), whole.copy())
         }
     }
 }
 
-/// The rule that an input field shows to be broken, which was read with this attribute; of its MDT and its text this is known.
+/// The rule that an unprotected field shows to be broken. It was read with the attribute `seen`; `mdt` and `knowledge`
+/// are what is known of its MDT and its text.
 fn input_rule(
-    places: &CellBeliefs,
+    beliefs: &CellBeliefs,
     place: usize,
-    mark: MdtState,
+    mdt: MdtState,
     knowledge: TextKnowledge,
     seen: Attr,
     rest: &Cells<'_>,
     whole: &Cells<'_>,
 ) -> Option<Rule>
-    requires { place < length places.now }
-    ensures { (attribute : Attribute) → result ≡ input_rule_broken (belief_held place attribute mark knowledge (drop (place + 1) places.now ++ places.now)) (record { place = place; attr = seen; text = known_text (chars_known (places_stored rest.now ++ places_stored whole.now)) }) }
+    requires { place < length beliefs.now }
+    ensures { (attribute : Attribute) → result ≡ input_rule_broken
+        (belief_held place attribute mdt knowledge (drop (place + 1) beliefs.now ++ beliefs.now)) (record {
+          place = place;
+          attr = seen;
+          text = known_text (chars_known (places_stored rest.now ++ places_stored whole.now));
+        }) }
 {
     if seen.mdt || are_erased(rest.copy(), whole.copy()) {
         None
-    } else if mark == MdtState::On {
+    } else if mdt == MdtState::On {
         Some(Rule::Sends)
-    } else if is_believed(places, place, knowledge, rest, whole) {
+    } else if is_believed(beliefs, place, knowledge, rest, whole) {
         None
     } else {
         Some(Rule::Edits)
@@ -120,88 +129,91 @@ fn input_rule(
 }
 
 /// Whether the MDT that was read isn't the one that is believed.
-fn mdt_differs(mark: MdtState, mdt: bool) -> bool
-    ensures { result ≡ mdt_differs mark mdt }
+fn mdt_differs(believed: MdtState, mdt: bool) -> bool
+    ensures { result ≡ mdt_differs believed mdt }
 {
-    match mark {
+    match believed {
         MdtState::On => !mdt,
         MdtState::Off => mdt,
         MdtState::Unknown => false,
     }
 }
 
-/// The rule that a protected field shows to be broken, which was read with this attribute; of its MDT this is known.
-fn protected_rule(mark: MdtState, seen: Attr) -> Option<Rule>
-    ensures { (belief : Belief) → (field : Field) → belief.mark ≡ mark → field.attr ≡ seen → result ≡ protected_rule_broken belief field }
+/// The rule that a protected field, read with the attribute `seen`, shows to be broken; `mdt`: its believed MDT.
+fn protected_rule(mdt: MdtState, seen: Attr) -> Option<Rule>
+    ensures { (belief : Belief) → (field : Field) → belief.mdt ≡ mdt → field.attr ≡ seen
+        → result ≡ protected_rule_broken belief field }
 {
-    if mdt_differs(mark, seen.mdt) {
+    if mdt_differs(mdt, seen.mdt) {
         Some(Rule::Edits)
     } else {
         None
     }
 }
 
-/// The rule that a field shows to be broken, whose attribute was read where it is believed to be.
+/// The rule that the operator's changes in a field show to be broken, if the believed attribute was read at `place`.
 fn operator_rule(
-    places: &CellBeliefs,
+    beliefs: &CellBeliefs,
     place: usize,
     held: CellBelief,
     cell: Cell,
     rest: &Cells<'_>,
     whole: &Cells<'_>,
 ) -> Option<Rule>
-    requires { place < length places.now }
-    ensures { result ≡ operator_rule_at place held cell (drop (place + 1) places.now ++ places.now) (known_text (chars_known (places_stored rest.now ++ places_stored whole.now))) }
+    requires { place < length beliefs.now }
+    ensures { result ≡ operator_rule_at place held cell (drop (place + 1) beliefs.now ++ beliefs.now)
+        (known_text (chars_known (places_stored rest.now ++ places_stored whole.now))) }
 {
     match (held, cell) {
-        (CellBelief::Attr(attr, mark, knowledge), Cell::Attr(seen)) => {
+        (CellBelief::Attr(attr, mdt, knowledge), Cell::Attr(seen)) => {
             if attr.protected {
-                protected_rule(mark, seen)
+                protected_rule(mdt, seen)
             } else {
-                input_rule(places, place, mark, knowledge, seen, rest, whole)
+                input_rule(beliefs, place, mdt, knowledge, seen, rest, whole)
             }
         }
         _ => None,
     }
 }
 
-/// The rule that a cell shows to be broken, which was read at a place; `rest`: the cells after it.
+/// The rule that a cell read at `place` shows to be broken; `rest` are the cells after it.
 fn rule_broken(
-    places: &CellBeliefs,
+    beliefs: &CellBeliefs,
     place: usize,
     cell: Cell,
     rest: &Cells<'_>,
     whole: &Cells<'_>,
 ) -> Option<Rule>
-    requires placed { place < length places.now }
-    requires held { IsHeld places.now }
-    ensures { result ≡ rule_at place (slice_index_or places.now place Unknown) cell (drop (place + 1) places.now ++ places.now) (known_text (chars_known (places_stored rest.now ++ places_stored whole.now))) }
+    requires placed { place < length beliefs.now }
+    requires held { IsHeld beliefs.now }
+    ensures { result ≡ rule_at place (slice_index_or beliefs.now place Unknown) cell (drop (place + 1) beliefs.now
+        ++ beliefs.now) (known_text (chars_known (places_stored rest.now ++ places_stored whole.now))) }
 {
-    if is_other(places, place, cell, rest, whole) {
+    if is_other(beliefs, place, cell, rest, whole) {
         return Some(Rule::Applies);
     }
-    operator_rule(places, place, places.get(place), cell, rest, whole)
+    operator_rule(beliefs, place, beliefs.get(place), cell, rest, whole)
 }
 
-/// The same of the next cell that was read; `place`: its address. At the end there is none.
+/// The rule that the next cell that was read, whose address is `place`, shows to be broken; `None` at the end.
 fn rule_next(
-    places: &CellBeliefs,
+    beliefs: &CellBeliefs,
     place: usize,
     rest: &mut Cells<'_>,
     whole: &Cells<'_>,
 ) -> Option<Rule>
-    requires placed { place + length rest.old ≡ length places.now }
-    requires held { IsHeld places.now }
-    ensures rule { result ≡ rule_next places.now place rest.old whole.now }
+    requires placed { place + length rest.old ≡ length beliefs.now }
+    requires held { IsHeld beliefs.now }
+    ensures rule { result ≡ rule_next beliefs.now place rest.old whole.now }
     ensures left { rest.new ≡ drop 1 rest.old }
 {
     match rest.next() {
-        Some(cell) => rule_broken(places, place, cell, rest, whole),
+        Some(cell) => rule_broken(beliefs, place, cell, rest, whole),
         None => None,
     }
 }
 
-/// An attribute is at one of these cells, as it is believed or as it was read, and not at the other.
+/// The break if an attribute is believed at one address and was read at another: it is reported at the lower one.
 fn misplaced(one: usize, other: usize) -> Option<RuleBreak>
     ensures { result ≡ break_at (lesser one other) (Some Applies) }
 {
@@ -211,22 +223,22 @@ fn misplaced(one: usize, other: usize) -> Option<RuleBreak>
     })
 }
 
-/// The first field by which a rule is broken, if one is, where the screen was read.
-pub(crate) fn first_break(places: &CellBeliefs, cells: Cells<'_>) -> Option<RuleBreak>
-    requires held { IsHeld places.now }
-    requires whole { length cells ≡ length places.now }
-    ensures { result ≡ first_break (beliefs_held places.now 0 places.now) (fields_in cells.entry) }
+/// The first break, by address, that the cells that were read show.
+pub(crate) fn first_break(beliefs: &CellBeliefs, cells: Cells<'_>) -> Option<RuleBreak>
+    requires held { IsHeld beliefs.now }
+    requires whole { length cells ≡ length beliefs.now }
+    ensures { result ≡ first_break (beliefs_held beliefs.now 0 beliefs.now) (fields_in cells.entry) }
 {
-    let count = places.len();
+    let count = beliefs.len();
     let mut rest = cells.copy();
     let mut from = 0;
     while from < count {
-        let place = places.attribute_from(from);
+        let place = beliefs.attribute_from(from);
         let found = from + rest.characters().len();
         if found != place {
             return misplaced(place, found);
         }
-        if let Some(rule) = rule_next(places, place, &mut rest, &cells) {
+        if let Some(rule) = rule_next(beliefs, place, &mut rest, &cells) {
             return Some(RuleBreak { rule, cell: place });
         }
         from = place + 1;

@@ -1,7 +1,7 @@
 //! What a plain write stores.
 ghost use Rattle.std.specs.Prelude.{◌≡◌};
 ghost use Rattle.std.specs.List.{list_all};
-ghost use Rattle.shadow.specs.Seen.{mark_seen as mark_read};
+ghost use Rattle.shadow.specs.AfterReadBuffer.{mark_seen as mark_read};
 ghost use Rattle.shadow.specs.Stores.{is_plain, is_plain_order as is_plain_one, stores_unplaced as any_unplaced};
 ghost use Rattle.shadow.specs.Taken.{resets as resets_marks};
 
@@ -34,14 +34,14 @@ fn are_plain(orders: Orders<'_>) -> bool
     true
 }
 
-/// Whether a command is a write of the orders SBA, SF, IC and data alone.
+/// Whether a command is a plain write (our profile): a Write or an erase whose orders are only SBA, SF, IC and data.
 pub fn plain(command: &Command<'_>) -> bool
     ensures { result ≡ is_plain command.now }
 {
     command.code().has_orders() && are_plain(command.orders())
 }
 
-/// Whether a cell is stored before the first address.
+/// Whether a cell is stored before the first SBA.
 pub(crate) fn stores_unplaced(orders: Orders<'_>) -> bool
     ensures { result ≡ any_unplaced orders.entry }
 {
@@ -59,7 +59,7 @@ pub(crate) fn stores_unplaced(orders: Orders<'_>) -> bool
     false
 }
 
-/// Whether a write sets each MDT off.
+/// Whether the WCC resets each MDT.
 pub(crate) fn resets(wcc: Option<Wcc>) -> bool
     ensures { result ≡ resets_marks wcc }
 {

@@ -1,4 +1,5 @@
--- The connections of a host over sockets (our profile): the socket of each connection number, and what a read and a write of it do.
+-- The connections of a host over sockets (our profile): the socket of each connection number, and the effect of a read
+-- and a write.
 use Rattle.std.specs.Prelude.{◌≡◌, ◌≢◌, ◌<◌, ◌≤◌, ◌+◌, ◌-◌, ◌^◌, min, ◌&&◌, ◌||◌, ⊤, ℕ, Bool, true, false, not, ltb, List, [], length, replicate, slice_set, slice_index_or, Option, Some, None, is_some, Result}
 use Rattle.std.specs.declared.io.Error.{Error}
 use Rattle.host_core.specs.State.{Host, most_connections, phase_of, service_at}
@@ -9,8 +10,8 @@ use Rattle.host_core.specs.declared.links.LinkWrite.TheVariants as write
 use Rattle.host_core.specs.declared.phase.Phase.TheVariants as phase
 use Rattle.job_streams.specs.RawCalls.{link_read, link_write}
 
--- The slot of a connection number: the socket, if there is a connection; the number of bytes that wait to be sent; how many of the
--- number's connections ended and failed; and how many bytes the connection's socket gave and took.
+-- The slot of a connection number: the socket, if there is a connection; the number of unsent bytes; how many of the
+-- number's connections ended and failed; and the bytes received and sent on the last connection.
 pub record SocketSlot (S : Type 0) : Type 0 where
   pub socket : Option S
   pub waiting : ℕ
@@ -25,68 +26,72 @@ unused = record { socket = None; waiting = 0; ends = 0; failures = 0; received =
 abbrev pub is_connected : {S : Type 0} → SocketSlot S → Bool
 is_connected slot = is_some slot.socket
 
--- reads pause while more bytes than this wait to be sent
+-- reads pause while more bytes than this are unsent
 abbrev pub most_waiting : ℕ
 most_waiting = 65536
 
+-- whether reads are paused
 abbrev pub is_held_back : ℕ → Bool
 is_held_back waiting = ltb most_waiting waiting
 
--- there is a connection, reads aren't paused, and the buffer has room
+-- whether there is a connection, reads aren't paused, and the buffer has room
 abbrev pub may_be_read : {S : Type 0} → SocketSlot S → ℕ → Bool
 may_be_read slot room = is_connected slot && not (is_held_back slot.waiting) && ltb 0 room
 
--- there is a connection, and there are bytes to be sent
+-- whether there is a connection, and there are bytes to send
 abbrev pub may_be_written : {S : Type 0} → SocketSlot S → List ℕ → Bool
 may_be_written slot bytes = is_connected slot && ltb 0 (length bytes)
 
 -- ---- counts
 
--- the last value of a count
+-- the greatest value of a count
 abbrev pub last_count : ℕ
 last_count = 2 ^ 64 - 1
 
--- a count rises by one, or is at its last value
+-- holds if a count rises by one, or if it is at its greatest value
 abbrev pub Raises : Bool → ℕ → ℕ → Type 0
 Raises true old new = (old < last_count) × (new ≡ old + 1)
 Raises false old new = (old ≡ last_count) × (new ≡ old)
 
--- a count of bytes with these more; it stays at its last value
+-- a count of bytes after more bytes; it stops at its greatest value
 abbrev pub counted : (count more : ℕ) → ℕ
 counted count more = min (count + more) last_count
 
 -- ---- one call of a socket
 
--- at least one byte, and no more than there is room for
+-- holds for at least one byte, and at most as many as there is room for
 abbrev pub GetsIn : LinkRead → ℕ → Type 0
 GetsIn (read.Got count) room = (0 < count) × (count ≤ room)
 GetsIn read.NotNow room = ⊤
 GetsIn read.Ended room = ⊤
 GetsIn read.Failed room = ⊤
 
--- at least one byte, and no more than were given
+-- holds for at least one byte, and at most as many as the call was given
 abbrev pub TookSome : LinkWrite → ℕ → Type 0
 TookSome (write.Took count) given = (0 < count) × (count ≤ given)
 TookSome write.NotNow given = ⊤
 TookSome write.Failed given = ⊤
 
 module _ {S : Type 0} where
-  -- a socket is read once, and its answer means this
-  pub record IsReadOnce (gave : S → ℕ → List ℕ → Result ℕ Error → S → Type 0) (old : S) (room : ℕ) (bytes : List ℕ) (taken_for : LinkRead) (new : S) : Type 0 where
+  -- holds if a socket is read once, and its answer has this meaning
+  pub record IsReadOnce (gave : S → ℕ → List ℕ → Result ℕ Error → S → Type 0) (old : S) (room : ℕ) (bytes : List ℕ)
+      (taken_for : LinkRead) (new : S) : Type 0 where
     pub answer : Result ℕ Error
     pub called : gave old room bytes answer new
     pub taken : taken_for ≡ link_read answer
 
-  -- a socket is written once, and its answer means this
-  pub record IsWrittenOnce (took : S → List ℕ → Result ℕ Error → S → Type 0) (old : S) (bytes : List ℕ) (taken_for : LinkWrite) (new : S) : Type 0 where
+  -- holds if a socket is written once, and its answer has this meaning
+  pub record IsWrittenOnce (took : S → List ℕ → Result ℕ Error → S → Type 0) (old : S) (bytes : List ℕ)
+      (taken_for : LinkWrite) (new : S) : Type 0 where
     pub answer : Result ℕ Error
     pub called : took old bytes answer new
     pub taken : taken_for ≡ link_write answer
 
   -- ---- a read
 
-  -- the socket of a slot is read once, into `room` bytes, and its answer means this
-  pub record ReadsSocket (gave : S → ℕ → List ℕ → Result ℕ Error → S → Type 0) (old : SocketSlot S) (room : ℕ) (bytes : List ℕ) (taken_for : LinkRead) (new : SocketSlot S) : Type 0 where
+  -- holds if the socket of a slot is read once, into `room` bytes, and its answer has this meaning
+  pub record ReadsSocket (gave : S → ℕ → List ℕ → Result ℕ Error → S → Type 0) (old : SocketSlot S) (room : ℕ)
+      (bytes : List ℕ) (taken_for : LinkRead) (new : SocketSlot S) : Type 0 where
     pub socket : S
     pub after : S
     pub has_socket : old.socket ≡ Some socket
@@ -94,17 +99,21 @@ module _ {S : Type 0} where
     pub once : IsReadOnce gave socket room bytes taken_for after
     pub keeps_socket : new.socket ≡ Some after
 
-  -- Why a read gives nothing: the socket may not be read, and isn't; it has nothing now; or the count of an end or a failure can't rise.
-  pub data GivesNothing (gave : S → ℕ → List ℕ → Result ℕ Error → S → Type 0) (old : SocketSlot S) (room : ℕ) (new : SocketSlot S) : Type 0 where
+  -- Holds if a read gives nothing: the socket isn't read, has nothing now, or a count of ends or failures can't rise.
+  pub data GivesNothing (gave : S → ℕ → List ℕ → Result ℕ Error → S → Type 0) (old : SocketSlot S) (room : ℕ)
+      (new : SocketSlot S) : Type 0 where
     unread : may_be_read old room ≡ false → new.socket ≡ old.socket → GivesNothing gave old room new
     gives_not_now : ReadsSocket gave old room [] read.NotNow new → GivesNothing gave old room new
     end_uncounted : ReadsSocket gave old room [] read.Ended new → old.ends ≡ last_count → GivesNothing gave old room new
-    failure_uncounted : ReadsSocket gave old room [] read.Failed new → old.failures ≡ last_count → GivesNothing gave old room new
+    failure_uncounted : ReadsSocket gave old room [] read.Failed new → old.failures ≡ last_count
+        → GivesNothing gave old room new
 
-  -- What a read gives, and the slot after it: a count rises by the bytes that came, at an end and at a failure.
-  abbrev pub Gives : (gave : S → ℕ → List ℕ → Result ℕ Error → S → Type 0) → SocketSlot S → ℕ → List ℕ → LinkRead → SocketSlot S → Type 0
+  -- Holds for a read and the slot after it. The bytes received are counted; an end or a failure raises its own count.
+  abbrev pub Gives : (gave : S → ℕ → List ℕ → Result ℕ Error → S → Type 0) → SocketSlot S → ℕ → List ℕ → LinkRead
+      → SocketSlot S → Type 0
   Gives gave old room bytes (read.Got count) new = ReadsSocket gave old room bytes (read.Got count) new
-      × (0 < count) × (length bytes ≡ count) × (new.waiting ≡ old.waiting) × (new.ends ≡ old.ends) × (new.failures ≡ old.failures)
+      × (0 < count) × (length bytes ≡ count) × (new.waiting ≡ old.waiting) × (new.ends ≡ old.ends)
+      × (new.failures ≡ old.failures)
       × (new.received ≡ counted old.received count) × (new.sent ≡ old.sent)
   Gives gave old room bytes read.NotNow new = GivesNothing gave old room new
       × (bytes ≡ []) × (new.waiting ≡ old.waiting) × (new.ends ≡ old.ends) × (new.failures ≡ old.failures)
@@ -118,8 +127,9 @@ module _ {S : Type 0} where
 
   -- ---- a write
 
-  -- the socket of a slot is written once, and its answer means this
-  pub record WritesSocket (took : S → List ℕ → Result ℕ Error → S → Type 0) (old : SocketSlot S) (bytes : List ℕ) (taken_for : LinkWrite) (new : SocketSlot S) : Type 0 where
+  -- holds if the socket of a slot is written once, and its answer has this meaning
+  pub record WritesSocket (took : S → List ℕ → Result ℕ Error → S → Type 0) (old : SocketSlot S) (bytes : List ℕ)
+      (taken_for : LinkWrite) (new : SocketSlot S) : Type 0 where
     pub socket : S
     pub after : S
     pub has_socket : old.socket ≡ Some socket
@@ -127,16 +137,20 @@ module _ {S : Type 0} where
     pub once : IsWrittenOnce took socket bytes taken_for after
     pub keeps_socket : new.socket ≡ Some after
 
-  -- Why a write takes nothing: the socket may not be written, and isn't; it takes nothing now; or the count of a failure can't rise.
-  pub data TakesNothing (took : S → List ℕ → Result ℕ Error → S → Type 0) (old : SocketSlot S) (bytes : List ℕ) (new : SocketSlot S) : Type 0 where
+  -- Holds if a write takes nothing: the socket isn't written, takes nothing now, or the count of failures can't rise.
+  pub data TakesNothing (took : S → List ℕ → Result ℕ Error → S → Type 0) (old : SocketSlot S) (bytes : List ℕ)
+      (new : SocketSlot S) : Type 0 where
     unwritten : may_be_written old bytes ≡ false → new.socket ≡ old.socket → TakesNothing took old bytes new
     takes_not_now : WritesSocket took old bytes write.NotNow new → TakesNothing took old bytes new
-    write_uncounted : WritesSocket took old bytes write.Failed new → old.failures ≡ last_count → TakesNothing took old bytes new
+    write_uncounted : WritesSocket took old bytes write.Failed new → old.failures ≡ last_count
+        → TakesNothing took old bytes new
 
-  -- What a write takes, and the slot after it: a count rises by the bytes that were sent, and at a failure.
-  abbrev pub Takes : (took : S → List ℕ → Result ℕ Error → S → Type 0) → SocketSlot S → List ℕ → LinkWrite → SocketSlot S → Type 0
+  -- Holds for a write and the slot after it. The bytes sent are counted; a failure raises its own count.
+  abbrev pub Takes : (took : S → List ℕ → Result ℕ Error → S → Type 0) → SocketSlot S → List ℕ → LinkWrite
+      → SocketSlot S → Type 0
   Takes took old bytes (write.Took count) new = WritesSocket took old bytes (write.Took count) new
-      × (0 < count) × (count ≤ length bytes) × (new.waiting ≡ old.waiting) × (new.ends ≡ old.ends) × (new.failures ≡ old.failures)
+      × (0 < count) × (count ≤ length bytes) × (new.waiting ≡ old.waiting) × (new.ends ≡ old.ends)
+      × (new.failures ≡ old.failures)
       × (new.received ≡ old.received) × (new.sent ≡ counted old.sent count)
   Takes took old bytes write.NotNow new = TakesNothing took old bytes new
       × (new.waiting ≡ old.waiting) × (new.ends ≡ old.ends) × (new.failures ≡ old.failures)
@@ -147,7 +161,7 @@ module _ {S : Type 0} where
 
 -- ---- all numbers
 
--- the slots of all numbers, and whether a byte was read or written since that was asked
+-- the slots of all numbers, and whether a byte was read or written since that was last queried
 pub record Sockets (S : Type 0) : Type 0 where
   pub slots : List (SocketSlot S)
   pub moved : Bool
@@ -169,7 +183,8 @@ module _ {S : Type 0} where
   abbrev pub failures_at : ℕ → Sockets S → ℕ
   failures_at conn sockets = (slot_at conn sockets).failures
 
-  -- a connection begins, a connection ends, or the number of waiting bytes is set; the numbers of bytes stay after the end
+  -- the slot once a connection begins or ends, or the number of unsent bytes is set; the counts of bytes stay after an
+  -- end
   abbrev pub opened : S → SocketSlot S → SocketSlot S
   opened socket slot = record slot { socket = Some socket; waiting = 0; received = 0; sent = 0 }
 
@@ -193,20 +208,22 @@ has_taken write.Failed = false
 -- ---- a read and a write among all numbers
 
 module _ {S : Type 0} where
-  -- What a read of a number gives, into `room` bytes, and the numbers after it: no other number changes.
-  pub record GivesAt (gave : S → ℕ → List ℕ → Result ℕ Error → S → Type 0) (old : Sockets S) (conn room : ℕ) (bytes : List ℕ) (answer : LinkRead) (new : Sockets S) : Type 0 where
+  -- Holds for a read of a connection number, into `room` bytes: no other number changes.
+  pub record GivesAt (gave : S → ℕ → List ℕ → Result ℕ Error → S → Type 0) (old : Sockets S) (conn room : ℕ)
+      (bytes : List ℕ) (answer : LinkRead) (new : Sockets S) : Type 0 where
     pub gives : Gives gave (slot_at conn old) room bytes answer (slot_at conn new)
     pub moved : new.moved ≡ (old.moved || has_got answer)
     pub others : new.slots ≡ slice_set old.slots conn (slot_at conn new)
 
-  -- what a write to a number takes, and the numbers after it: no other number changes
-  pub record TakesAt (took : S → List ℕ → Result ℕ Error → S → Type 0) (old : Sockets S) (conn : ℕ) (bytes : List ℕ) (answer : LinkWrite) (new : Sockets S) : Type 0 where
+  -- holds for a write to a connection number: no other number changes
+  pub record TakesAt (took : S → List ℕ → Result ℕ Error → S → Type 0) (old : Sockets S) (conn : ℕ) (bytes : List ℕ)
+      (answer : LinkWrite) (new : Sockets S) : Type 0 where
     pub takes : Takes took (slot_at conn old) bytes answer (slot_at conn new)
     pub moved : new.moved ≡ (old.moved || has_taken answer)
     pub others : new.slots ≡ slice_set old.slots conn (slot_at conn new)
 
 -- ---- free numbers
 
--- no number below this one is free
+-- holds if no number below this one is free
 abbrev pub AreTaken : ℕ → Host → Type 0
 AreTaken below host = (conn : ℕ) → conn < below → phase_of (service_at conn host) ≢ phase.Free

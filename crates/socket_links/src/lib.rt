@@ -1,8 +1,8 @@
-//! Sockets that never wait, as the `Links` by which host_core serves its connections.
+//! Non-blocking sockets as the `Links` through which host_core serves its connections.
 //!
-//! It has no listener and no host. A [`SocketSlot`] is a connection with its counts, and [`Sockets`] has one for each
-//! number of the host. A read or a write makes at most one call of the socket; `specs/Sockets` says when, and what its
-//! answer means.
+//! This crate has no listener and no host (crates `service` and `host_core` have). A [`SocketSlot`] is a connection
+//! with its counts, and [`Sockets`] has one slot for each connection number of the host. A read or a write makes at
+//! most one call of the socket; `specs/Sockets` defines when, and what its answer means.
 #![tactic(auto)]
 
 mod socket_slot;
@@ -11,4 +11,4 @@ mod waiting;
 
 pub use socket_slot::{SocketSlot, is_passing, read_once, write_once};
 pub use sockets::Sockets;
-pub use waiting::patience;
+pub use waiting::poll_timeout;

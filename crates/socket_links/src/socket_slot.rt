@@ -1,4 +1,4 @@
-//! The slot of a connection number: the socket of its connection, if there is one.
+//! The slot of a connection number: the socket of its connection, if there is one, and its counts.
 ghost use Rattle.std.specs.Prelude.{◌≡◌, true, false, length};
 ghost use Rattle.host_core.specs.Serves.{GotWithin, TookWithin, bytes_got};
 ghost use Rattle.job_streams.specs.RawCalls.{is_passing, link_read, link_write};
@@ -11,24 +11,24 @@ use std::io::{self, ErrorKind};
 use std::marker::Model;
 use std::net::SocketAddr;
 
-/// Reads of a connection pause while more bytes than this wait to be sent on it.
+/// Reads of a connection pause while more bytes than this are unsent on it.
 const MOST_WAITING: usize = 65_536;
 
-/// Whether unsent output exceeds `MOST_WAITING`, which pauses reads. The peer's own window then stops it.
+/// Whether unsent output exceeds `MOST_WAITING`, which pauses reads. TCP's flow control then stops the peer.
 fn is_held_back(waiting: usize) -> bool
     ensures { result ≡ is_held_back waiting }
 {
     waiting > MOST_WAITING
 }
 
-/// Whether an error means only that the call did nothing this time.
+/// Whether an error means only that the call did nothing and will be repeated.
 pub fn is_passing(kind: ErrorKind) -> bool
     ensures { result ≡ is_passing kind }
 {
     matches!(kind, ErrorKind::WouldBlock | ErrorKind::Interrupted)
 }
 
-/// What the answer to a read means, if the buffer has room.
+/// The meaning of the answer to a read, if the buffer has room.
 fn link_read(answer: io::Result<usize>) -> LinkRead
     ensures { result ≡ link_read answer }
 {
@@ -40,7 +40,7 @@ fn link_read(answer: io::Result<usize>) -> LinkRead
     }
 }
 
-/// What the answer to a write of at least one byte means.
+/// The meaning of the answer to a write of at least one byte.
 fn link_write(answer: io::Result<usize>) -> LinkWrite
     ensures { result ≡ link_write answer }
 {
@@ -55,12 +55,13 @@ fn link_write(answer: io::Result<usize>) -> LinkWrite
 /// Reads a socket once, into a buffer that has room.
 pub fn read_once<S: RawRead>(socket: &mut S, buffer: &mut [u8]) -> LinkRead
     ensures within { GetsIn result (length buffer.new) }
-    ensures once { IsReadOnce S.read_gave socket.old (length buffer.new) (bytes_got result buffer.new) result socket.new }
+    ensures once { IsReadOnce S.read_gave socket.old (length buffer.new)
+        (bytes_got result buffer.new) result socket.new }
 {
     link_read(socket.read_once(buffer))
 }
 
-/// Writes at least one byte to a socket once.
+/// Writes to a socket once. There must be at least one byte.
 pub fn write_once<S: RawWrite>(socket: &mut S, bytes: &[u8]) -> LinkWrite
     ensures within { TookSome result (length bytes.now) }
     ensures once { IsWrittenOnce S.write_took socket.old bytes.now result socket.new }
@@ -68,7 +69,7 @@ pub fn write_once<S: RawWrite>(socket: &mut S, bytes: &[u8]) -> LinkWrite
     link_write(socket.write_once(bytes))
 }
 
-/// Raises a count by one, unless it is at its last value. Answers whether it did.
+/// Raises a count by one, unless it is at its greatest value. Answers whether it did.
 fn raise(count: &mut u64) -> bool
     ensures { Raises result count.old count.new }
 {
@@ -81,19 +82,19 @@ fn raise(count: &mut u64) -> bool
     }
 }
 
-/// Adds a number of bytes to a count, which stays at its last value.
+/// Adds a number of bytes to a count, which stops at its greatest value.
 fn add_bytes(count: &mut u64, more: usize)
     ensures { count.new ≡ counted count.old more }
 {
     *count = count.saturating_add(more as u64);
 }
 
-/// The slot of a connection number: the socket of its connection, if there is one, how many of the number's connections ended and
-/// failed, and how many bytes the last connection's socket gave and took.
+/// The slot of a connection number: the socket of its connection, if there is one; how many of the number's connections
+/// ended and failed; and the bytes received and sent on its last connection.
 #[derive(Drop)]
 pub struct SocketSlot<S> {
     socket: Option<S>,
-    /// The number of bytes that wait to be sent.
+    /// The number of bytes that are not sent yet.
     waiting: usize,
     ends: u64,
     failures: u64,
@@ -102,15 +103,22 @@ pub struct SocketSlot<S> {
 }
 
 impl<S> Model for SocketSlot<S> {
-    ghost use Rattle.socket_links.specs.Sockets.{SocketSlot as SlotValue};
+    ghost use Rattle.socket_links.specs.Sockets.{SocketSlot as SocketSlotValue};
 
-    ghost Value = { SlotValue S };
+    ghost Value = { SocketSlotValue S };
 
-    ghost view = { λ slot. record { socket = slot.socket; waiting = slot.waiting; ends = slot.ends; failures = slot.failures; received = slot.received; sent = slot.sent } };
+    ghost view = { λ slot. record {
+      socket = slot.socket;
+      waiting = slot.waiting;
+      ends = slot.ends;
+      failures = slot.failures;
+      received = slot.received;
+      sent = slot.sent;
+    } };
 }
 
 impl SocketSlot<TcpStream> {
-    /// The address of the peer, if there is a connection and the system knows the address.
+    /// The address of the peer; None if there is no connection, or if the system can't report the address.
     pub fn peer(&self) -> Option<SocketAddr> {
         self.socket.as_ref()?.peer_addr().ok()
     }
@@ -138,21 +146,21 @@ impl<S: RawRead + RawWrite + Drop> SocketSlot<S> {
         self.socket.is_some()
     }
 
-    /// The number of bytes that the last connection's socket gave.
+    /// The number of bytes received on the last connection.
     pub fn received(&self) -> u64
         ensures { result ≡ self.now.received }
     {
         self.received
     }
 
-    /// The number of bytes that the last connection's socket took.
+    /// The number of bytes sent on the last connection.
     pub fn sent(&self) -> u64
         ensures { result ≡ self.now.sent }
     {
         self.sent
     }
 
-    /// Begins a connection.
+    /// Begins a connection with this socket.
     pub fn open(&mut self, socket: S)
         ensures { self.new ≡ opened socket self.old }
     {
@@ -177,15 +185,15 @@ impl<S: RawRead + RawWrite + Drop> SocketSlot<S> {
         self.socket
     }
 
-    /// Sets the number of bytes that wait to be sent.
+    /// Sets the number of bytes that are not sent yet.
     pub fn set_waiting(&mut self, waiting: usize)
         ensures { self.new ≡ with_waiting waiting self.old }
     {
         self.waiting = waiting;
     }
 
-    /// Reads the socket once. NotNow if there is no connection, if reads are paused, if the buffer has no room, or if a count
-    /// would rise above its last value.
+    /// Reads the socket once. NotNow if there is no connection, if reads are paused, if the buffer has no room, or if a
+    /// count can't be raised.
     pub fn read(&mut self, buffer: &mut [u8]) -> LinkRead
         ensures within { GotWithin result (length buffer.new) }
         ensures gives { Gives S.read_gave self.old (length buffer.new) (bytes_got result buffer.new) result self.new }
@@ -222,8 +230,8 @@ impl<S: RawRead + RawWrite + Drop> SocketSlot<S> {
         }
     }
 
-    /// Writes the bytes to the socket once. NotNow if there is no connection, if there are no bytes, or if a count would rise
-    /// above its last value.
+    /// Writes the bytes to the socket once. NotNow if there is no connection, if there are no bytes, or if a count
+    /// can't be raised.
     pub fn write(&mut self, bytes: &[u8]) -> LinkWrite
         ensures within { TookWithin result (length bytes.now) }
         ensures takes { Takes S.write_took self.old bytes.now result self.new }

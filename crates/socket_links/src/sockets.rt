@@ -11,10 +11,10 @@ use std::alloc::{AllocError, Global};
 use std::marker::Model;
 use std::net::SocketAddr;
 
-/// The sockets, of type `S`, of a host's 64 connection numbers, and whether a byte was read or written since `take_moved`.
+/// The sockets, of type `S`, of a host's 64 connection numbers, and whether a byte moved since `take_moved`.
 ///
-/// A read answers NotNow while the connection's unsent output is above the limit that pauses reads. A read or a write that
-/// would raise a count above its last value answers NotNow too.
+/// A read returns NotNow while the connection's unsent output exceeds the limit that pauses reads. A read or a write
+/// that can't raise a count returns NotNow, too.
 #[derive(Drop)]
 pub struct Sockets<S> {
     slots: Vec<SocketSlot<S>>,
@@ -46,7 +46,7 @@ fn unused_slots<S: RawRead + RawWrite + Drop>(
     Ok(slots)
 }
 
-/// Whether a read gave bytes.
+/// Whether a read returned bytes.
 fn has_got(answer: LinkRead) -> bool
     ensures { result ≡ has_got answer }
 {
@@ -61,7 +61,7 @@ fn has_taken(answer: LinkWrite) -> bool
 }
 
 impl Sockets<TcpStream> {
-    /// The address of a connection's peer, if there is a connection and the system knows the address.
+    /// The address of a connection's peer; None if there is no connection, or if the system can't report the address.
     pub fn peer(&self, conn: usize) -> Option<SocketAddr> {
         self.slots.get(conn)?.peer()
     }
@@ -86,7 +86,7 @@ impl<S: RawRead + RawWrite + Drop> Sockets<S> {
         self.slots[conn].is_connected()
     }
 
-    /// The number of bytes that came on a number's last connection.
+    /// The number of bytes received on a number's last connection.
     pub fn received(&self, conn: usize) -> u64
         requires { conn < most_connections }
         ensures { result ≡ (slot_at conn self.now).received }
@@ -94,7 +94,7 @@ impl<S: RawRead + RawWrite + Drop> Sockets<S> {
         self.slots[conn].received()
     }
 
-    /// The number of bytes that were sent on a number's last connection.
+    /// The number of bytes sent on a number's last connection.
     pub fn sent(&self, conn: usize) -> u64
         requires { conn < most_connections }
         ensures { result ≡ (slot_at conn self.now).sent }
@@ -102,7 +102,7 @@ impl<S: RawRead + RawWrite + Drop> Sockets<S> {
         self.slots[conn].sent()
     }
 
-    /// Begins a connection on a number.
+    /// Begins a connection with this socket on a number.
     pub fn open(&mut self, conn: usize, socket: S)
         requires { conn < most_connections }
         ensures { self.new ≡ with_slot conn (opened socket (slot_at conn self.old)) self.old }
@@ -118,7 +118,7 @@ impl<S: RawRead + RawWrite + Drop> Sockets<S> {
         self.slots[conn].close();
     }
 
-    /// Sets the number of bytes that wait to be sent on a connection.
+    /// Sets the number of bytes that are not sent yet on a connection.
     pub fn set_waiting(&mut self, conn: usize, waiting: usize)
         requires { conn < most_connections }
         ensures { self.new ≡ with_slot conn (with_waiting waiting (slot_at conn self.old)) self.old }
@@ -126,8 +126,8 @@ impl<S: RawRead + RawWrite + Drop> Sockets<S> {
         self.slots[conn].set_waiting(waiting);
     }
 
-    /// Whether a byte was read or written since the last such call.
-    pub fn take_moved(&mut self) -> bool
+    /// Whether a byte was read or written since the last call of this function.
+    pub fn take_progress(&mut self) -> bool
         ensures moved { result ≡ self.old.moved }
         ensures taken { self.new ≡ record self.old { moved = false } }
     {

@@ -3,14 +3,14 @@ use Rattle.std.proofs.Common.{◌≡◌, ℕ, true, false, [], ◌∷◌, refl}
 use Rattle.telnet_wire.specs.declared.wire.WireFault.{WireFault}
 use Rattle.telnet_wire.specs.declared.wire.WireFault.TheVariants.{TooLong, BadSub, Memory, Failed}
 use Rattle.telnet_wire.specs.Reading.{GoesWrong}
-use Rattle.telnet_wire.specs.Held.{Held, Takes, Refuses}
+use Rattle.telnet_wire.specs.DecoderValue.{DecoderValue, Takes, Refuses}
 use Rattle.telnet_wire.proofs.Faults.{wrong_is_final, one_fault}
 
-final : (old new : Held) (byte : ℕ) (fault : WireFault) → Takes old byte new → GoesWrong old.limit old.rest (byte ∷ []) fault → ⊥
+final : (old new : DecoderValue) (byte : ℕ) (fault : WireFault) → Takes old byte new → GoesWrong old.limit old.rest (byte ∷ []) fault → ⊥
 final old new byte fault t wrong =
     wrong_is_final old.limit old.rest (byte ∷ []) [] fault t.delivers.tokens new.rest wrong t.delivers.reads t.delivers.is_rest
 
-pub taken_or_refused : (old new : Held) (byte : ℕ) (fault : WireFault) → Takes old byte new → Refuses old byte fault → ⊥
+pub taken_or_refused : (old new : DecoderValue) (byte : ℕ) (fault : WireFault) → Takes old byte new → Refuses old byte fault → ⊥
 taken_or_refused old new byte Failed t r = absurd (clash t.ran r)
   where
     clash : old.failed ≡ false → old.failed ≡ true → ⊥
@@ -19,10 +19,10 @@ taken_or_refused old new byte TooLong t r = final old new byte TooLong t r.1
 taken_or_refused old new byte BadSub t r = final old new byte BadSub t r.1
 taken_or_refused old new byte Memory t r = final old new byte Memory t r.1
 
-one : (old : Held) (byte : ℕ) (fault other : WireFault) → GoesWrong old.limit old.rest (byte ∷ []) fault → GoesWrong old.limit old.rest (byte ∷ []) other → fault ≡ other
+one : (old : DecoderValue) (byte : ℕ) (fault other : WireFault) → GoesWrong old.limit old.rest (byte ∷ []) fault → GoesWrong old.limit old.rest (byte ∷ []) other → fault ≡ other
 one old byte fault other w v = (one_fault old.limit old.rest (byte ∷ []) [] fault other w v).1
 
-pub one_refusal : (old : Held) (byte : ℕ) (fault other : WireFault) → Refuses old byte fault → Refuses old byte other → fault ≡ other
+pub one_refusal : (old : DecoderValue) (byte : ℕ) (fault other : WireFault) → Refuses old byte fault → Refuses old byte other → fault ≡ other
 one_refusal old byte Failed Failed r q = refl
 one_refusal old byte Failed TooLong r q = let p = r in let z = q.0 in cc
 one_refusal old byte Failed BadSub r q = let p = r in let z = q.0 in cc

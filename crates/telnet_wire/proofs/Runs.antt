@@ -13,7 +13,7 @@ use Rattle.telnet_wire.specs.declared.decoding.Completed.TheVariants.{Record as 
 use Rattle.telnet_wire.specs.Items.{WireItem}
 use Rattle.telnet_wire.specs.Reading.{Rest}
 use Rattle.telnet_wire.specs.Runs.{data_room}
-use Rattle.telnet_wire.specs.Held.{Held, TakesAll}
+use Rattle.telnet_wire.specs.DecoderValue.{DecoderValue, TakesAll}
 use Rattle.telnet_wire.specs.Bounded.{Bounded, empty, with_byte, with_bytes}
 use Rattle.telnet_wire.specs.DecoderStates.{held, unfinished_record}
 use Rattle.telnet_wire.proofs.Steps.{takes_data}
@@ -34,7 +34,7 @@ takes_run content (byte ∷ run) gathered plain room = (
 )
 
 -- which item was ready makes no difference
-first_from : (limit : ℕ) (rest : Rest) (ready other : Option WireItem) (failed : Bool) (byte : ℕ) (run : List ℕ) (new : Held)
+first_from : (limit : ℕ) (rest : Rest) (ready other : Option WireItem) (failed : Bool) (byte : ℕ) (run : List ℕ) (new : DecoderValue)
     → TakesAll (record { limit = limit; rest = rest; ready = ready; failed = failed }) (byte ∷ run) [] new
     → TakesAll (record { limit = limit; rest = rest; ready = other; failed = failed }) (byte ∷ run) [] new
 first_from limit rest ready other failed byte run new taken = (

@@ -12,12 +12,12 @@ use Rattle.telnet_wire.specs.declared.decoding.Completed.TheVariants.{Record as 
 use Rattle.telnet_wire.specs.Token.{Token, Data, End, Opt, Sub, Other, escaped, code_of, opened, spelling, IsToken, IsShort, IsPartial, IsOtherCode}
 use Rattle.telnet_wire.specs.Items.{WireItem, items_after, unfinished_after, IsWithin}
 use Rattle.telnet_wire.specs.Reading.{IsWrong, GoesWrong}
-use Rattle.telnet_wire.specs.Held.{Held, Takes, Refuses}
+use Rattle.telnet_wire.specs.DecoderValue.{DecoderValue, Takes, Refuses}
 use Rattle.telnet_wire.specs.Bounded.{Bounded, with_byte}
 use Rattle.telnet_wire.specs.DecoderStates.{held}
 use Rattle.telnet_wire.proofs.Prefixes.{escaped-plain}
 
-abbrev holding : ℕ → List ℕ → List ℕ → Option WireItem → Held
+abbrev holding : ℕ → List ℕ → List ℕ → Option WireItem → DecoderValue
 holding limit unfinished partial ready = record {
   limit = limit;
   rest = record { unfinished = unfinished; partial = partial };

@@ -1,5 +1,4 @@
--- What a decoder's state and buffers mean (our profile). Only private contracts and the decoder's
--- view cite it.
+-- What a decoder's state and buffers mean (our profile). Only private contracts and the decoder's view cite it.
 use Rattle.std.specs.Prelude.{◌≡◌, ℕ, ◌≤◌, Bool, true, false, List, [], ◌∷◌, ◌++◌, length, Option, None, Some}
 use Rattle.telnet_wire.specs.declared.decoding.DecoderState.{DecoderState}
 use Rattle.telnet_wire.specs.declared.decoding.DecoderState.TheVariants.{Done, AfterIac, AfterVerb, InSub, AfterIacInSub, Failed}
@@ -7,7 +6,7 @@ use Rattle.telnet_wire.specs.declared.decoding.Completed.{Completed}
 use Rattle.telnet_wire.specs.declared.decoding.Completed.TheVariants.{Record, Opt, Sub, Other}
 use Rattle.telnet_wire.specs.Token.{code_of, opened}
 use Rattle.telnet_wire.specs.Items.{WireItem, Record as RecordItem, Opt as OptItem, Sub as SubItem, Other as OtherItem}
-use Rattle.telnet_wire.specs.Held.{Held}
+use Rattle.telnet_wire.specs.DecoderValue.{DecoderValue}
 use Rattle.telnet_wire.specs.Bounded.{Bounded, empty}
 
 -- The part of a token that was read.
@@ -41,12 +40,13 @@ abbrev pub ready_at : DecoderState → List ℕ → List ℕ → Option WireItem
 ready_at (Done completed) gathered content = Some (completed_item completed gathered content)
 ready_at _ gathered content = None
 
+-- Whether a byte was refused.
 abbrev pub has_failed : DecoderState → Bool
 has_failed Failed = true
 has_failed _ = false
 
 -- What a decoder in this state holds, as contracts see it.
-abbrev pub held : DecoderState → Bounded → List ℕ → Held
+abbrev pub held : DecoderState → Bounded → List ℕ → DecoderValue
 held state gathered content = record {
   limit = gathered.limit;
   rest = record { unfinished = unfinished_at state gathered.bytes; partial = partial_at state content };

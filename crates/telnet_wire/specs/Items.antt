@@ -1,4 +1,4 @@
--- What a list of tokens says: its items, and the data of the record that isn't finished. Records
+-- The items of a list of tokens, and the data of the record that isn't finished. Records
 -- are those of RFC 885. Our profile: a subnegotiation is one item, and commands don't end a record.
 use Rattle.std.specs.Prelude.{ℕ, ◌≤◌, List, [], ◌∷◌, ◌++◌, length, map}
 use Rattle.telnet_wire.specs.declared.wire.Verb.{Verb}
@@ -33,14 +33,14 @@ items_after unfinished (OptToken verb code ∷ tokens) = Opt verb code ∷ items
 items_after unfinished (SubToken bytes ∷ tokens) = Sub bytes ∷ items_after unfinished tokens
 items_after unfinished (OtherToken code ∷ tokens) = Other code ∷ items_after unfinished tokens
 
--- The data since the last End, if `unfinished` precedes these tokens.
+-- The data since the last End, after these tokens and `unfinished` before them.
 abbrev pub unfinished_after : List ℕ → List Token → List ℕ
 unfinished_after unfinished [] = unfinished
 unfinished_after unfinished (Data byte ∷ tokens) = unfinished_after (unfinished ++ byte ∷ []) tokens
 unfinished_after unfinished (End ∷ tokens) = unfinished_after [] tokens
 unfinished_after unfinished (_ ∷ tokens) = unfinished_after unfinished tokens
 
--- A record has at most `limit` bytes of data, each counted once however it is spelt (our profile).
+-- Holds if a record has at most `limit` bytes of data, each counted once even if it is doubled (our profile).
 abbrev pub IsWithin : ℕ → WireItem → Type 0
 IsWithin limit (Record bytes) = length bytes ≤ limit
 IsWithin limit _ = Unit {0}
@@ -49,15 +49,15 @@ IsWithin limit _ = Unit {0}
 abbrev pub record_tokens : List ℕ → List Token
 record_tokens bytes = map Data bytes ++ End ∷ []
 
--- The tokens that say this item, if no record is unfinished.
+-- The tokens of this item, if no record is unfinished.
 abbrev pub item_tokens : WireItem → List Token
 item_tokens (Record bytes) = record_tokens bytes
 item_tokens (Opt verb code) = OptToken verb code ∷ []
 item_tokens (Sub bytes) = SubToken bytes ∷ []
 item_tokens (Other code) = OtherToken code ∷ []
 
--- An item that a stream can have: a record or a subnegotiation within its limit, an option, or
--- another command by a code that is one.
+-- Holds if a stream can have the item: a record or a subnegotiation within its limit, an option, or
+-- another command with a code that is one.
 abbrev pub CanCome : ℕ → WireItem → Type 0
 CanCome limit (Record bytes) = length bytes ≤ limit
 CanCome limit (Opt verb code) = Unit {0}

@@ -1,7 +1,7 @@
 pub mod Token
 pub mod Items
 pub mod Reading
-pub mod Held
+pub mod DecoderValue
 pub mod Runs
 pub mod Messages
 pub mod Bounded

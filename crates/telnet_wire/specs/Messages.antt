@@ -3,6 +3,7 @@ use Rattle.std.specs.Prelude.{ℕ, List, codes}
 use Rattle.telnet_wire.specs.declared.wire.WireFault.{WireFault}
 use Rattle.telnet_wire.specs.declared.wire.WireFault.TheVariants.{TooLong, BadSub, Memory, Failed}
 
+-- The text of a fault.
 abbrev pub fault_text : WireFault → List ℕ
 fault_text TooLong = codes "record or subnegotiation too long"
 fault_text BadSub = codes "command inside a subnegotiation"

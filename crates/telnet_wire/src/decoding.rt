@@ -2,7 +2,7 @@
 ghost use Rattle.std.specs.Prelude.{◌≡◌, ◌≢◌, ◌<◌, ◌≤◌, ℕ, IfOk, IfErr, List, [], ◌∷◌, ◌++◌, ◌==◌, IsSome, Some, Err, length, min, take};
 ghost use Rattle.std.specs.List.{AllByRecursion, position_or_len};
 ghost use Rattle.telnet_wire.specs.Items.{item_of};
-ghost use Rattle.telnet_wire.specs.Held.{Held, fresh, broken, Takes, TakesAll, Refuses, step_of};
+ghost use Rattle.telnet_wire.specs.DecoderValue.{DecoderValue, fresh, broken, Takes, TakesAll, Refuses, step_of};
 ghost use Rattle.telnet_wire.specs.Runs.{data_room, run_length};
 ghost use Rattle.telnet_wire.specs.DecoderStates.{held, ready_at, unfinished_record, AreWithin};
 ghost use Rattle.telnet_wire.specs.declared.decoding.DecoderState.TheVariants as states;
@@ -16,7 +16,7 @@ use memchr::memchr;
 use std::alloc::Global;
 use std::marker::Model;
 
-/// The bytes that a subnegotiation may have (our profile).
+/// The most bytes of a subnegotiation (our profile).
 const SUB_LIMIT: usize = 256;
 
 /// Where in a token the stream is.
@@ -49,7 +49,8 @@ fn between(
     sub_buffer: &Buffer,
 ) -> Result<DecoderState, WireFault>
     requires { AreWithin record_buffer.old sub_buffer.now }
-    ensures taken { IfOk result (λ next. Takes (held states.Between record_buffer.old sub_buffer.now.bytes) byte (held next record_buffer.new sub_buffer.now.bytes)) }
+    ensures taken { IfOk result (λ next. Takes (held states.Between record_buffer.old sub_buffer.now.bytes) byte
+        (held next record_buffer.new sub_buffer.now.bytes)) }
     ensures refused { IfErr result (Refuses (held states.Between record_buffer.old sub_buffer.now.bytes) byte) }
     ensures within { AreWithin record_buffer.new sub_buffer.now }
     ensures limit { record_buffer.new.limit ≡ record_buffer.old.limit }
@@ -68,7 +69,8 @@ fn after_iac(
     sub_buffer: &mut Buffer,
 ) -> Result<DecoderState, WireFault>
     requires { AreWithin record_buffer.old sub_buffer.old }
-    ensures taken { IfOk result (λ next. Takes (held states.AfterIac record_buffer.old sub_buffer.old.bytes) code (held next record_buffer.new sub_buffer.new.bytes)) }
+    ensures taken { IfOk result (λ next. Takes (held states.AfterIac record_buffer.old sub_buffer.old.bytes) code
+        (held next record_buffer.new sub_buffer.new.bytes)) }
     ensures refused { IfErr result (Refuses (held states.AfterIac record_buffer.old sub_buffer.old.bytes) code) }
     ensures within { AreWithin record_buffer.new sub_buffer.new }
     ensures limit { record_buffer.new.limit ≡ record_buffer.old.limit }
@@ -98,7 +100,8 @@ fn in_sub(
     sub_buffer: &mut Buffer,
 ) -> Result<DecoderState, WireFault>
     requires { AreWithin record_buffer.now sub_buffer.old }
-    ensures taken { IfOk result (λ next. Takes (held states.InSub record_buffer.now sub_buffer.old.bytes) byte (held next record_buffer.now sub_buffer.new.bytes)) }
+    ensures taken { IfOk result (λ next. Takes (held states.InSub record_buffer.now sub_buffer.old.bytes) byte
+        (held next record_buffer.now sub_buffer.new.bytes)) }
     ensures refused { IfErr result (Refuses (held states.InSub record_buffer.now sub_buffer.old.bytes) byte) }
     ensures within { AreWithin record_buffer.now sub_buffer.new }
 {
@@ -116,7 +119,8 @@ fn after_iac_in_sub(
     sub_buffer: &mut Buffer,
 ) -> Result<DecoderState, WireFault>
     requires { AreWithin record_buffer.now sub_buffer.old }
-    ensures taken { IfOk result (λ next. Takes (held states.AfterIacInSub record_buffer.now sub_buffer.old.bytes) code (held next record_buffer.now sub_buffer.new.bytes)) }
+    ensures taken { IfOk result (λ next. Takes (held states.AfterIacInSub record_buffer.now sub_buffer.old.bytes) code
+        (held next record_buffer.now sub_buffer.new.bytes)) }
     ensures refused { IfErr result (Refuses (held states.AfterIacInSub record_buffer.now sub_buffer.old.bytes) code) }
     ensures within { AreWithin record_buffer.now sub_buffer.new }
 {
@@ -138,7 +142,8 @@ fn next(
     sub_buffer: &mut Buffer,
 ) -> Result<DecoderState, WireFault>
     requires { AreWithin record_buffer.old sub_buffer.old }
-    ensures taken { IfOk result (λ next. Takes (held state record_buffer.old sub_buffer.old.bytes) byte (held next record_buffer.new sub_buffer.new.bytes)) }
+    ensures taken { IfOk result (λ next. Takes (held state record_buffer.old sub_buffer.old.bytes) byte
+        (held next record_buffer.new sub_buffer.new.bytes)) }
     ensures refused { IfErr result (Refuses (held state record_buffer.old sub_buffer.old.bytes) byte) }
     ensures within { AreWithin record_buffer.new sub_buffer.new }
     ensures limit { record_buffer.new.limit ≡ record_buffer.old.limit }
@@ -206,7 +211,8 @@ fn take_data(
     requires some { 0 < length run.now }
     requires plain { AllByRecursion (λ byte. byte ≢ 255) run.now }
     requires room { length run.now ≤ data_room (held state record_buffer.old sub_buffer.now.bytes) }
-    ensures taken { TakesAll (held state record_buffer.old sub_buffer.now.bytes) run.now [] (held result record_buffer.new sub_buffer.now.bytes) }
+    ensures taken { TakesAll (held state record_buffer.old sub_buffer.now.bytes) run.now
+        [] (held result record_buffer.new sub_buffer.now.bytes) }
     ensures within { AreWithin record_buffer.new sub_buffer.now }
 {
     drop_complete_record(state, record_buffer);
@@ -225,11 +231,10 @@ impl DecoderState {
     }
 }
 
-/// Takes a stream byte by byte or in runs of data, and lends the items that it completes.
+/// Decodes a stream, byte by byte or in runs of data, and lends the items that it completes.
 ///
-/// A byte costs the same however long the record is, and takes no memory: `new` makes the room for
-/// a record of `limit` bytes and a subnegotiation of 256. It makes no difference how the stream is
-/// cut into pieces.
+/// A byte costs the same however long the record is, and no byte needs memory: [`Decoder::new`] allocates room for
+/// a record of `limit` bytes and a subnegotiation of 256. The items don't depend on how the stream is cut into pieces.
 #[derive(Drop, Debug)]
 pub struct Decoder {
     state: DecoderState,
@@ -238,7 +243,7 @@ pub struct Decoder {
 }
 
 impl Model for Decoder {
-    ghost Value = { Held };
+    ghost Value = { DecoderValue };
 
     ghost view = { λ d. held d.state d.record_buffer d.sub_buffer.bytes };
 
@@ -246,11 +251,9 @@ impl Model for Decoder {
 }
 
 impl Decoder {
-    /// A decoder before the first byte, for records of at most `limit` bytes of data, each 255
-    /// counted once.
+    /// A decoder before the first byte, for records of at most `limit` bytes of data. A doubled 255 counts once.
     ///
-    /// It makes all the room that the decoder will need, and answers [`WireFault::Memory`] if the
-    /// allocator refuses that room.
+    /// It allocates all memory that the decoder will need, and fails with [`WireFault::Memory`] if that is refused.
     pub fn new(alloc: Global, limit: usize) -> Result<Decoder, WireFault>
         ensures made { IfOk result (λ d. d ≡ fresh limit) }
         ensures memory { IfErr result (λ fault. fault ≡ Memory) }
@@ -264,14 +267,12 @@ impl Decoder {
         })
     }
 
-    /// Takes the next byte, and says whether it completed an item, which [`Decoder::item`] then
-    /// lends.
+    /// Decodes the next byte. Returns [`Step::Ready`] if it completed an item, which [`Decoder::item`] then lends.
     ///
-    /// It refuses a byte only if the stream goes wrong there: by [`WireFault::TooLong`] the byte
-    /// that completes a data byte over the limit, or byte 257 of a subnegotiation; by
-    /// [`WireFault::BadSub`] a byte after IAC inside a subnegotiation that is neither IAC nor SE.
-    /// From then on the decoder holds nothing, and refuses every byte by [`WireFault::Failed`]
-    /// until [`Decoder::reset`]. It takes no memory.
+    /// It fails only if the stream is wrong at this byte: with [`WireFault::TooLong`] if the byte completes a data byte
+    /// over the limit, or is byte 257 of a subnegotiation; with [`WireFault::BadSub`] if it follows IAC inside a
+    /// subnegotiation and is neither IAC nor SE. After that the decoder holds nothing, and every byte fails with
+    /// [`WireFault::Failed`] until [`Decoder::reset`]. It never allocates.
     pub fn push(&mut self, byte: u8) -> Result<Step, WireFault>
         ensures taken { IfOk result (λ step. Takes self.old byte self.new × (step ≡ step_of self.new.ready)) }
         ensures refused { IfErr result (λ fault. Refuses self.old byte fault × (self.new ≡ broken self.old.limit)) }
@@ -295,13 +296,12 @@ impl Decoder {
         }
     }
 
-    /// Takes the bytes of data up to the next IAC at once, and answers how many these are.
+    /// Decodes the bytes of data up to the next IAC at once, and returns how many these are.
     ///
-    /// It takes what [`Decoder::push`] takes of these bytes one by one, up to the first 255, or to the
-    /// last that the record has room for. They complete no item. It takes none in the middle of a
-    /// token (after IAC, or inside a subnegotiation), none after a fault, and none if a byte would be
-    /// refused: [`Decoder::push`] then takes or refuses the next byte. If it takes none, nothing
-    /// changes, and an item that is ready stays so. It takes no memory.
+    /// It has the effect of [`Decoder::push`] on each of these bytes, up to the first 255 or to the last byte for which
+    /// the record has room. They complete no item. It decodes none if the stream is in the middle of a token (after
+    /// IAC, or inside a subnegotiation), after a fault, or if [`Decoder::push`] would refuse the next byte. Then
+    /// nothing changes, and an item that is ready stays ready. It never allocates.
     pub fn push_data(&mut self, bytes: &[u8]) -> usize
         ensures length { result ≡ run_length self.old bytes.now }
         ensures few { result ≤ length bytes.now }
@@ -317,7 +317,7 @@ impl Decoder {
 
     /// The item that the last byte completed, lent from the decoder's buffers until the next byte.
     ///
-    /// It may be called only after [`Step::Ready`].
+    /// The last call must have returned [`Step::Ready`].
     pub fn item(&self) -> Item<'_>
         requires { IsSome self.now.ready }
         ensures { self.now.ready ≡ Some (item_of result) }
@@ -331,7 +331,7 @@ impl Decoder {
         }
     }
 
-    /// Forgets the stream, and any fault: the decoder is as `new` made it.
+    /// Forgets the stream and any fault: the decoder is again as `new` returns it.
     pub fn reset(&mut self)
         ensures { self.new ≡ fresh self.old.limit }
     {

@@ -1,10 +1,9 @@
-//! Telnet's wire (RFC 854, 855 and 885): bytes as records, option negotiations and subnegotiations,
-//! and back.
+//! The Telnet protocol's wire format (RFC 854, 855 and 885): bytes as records, option negotiations and
+//! subnegotiations, and back. What these mean is the crate `tn3270e_msg`'s.
 //!
-//! A [`Decoder`] takes a stream byte by byte, cut anywhere, and lends each item that a byte
-//! completes. [`Decoder::push_data`] takes the bytes of data up to the next IAC at once. `new` makes
-//! the decoder's room: none of its other calls takes memory. The `put_` calls add an item's bytes to
-//! a vector, which may have to grow.
+//! A [`Decoder`] reads a stream byte by byte, cut anywhere, and lends each item that a byte completes.
+//! [`Decoder::push_data`] reads the bytes of data up to the next IAC at once. `new` allocates the decoder's memory; its
+//! other calls allocate none. The `put_` functions append an item's bytes to a vector, which may have to grow.
 //!
 //! ```text
 //! let mut decoder = Decoder::new(alloc, 16_384)?;
@@ -20,10 +19,9 @@
 //! }
 //! ```
 //!
-//! `specs/` defines what a stream says: `Token` (the tokens and their spellings), `Items` (what a
-//! list of tokens says), `Reading` (how bytes are read, and where they go wrong), `Held` (what a
-//! byte does to a decoder), `Runs` (how many bytes are taken at once). [`laws::one_reading`] has the
-//! laws for a caller that feeds a stream in pieces.
+//! `specs/` defines the format: `Token` (the tokens and their spellings), `Items` (the items of a list of tokens),
+//! `Reading` (how bytes are read, and which are wrong), `DecoderValue` (how a byte changes a decoder), `Runs` (how many
+//! bytes are decoded at once). [`laws::one_reading`] has the laws for a caller that feeds a stream in pieces.
 #![tactic(auto)]
 
 mod buffer;

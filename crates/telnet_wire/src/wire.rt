@@ -8,12 +8,10 @@ use std::alloc::AllocError;
 use std::error::Error;
 use std::fmt;
 
-/// Want of memory: a growth that the allocator refused. A `put_` call that answers it leaves the
-/// bytes unchanged.
+/// The allocator failed to grow a vector. A `put_` call that fails with it leaves the vector's bytes unchanged.
 pub type Memory = AllocError;
 
-/// What the negotiation of an option says (RFC 854, "TELNET Command Structure"; RFC 855 on
-/// options).
+/// What the negotiation of an option says (RFC 854, "TELNET Command Structure"; RFC 855 on options).
 #[derive(Clone, Copy, Debug, PartialEq, Eq, Hash)]
 pub enum Verb {
     /// The sender offers to use the option, or agrees to: byte 251.
@@ -40,7 +38,7 @@ impl Verb {
     }
 }
 
-/// An item that the stream delivers, lent from the decoder's buffers until the next push.
+/// An item of the stream, lent from the decoder's buffers until the next push.
 #[derive(Clone, Copy, Debug, PartialEq, Eq)]
 pub enum Item<'a> {
     /// A record: all data since the end of the previous record, each 255 once (RFC 885).
@@ -52,14 +50,13 @@ pub enum Item<'a> {
         /// The option's number.
         code: u8,
     },
-    /// A subnegotiation: the bytes between IAC SB and IAC SE, the option's number first, each 255
-    /// once (RFC 855).
+    /// A subnegotiation: the bytes between IAC SB and IAC SE, the option's number first, each 255 once (RFC 855).
     Sub(&'a [u8]),
     /// Any other command, by the byte after IAC: 0 to 249 but 239. Our profile gives it no meaning.
     Other(u8),
 }
 
-/// What a byte did to the stream.
+/// Whether a byte completed an item.
 #[derive(Clone, Copy, Debug, PartialEq, Eq, Hash)]
 pub enum Step {
     /// No item is complete.
@@ -71,16 +68,14 @@ pub enum Step {
 /// Why a byte was refused, or why a decoder wasn't made.
 #[derive(Clone, Copy, Debug, PartialEq, Eq, Hash)]
 pub enum WireFault {
-    /// A record has more bytes of data than the decoder's limit, or a subnegotiation more than 256
-    /// bytes. The byte that completes the first of these over the limit is refused: for a data byte
-    /// 255 that is the second 255.
+    /// A record has more bytes of data than the decoder's limit, or a subnegotiation more than 256 bytes. The byte that
+    /// completes the first of these over the limit is refused: for a data byte 255 that is the second 255.
     TooLong,
     /// Inside a subnegotiation, a byte other than IAC and SE follows IAC. That byte is refused.
     BadSub,
-    /// The allocator refused memory. Only `Decoder::new` answers it; `?` makes it from the
-    /// [`Memory`] of a `put_` call.
+    /// The allocator refused memory. Only `Decoder::new` returns it; `?` makes it from the [`Memory`] of a `put_` call.
     Memory,
-    /// An earlier byte was refused, and there was no `reset` since.
+    /// An earlier byte was refused, and `reset` wasn't called since.
     Failed,
 }
 

@@ -1,8 +1,7 @@
-//! Items as bytes, added at the end of a vector.
+//! Appends items, as bytes, to a vector.
 //!
-//! Each call adds exactly the item's spelling at the vector's end. It succeeds if the vector has
-//! room for it. If it answers want of memory, the vector holds what it held before. Its capacity
-//! never shrinks.
+//! Each call appends exactly the item's bytes. It succeeds if the vector has room for them. If memory is
+//! refused, the vector keeps the bytes that it had. Its capacity never shrinks.
 ghost use Rattle.std.specs.Prelude.{◌≡◌, ◌≤◌, ◌∷◌, ◌++◌, [], take, vec_len, OnOk, OnErr};
 ghost use Rattle.std.specs.List.{flat_map};
 ghost use Rattle.std.specs.Vec.{vec_capacity};
@@ -13,10 +12,9 @@ ghost use Rattle.telnet_wire.specs.Writing.{Appends, Tries, joined};
 use crate::codes::{EOR, IAC, SB, SE};
 use crate::wire::{Memory, Verb};
 
-/// Adds a record: its data, in which each 255 is doubled, and IAC EOR (RFC 885).
+/// Appends a record: its data, in which each 255 is doubled, and IAC EOR (RFC 885).
 ///
-/// It takes at most two bytes of room for each byte of data, and two more. A vector that can't grow
-/// keeps the bytes that it had.
+/// It needs at most two bytes for each byte of data, and two more. If memory is refused, the vector keeps its bytes.
 pub fn put_record(out: &mut Vec<u8>, bytes: &[u8]) -> Result<(), Memory>
     ensures { Appends out.old (text (record_tokens bytes.now)) result out.new }
 {
@@ -25,30 +23,29 @@ pub fn put_record(out: &mut Vec<u8>, bytes: &[u8]) -> Result<(), Memory>
     undo(out, start, written)
 }
 
-/// Adds the negotiation of an option: IAC, the verb and the option's code, three bytes (RFC 854,
+/// Appends the negotiation of an option: IAC, the verb and the option's code, three bytes (RFC 854,
 /// "TELNET Command Structure").
 ///
-/// A vector that can't grow keeps the bytes that it had.
+/// If memory is refused, the vector keeps the bytes that it had.
 pub fn put_option(out: &mut Vec<u8>, verb: Verb, code: u8) -> Result<(), Memory>
     ensures { Appends out.old (spelling (Opt verb code)) result out.new }
 {
     out.extend_from_slice(&[IAC, verb.code(), code])
 }
 
-/// Adds a subnegotiation: IAC SB, the bytes, in which each 255 is doubled, and IAC SE (RFC 855).
+/// Appends a subnegotiation: IAC SB, the bytes, in which each 255 is doubled, and IAC SE (RFC 855).
 ///
-/// The bytes begin with the option's code. A decoder of this crate refuses more than 256 of them;
-/// this call writes any number. A vector that can't grow keeps the bytes that it had.
+/// The bytes must begin with the option's code. A decoder of this crate refuses more than 256 of them;
+/// this call writes any number. If memory is refused, the vector keeps the bytes that it had.
 pub fn put_sub(out: &mut Vec<u8>, bytes: &[u8]) -> Result<(), Memory>
     ensures { Appends out.old (spelling (Sub bytes.now)) result out.new }
 {
     put_sub_parts(out, &[bytes])
 }
 
-/// Adds a subnegotiation whose bytes are in several parts, as [`put_sub`] does of the parts' bytes
-/// in order.
+/// Appends a subnegotiation whose bytes are in several parts, as [`put_sub`] does with the parts' bytes in order.
 ///
-/// A vector that can't grow keeps the bytes that it had, and none of the parts.
+/// If memory is refused, the vector keeps the bytes that it had, and has none of the parts.
 pub fn put_sub_parts(out: &mut Vec<u8>, parts: &[&[u8]]) -> Result<(), Memory>
     ensures { Appends out.old (spelling (Sub (joined parts.now))) result out.new }
 {

@@ -12,7 +12,7 @@ use Rattle.telnet_wire.specs.declared.wire.WireFault.{WireFault}
 use Rattle.telnet_wire.specs.declared.wire.Item.{Item}
 use Rattle.telnet_wire.specs.declared.wire.Item.TheVariants as lent
 use Rattle.telnet_wire.specs.Items.{WireItem, Record, Opt, Sub, Other, item_of, sent_bytes}
-use Rattle.telnet_wire.specs.Held.{Held, Takes, TakesAll, Refuses, step_of}
+use Rattle.telnet_wire.specs.DecoderValue.{DecoderValue, Takes, TakesAll, Refuses, step_of}
 use Rattle.tn3270e_msg.specs.declared.cause.Cause.{Cause}
 use Rattle.tn3270e_msg.specs.declared.cause.Cause.TheVariants.{BadRecord, Wire}
 use Rattle.tn3270e_msg.specs.declared.header.DataType.TheVariants.{Data3270}
@@ -133,14 +133,14 @@ for_talk talk after old item reply before out closes other takes ends sent = rec
 
 -- ---- a byte
 
-pub byte_breaks : (held after : Held) (talk : Term) (old station : Station) (out : Vec ℕ Global) (byte : ℕ) (fault : WireFault)
+pub byte_breaks : (held after : DecoderValue) (talk : Term) (old station : Station) (out : Vec ℕ Global) (byte : ℕ) (fault : WireFault)
     → IsRunning held → Refuses held byte fault → station ≡ before_byte old
     → TakesByte (terminal_of held talk None old out) byte (terminal_of after talk (Some Wire) station out)
 byte_breaks held after talk old station out byte fault running refused at =
     TakesByte.breaks held.rest talk fault refl (goes_wrong record_limit held byte fault running refused)
     (ap (λ (s : Station). terminal_of after talk (Some Wire) s out) at)
 
-pub byte_goes_on : (held after : Held) (talk : Term) (old station : Station) (out : Vec ℕ Global) (byte : ℕ)
+pub byte_goes_on : (held after : DecoderValue) (talk : Term) (old station : Station) (out : Vec ℕ Global) (byte : ℕ)
     → IsRunning held → Takes held byte after → More ≡ step_of after.ready → station ≡ before_byte old
     → TakesByte (terminal_of held talk None old out) byte (terminal_of after talk None station out)
 byte_goes_on held after talk old station out byte running takes more at =
@@ -148,7 +148,7 @@ byte_goes_on held after talk old station out byte running takes more at =
     (delivers_none record_limit held after byte running takes more)
     (ap (λ (s : Station). terminal_of after talk None s out) at)
 
-pub byte_completes : (held after : Held) (talk talks : Term) (old station new : Station) (before out : Vec ℕ Global) (byte : ℕ) (item : WireItem) (closes : Option Cause)
+pub byte_completes : (held after : DecoderValue) (talk talks : Term) (old station new : Station) (before out : Vec ℕ Global) (byte : ℕ) (item : WireItem) (closes : Option Cause)
     → IsRunning held → Takes held byte after → after.ready ≡ Some item → station ≡ before_byte old
     → ItemTaken talk station item before out closes talks new
     → TakesByte (terminal_of held talk None old before) byte (terminal_of after talks closes new out)
@@ -158,7 +158,7 @@ byte_completes held after talk talks old station new before out byte item closes
     (subst (λ (s : Station). TakesItem talk s item taken.says closes talks new) at taken.takes)
     (ap (λ (bytes : List ℕ). record { link = link_after after.rest talks closes; station = new; out = bytes }) taken.sent)
 
-pub left_running : (closes : Option Cause) (held : Held) → IsRunning held → IsLeft closes held
+pub left_running : (closes : Option Cause) (held : DecoderValue) → IsRunning held → IsLeft closes held
 left_running None held running = running
 left_running (Some cause) held running = running.limit_is
 
@@ -184,7 +184,7 @@ up_to_more old mid new bytes place count taken then_taken =
     subst (λ (some : List ℕ). TakesBytes old some new) (sym (take-add place count bytes)) (more_bytes old mid new (take place bytes) (take count (drop place bytes)) taken then_taken)
 
 -- room was made, and some bytes were taken
-pub some_more : (start : Terminal) (bytes : List ℕ) (place count : ℕ) (held after : Held) (talk talks : Term) (station new : Station) (out roomy sent : Vec ℕ Global) (closes is : Option Cause)
+pub some_more : (start : Terminal) (bytes : List ℕ) (place count : ℕ) (held after : DecoderValue) (talk talks : Term) (station new : Station) (out roomy sent : Vec ℕ Global) (closes is : Option Cause)
     → closes ≡ is → roomy.items ≡ out.items → TakesBytes start (take place bytes) (terminal_of held talk None station out)
     → TakesBytes (terminal_of held talk None station roomy) (take count (take (length bytes - place) (drop place bytes))) (terminal_of after talks closes new sent)
     → TakesBytes start (take (place + count) bytes) (terminal_of after talks is new sent)
@@ -206,9 +206,9 @@ byte_behind start mid new bytes place byte below at taken more =
 -- ---- data up to the next IAC
 
 -- behind its first byte
-data_goes_on : (run : List ℕ) (held after : Held) (talk : Term) (station : Station) (out : Vec ℕ Global) → IsRunning held → TakesAll held run [] after
+data_goes_on : (run : List ℕ) (held after : DecoderValue) (talk : Term) (station : Station) (out : Vec ℕ Global) → IsRunning held → TakesAll held run [] after
     → TakesBytes (terminal_of held talk None (before_byte station) out) run (terminal_of after talk None (before_byte station) out)
-data_goes_on [] held after talk station out running taken = ap (λ (h : Held). terminal_of h talk None (before_byte station) out) taken.1
+data_goes_on [] held after talk station out running taken = ap (λ (h : DecoderValue). terminal_of h talk None (before_byte station) out) taken.1
 data_goes_on (byte ∷ run) held after talk station out running taken =
     let none = none_completed taken.0.ready taken.1 taken.3 in (
       terminal_of taken.0 talk None (before_byte station) out,
@@ -217,7 +217,7 @@ data_goes_on (byte ∷ run) held after talk station out running taken =
           (subst (λ (items : List WireItem). TakesAll taken.0 run items after) none.1 taken.4),
     )
 
-data_begins : (byte : ℕ) (run : List ℕ) (held after : Held) (talk : Term) (station : Station) (out : Vec ℕ Global) → IsRunning held → TakesAll held (byte ∷ run) [] after
+data_begins : (byte : ℕ) (run : List ℕ) (held after : DecoderValue) (talk : Term) (station : Station) (out : Vec ℕ Global) → IsRunning held → TakesAll held (byte ∷ run) [] after
     → TakesBytes (terminal_of held talk None station out) (byte ∷ run) (terminal_of after talk None (before_byte station) out)
 data_begins byte run held after talk station out running taken =
     let none = none_completed taken.0.ready taken.1 taken.3 in (
@@ -227,7 +227,7 @@ data_begins byte run held after talk station out running taken =
           (subst (λ (items : List WireItem). TakesAll taken.0 run items after) none.1 taken.4),
     )
 
-pub data_taken : (run : List ℕ) (held after : Held) (talk : Term) (old station : Station) (out : Vec ℕ Global) → IsRunning held → TakesAll held run [] after
+pub data_taken : (run : List ℕ) (held after : DecoderValue) (talk : Term) (old station : Station) (out : Vec ℕ Global) → IsRunning held → TakesAll held run [] after
     → 0 < length run → station ≡ before_byte old
     → TakesBytes (terminal_of held talk None old out) run (terminal_of after talk None station out)
 data_taken [] held after talk old station out running taken some at = absurd (omega arith)
@@ -237,7 +237,7 @@ data_taken (byte ∷ run) held after talk old station out running taken some at 
 
 -- ---- the parts of a terminal
 
-pub limit_of : (attachment : Attachment) (held : Held) → IsSound attachment held → held.limit ≡ record_limit
+pub limit_of : (attachment : Attachment) (held : DecoderValue) → IsSound attachment held → held.limit ≡ record_limit
 limit_of part.Detached held sound = sound
 limit_of (part.Attached talk) held sound = sound.limit_is
 limit_of (part.Closed cause) held sound = sound

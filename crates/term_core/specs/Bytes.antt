@@ -1,5 +1,5 @@
--- What a terminal makes of bytes: they are read as the stream of RFC 854, 855 and 885, and what this hands out is taken. That
--- the terminal closes where the stream is broken is our profile.
+-- What bytes do to a terminal: they are decoded as a stream of RFC 854, 855 and 885, and the items of the stream are
+-- taken. That the terminal closes the connection if the stream is broken is our profile.
 use Rattle.std.specs.Prelude.{◌≡◌, ℕ, false, List, [], ◌∷◌, ◌++◌, Option, None, Some}
 use Rattle.telnet_wire.specs.Items.{WireItem, sent_bytes}
 use Rattle.telnet_wire.specs.Reading.{Rest, Delivers, GoesWrong}
@@ -11,7 +11,7 @@ use Rattle.tn3270e_msg.specs.Header.{record_limit}
 use Rattle.term_core.specs.State.{Terminal, Link, Station, Attached, Closed}
 use Rattle.term_core.specs.Items.{TakesItem}
 
--- the station before what the byte completes: no write is taken yet
+-- the station before an item is taken: `took_write` is cleared
 abbrev pub before_byte : Station → Station
 before_byte station = record station { took_write = false }
 
@@ -19,18 +19,23 @@ abbrev pub link_after : Rest → Term → Option Cause → Link
 link_after rest talk None = Attached rest talk
 link_after rest talk (Some cause) = Closed cause
 
--- a byte comes: nothing is complete with it; it completes an item; or it breaks the stream
+-- the terminal takes a byte: it completes nothing; it completes an item; or it breaks the stream
 pub data TakesByte (old : Terminal) (byte : ℕ) (new : Terminal) : Type 0 where
-  goes_on : (rest to : Rest) (talk : Term) → old.link ≡ Attached rest talk → Delivers record_limit rest (byte ∷ []) [] to
-      → new ≡ record { link = Attached to talk; station = before_byte old.station; out = old.out } → TakesByte old byte new
-  completes : (rest to : Rest) (talk after : Term) (item : WireItem) (says : List WireItem) (closes : Option Cause) (station : Station)
+  goes_on : (rest to : Rest) (talk : Term) → old.link ≡ Attached rest talk
+      → Delivers record_limit rest (byte ∷ []) [] to
+      → new ≡ record { link = Attached to talk; station = before_byte old.station; out = old.out }
+      → TakesByte old byte new
+  completes : (rest to : Rest) (talk after : Term) (item : WireItem) (says : List WireItem) (closes : Option Cause)
+      (station : Station)
       → old.link ≡ Attached rest talk → Delivers record_limit rest (byte ∷ []) (item ∷ []) to
       → TakesItem talk (before_byte old.station) item says closes after station
-      → new ≡ record { link = link_after to after closes; station = station; out = old.out ++ sent_bytes says } → TakesByte old byte new
-  breaks : (rest : Rest) (talk : Term) (fault : WireFault) → old.link ≡ Attached rest talk → GoesWrong record_limit rest (byte ∷ []) fault
+      → new ≡ record { link = link_after to after closes; station = station; out = old.out ++ sent_bytes says }
+      → TakesByte old byte new
+  breaks : (rest : Rest) (talk : Term) (fault : WireFault) → old.link ≡ Attached rest talk
+      → GoesWrong record_limit rest (byte ∷ []) fault
       → new ≡ record { link = Closed Wire; station = before_byte old.station; out = old.out } → TakesByte old byte new
 
--- bytes come, one after another; a terminal that isn't attached, or has closed, takes none
+-- holds if the terminal takes the bytes one after another; one that isn't attached, or has closed, takes none
 abbrev pub TakesBytes : Terminal → List ℕ → Terminal → Type 0
 TakesBytes old [] new = new ≡ old
 TakesBytes old (byte ∷ bytes) new = (mid : Terminal) × TakesByte old byte mid × TakesBytes mid bytes new

@@ -1,4 +1,4 @@
--- What a terminal makes of what the stream hands out: options and subnegotiations (RFC 1647, section 7), and records (section 8).
+-- What the items of the stream do to a terminal: options, subnegotiations (RFC 1647, section 7), records (section 8).
 use Rattle.std.specs.Prelude.{◌≡◌, List, Option}
 use Rattle.telnet_wire.specs.Items.{WireItem, Record}
 use Rattle.tn3270e_msg.specs.TermTable.{Term, TermTakes}
@@ -10,8 +10,9 @@ use Rattle.tn3270e_msg.specs.declared.term_talk.TermState.TheVariants.{Agreed}
 use Rattle.term_core.specs.State.{Station}
 use Rattle.term_core.specs.Records.{TakesRecord}
 
--- the talk takes an item: what it replies is sent, and it may close the connection
-pub record Talks (talk : Term) (item : WireItem) (says : List WireItem) (closes : Option Cause) (after : Term) : Type 0 where
+-- the negotiation takes an item: its reply is sent, and it may close the connection
+pub record Talks (talk : Term) (item : WireItem) (says : List WireItem) (closes : Option Cause)
+    (after : Term) : Type 0 where
   pub reply : Reply
   pub takes : TermTakes talk item reply after
   pub sends : says ≡ items_sent reply
@@ -20,9 +21,10 @@ pub record Talks (talk : Term) (item : WireItem) (says : List WireItem) (closes 
 abbrev pub TalksOn : Term → Station → WireItem → List WireItem → Option Cause → Term → Station → Type 0
 TalksOn talk old item says closes after new = Talks talk item says closes after × (new ≡ old)
 
--- A record is for the screen once the terminal is bound to an LU; before that, and with all else, the talk goes on.
+-- Once the terminal is bound to an LU, a record is for the screen. All else goes to the negotiation.
 abbrev pub TakesItemIn : TermState → Term → Station → WireItem → List WireItem → Option Cause → Term → Station → Type 0
-TakesItemIn (Agreed lu) talk old (Record bytes) says closes after new = TakesRecord old bytes says closes new × (after ≡ talk)
+TakesItemIn (Agreed lu) talk old (Record bytes) says closes after new = TakesRecord old bytes says closes new
+    × (after ≡ talk)
 TakesItemIn state talk old item says closes after new = TalksOn talk old item says closes after new
 
 abbrev pub TakesItem : Term → Station → WireItem → List WireItem → Option Cause → Term → Station → Type 0

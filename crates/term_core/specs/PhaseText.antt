@@ -5,7 +5,7 @@ use Rattle.tn3270e_msg.specs.Words.{cause_number, lu_text}
 use Rattle.term_core.specs.declared.phase.TermPhase.{TermPhase}
 use Rattle.term_core.specs.declared.phase.TermPhase.TheVariants as phase
 
--- the phase's name, and the LU, the code of the reason (RFC 1647, section 3) or the number of the cause
+-- the phase's name, followed by the LU, the reason's code (RFC 1647, section 3) or the cause's number
 abbrev pub phase_text : TermPhase → List ℕ
 phase_text phase.Idle = codes "idle"
 phase_text phase.Talking = codes "talking"

@@ -1,5 +1,5 @@
--- What a terminal makes of a record, once it is bound (RFC 1647, sections 8.1 and 10.4; for what a command does and which
--- data it gets GA23-0059-07, "3270 Data Stream Commands"; the refusals of commands are our profile).
+-- What a record does to a bound terminal (RFC 1647, sections 8.1 and 10.4; for the effect of a command, and the data
+-- that it returns, GA23-0059-07, "3270 Data Stream Commands"; which commands are rejected is our profile).
 use Rattle.std.specs.Prelude.{◌≡◌, ◌≢◌, ◌==◌, ◌&&◌, ℕ, Bool, true, false, List, [], ◌∷◌, ◌++◌, Option, None, Some, if◌then◌else◌}
 use Rattle.codes3270.specs.Size.{alternate_of}
 use Rattle.datastream.specs.Screen.{Screen}
@@ -24,15 +24,15 @@ use Rattle.term_core.specs.declared.outcome.Outcome.TheVariants.{DeviceEnd, Refu
 use Rattle.term_core.specs.State.{Station}
 use Rattle.term_core.specs.Says.{response, data_record}
 
--- the response to a command that was refused: none where its record wants none (response flag 0)
+-- the response to a command that is rejected: none if its record asks for none (response flag 0)
 abbrev pub refused_response : ℕ → ℕ → Outcome → List WireItem
 refused_response flag number outcome = if flag == 0 then [] else response number outcome ∷ []
 
--- the response to a command that was done: one where its record wants one in any case (response flag 2)
+-- the response to a command that is executed: one only if its record always asks for one (response flag 2)
 abbrev pub done_response : ℕ → ℕ → List WireItem
 done_response flag number = if flag == 2 then response number DeviceEnd ∷ [] else []
 
--- the data that a read command gets; other commands get none
+-- the data that a read command returns; other commands return none
 abbrev pub data_read : CommandCode → Screen → Option (List ℕ)
 data_read ReadBuffer screen = Some (read_buffer screen)
 data_read ReadModified screen = Some (read_modified false screen)
@@ -42,12 +42,12 @@ data_read EraseWrite screen = None
 data_read EraseWriteAlternate screen = None
 data_read EraseAllUnprotected screen = None
 
--- a record of data, if there is some
+-- the data record with a sequence number, if there is data
 abbrev pub data_sent : ℕ → Option (List ℕ) → List WireItem
 data_sent number None = []
 data_sent number (Some body) = data_record number body ∷ []
 
--- it takes a number
+-- the next sequence number: a data record uses one
 abbrev pub number_behind : Option (List ℕ) → ℕ → ℕ
 number_behind None number = number
 number_behind (Some body) number = next_number number
@@ -55,16 +55,16 @@ number_behind (Some body) number = next_number number
 abbrev pub numbered : Option (List ℕ) → Station → Station
 numbered body station = record station { number = number_behind body station.number }
 
--- the keyboard is freed by a command that restores
+-- the keyboard after a command: one with keyboard restore frees it
 abbrev pub freed_if : Bool → Keyboard → Keyboard
 freed_if true keyboard = freed keyboard
 freed_if false keyboard = keyboard
 
--- a write, and not Erase All Unprotected, that restores
+-- whether a command is a write (not Erase All Unprotected) with keyboard restore
 abbrev pub is_restoring_write : CommandParts → Bool
 is_restoring_write command = is_write command.code && (asked_by command).restore
 
--- the command is applied
+-- the station after a command is applied
 abbrev pub applied : CommandParts → Station → Station
 applied command old = record old {
   screen = screen_applied command old.screen;
@@ -72,33 +72,38 @@ applied command old = record old {
   took_write = is_restoring_write command;
 }
 
--- what a command that is done gets: first it is applied, then a read gets its data, then comes the response
+-- what a command that is executed sends: it is applied first, then a read returns its data, then the response follows
 abbrev pub answer_of : Header → CommandParts → Station → List WireItem
 answer_of header command old =
-    data_sent old.number (data_read command.code (applied command old).screen.screen) ++ done_response header.flag header.seq
+    data_sent old.number (data_read command.code (applied command old).screen.screen)
+    ++ done_response header.flag header.seq
 
+-- the station after a command is executed
 abbrev pub obeyed : CommandParts → Station → Station
 obeyed command old =
     let done = applied command old in
     numbered (data_read command.code done.screen.screen) done
 
--- the bytes spell the command for the screen's size and its model's alternate size
+-- holds if the bytes encode the command, for the screen's size and its model's alternate size
 abbrev pub SpellsCommand : Station → CommandParts → List ℕ → Type 0
 SpellsCommand station command bytes = IsCommand station.screen.size (alternate_of station.screen.model) command bytes
 
--- they spell none, and this is the first fault in them
+-- holds if the bytes encode no command, and this is the first fault in them
 abbrev pub SpellsNoCommand : Station → CommandFault → List ℕ → Type 0
 SpellsNoCommand station fault bytes = IsNoCommand station.screen.size (alternate_of station.screen.model) fault bytes
 
--- A record comes to a terminal that is bound; `says` is what it sends, `closes` the cause by which it closes the connection,
--- if it does. Without a header it closes; other data than 3270-DATA is dropped; a command that is refused changes nothing.
-pub data TakesRecord (old : Station) (bytes : List ℕ) (says : List WireItem) (closes : Option Cause) (new : Station) : Type 0 where
+-- A bound terminal takes a record: `says` is what it sends, `closes` the cause by which it closes the connection, if it
+-- does. A record without a header closes the connection; one that isn't 3270-DATA is dropped; a command that is
+-- rejected changes nothing.
+pub data TakesRecord (old : Station) (bytes : List ℕ) (says : List WireItem) (closes : Option Cause)
+    (new : Station) : Type 0 where
   no_header : (fault : HeadFault) → HasFault bytes fault
       → says ≡ [] → closes ≡ Some BadRecord → new ≡ old → TakesRecord old bytes says closes new
   dropped : (header : Header) (body : List ℕ) → Begins bytes header body → header.kind ≢ Data3270
       → says ≡ [] → closes ≡ None → new ≡ old → TakesRecord old bytes says closes new
   refused : (header : Header) (body : List ℕ) (fault : CommandFault) → Begins bytes header body → header.kind ≡ Data3270
-      → SpellsNoCommand old fault body → says ≡ refused_response header.flag header.seq (Refused (sense_of fault)) → closes ≡ None → new ≡ old
+      → SpellsNoCommand old fault body → says ≡ refused_response header.flag header.seq (Refused (sense_of fault))
+      → closes ≡ None → new ≡ old
       → TakesRecord old bytes says closes new
   obeys : (header : Header) (body : List ℕ) (command : CommandParts) → Begins bytes header body → header.kind ≡ Data3270
       → SpellsCommand old command body → says ≡ answer_of header command old → closes ≡ None → new ≡ obeyed command old

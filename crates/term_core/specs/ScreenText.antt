@@ -15,12 +15,12 @@ use Rattle.term_core.specs.State.{Station}
 abbrev pub newline : ℕ
 newline = 10
 
--- the characters that are printed for as many cells, from an address on
+-- the characters that are printed for `count` cells, from an address on
 unfoldable pub glyphs : List Cell → ℕ → ℕ → List ℕ
 glyphs cells at zero = []
 glyphs cells at (suc count) = glyph_at cells at ∷ glyphs cells (at + 1) count
 
--- a character in front of a text that has no blanks at its end: a blank alone is one
+-- a character before a trimmed text: a blank is dropped if no text follows
 abbrev pub before_trimmed : ℕ → List ℕ → List ℕ
 before_trimmed char [] = if char == blank then [] else char ∷ []
 before_trimmed char (next ∷ text) = char ∷ next ∷ text
@@ -30,39 +30,40 @@ abbrev pub trimmed : List ℕ → List ℕ
 trimmed [] = []
 trimmed (char ∷ text) = before_trimmed char (trimmed text)
 
--- the line of a row with these characters, in UTF-8
+-- the line for a row with these characters, in UTF-8
 abbrev pub line_of : List ℕ → List ℕ
 line_of row = flat_map encode_utf8 (trimmed row) ++ newline ∷ []
 
--- the line of a row of `columns` cells
+-- the line for the row with an index, in rows of `columns` cells
 abbrev pub line : ℕ → List Cell → ℕ → List ℕ
 line columns cells row = line_of (glyphs cells (row * columns) columns)
 
--- the lines of the first rows
+-- the lines for the first `count` rows
 unfoldable pub lines : ℕ → List Cell → ℕ → List ℕ
 lines columns cells zero = []
 lines columns cells (suc count) = lines columns cells count ++ line columns cells count
 
--- the lines of all rows
+-- the lines for all rows
 abbrev pub all_lines : SizedScreen → List ℕ
 all_lines sized = lines sized.size.columns sized.screen.cells sized.size.rows
 
--- what is added to the lock in insert mode
+-- the word after the lock's name in insert mode
 abbrev pub insert_word : Bool → List ℕ
 insert_word true = codes " insert"
 insert_word false = []
 
--- a byte's two digits
+-- a byte as two hexadecimal digits
 abbrev pub hexadecimal_digit : ℕ → ℕ
 hexadecimal_digit value = slice_index (codes "0123456789ABCDEF") value
 
 abbrev pub hexadecimal : ℕ → List ℕ
 hexadecimal byte = hexadecimal_digit (byte / 16) ∷ hexadecimal_digit (byte % 16) ∷ []
 
--- the line on the cursor, the keyboard and the AID
+-- the line with the cursor address, the keyboard lock and the AID
 abbrev pub status_line : Screen → Keyboard → List ℕ
 status_line screen keyboard =
-    codes "cursor " ++ decimal screen.cursor ++ codes " lock " ++ lock_name keyboard.lock ++ insert_word keyboard.inserting
+    codes "cursor " ++ decimal screen.cursor ++ codes " lock " ++ lock_name keyboard.lock
+    ++ insert_word keyboard.inserting
     ++ codes " aid " ++ hexadecimal (byte_of_aid screen.aid) ++ newline ∷ []
 
 abbrev pub screen_text : Station → List ℕ
@@ -70,10 +71,10 @@ screen_text station = all_lines station.screen ++ status_line station.screen.scr
 
 -- ---- for private functions: the same text, a character at a time; blanks wait until another character comes
 
--- what is added where a character comes
+-- what a character adds to a line: nothing if it is a blank, else the blanks that wait and itself
 abbrev pub let_out : ℕ → ℕ → List ℕ
 let_out waiting glyph = if glyph == blank then [] else replicate waiting blank ++ glyph ∷ []
 
--- the number of blanks that wait after it
+-- the number of blanks that wait after a character
 abbrev pub waiting_behind : ℕ → ℕ → ℕ
 waiting_behind waiting glyph = if glyph == blank then waiting + 1 else 0

@@ -1,4 +1,4 @@
--- A terminal, seen from outside (our profile).
+-- The state of a terminal, as contracts see it (our profile).
 use Rattle.std.specs.Prelude.{ℕ, Bool, true, false, List, [], Option}
 use Rattle.codes3270.specs.declared.size.Model.{Model}
 use Rattle.presentation.specs.Sizes.{SizedScreen, blank_of}
@@ -11,52 +11,53 @@ use Rattle.tn3270e_msg.specs.declared.cause.Cause.{Cause}
 use Rattle.term_core.specs.declared.phase.TermPhase.{TermPhase}
 use Rattle.term_core.specs.declared.phase.TermPhase.TheVariants as phase
 
--- whether the terminal is attached to a connection: what it holds of the stream since it was, and how far the talk is; or
--- the cause by which it closed the connection
+-- the terminal's connection: none; attached, with the undecoded rest of the stream and the state of the negotiation; or
+-- closed by the terminal, with the cause
 pub data Link : Type 0 where
   Detached : Link
   Attached : Rest → Term → Link
   Closed : Cause → Link
 
--- what the operator has before him
+-- the screen and the keyboard before the operator
 pub record Station : Type 0 where
   pub screen : SizedScreen
   pub keyboard : Keyboard
   pub number : ℕ  -- of the next record of data on this connection
-  pub took_write : Bool  -- whether the last byte that came completed a write with restore, which was applied
+  pub took_write : Bool  -- whether the last byte completed a write with keyboard restore, which was applied
 
 pub record Terminal : Type 0 where
   pub link : Link
   pub station : Station
   pub out : List ℕ  -- what it has to send
 
--- A terminal as a program owns it, with the capacity of its output buffer: how many bytes may wait there unsent before the
--- buffer has to grow.
-pub record Device : Type 0 where
+-- A terminal as a program has it, with the capacity of its output buffer: how many bytes may wait there unsent before
+-- the buffer has to grow.
+pub record TerminalWithRoom : Type 0 where
   pub terminal : Terminal
   pub room : ℕ
 
--- a screen that was left, with a keyboard that waits
+-- the station with this screen before a host writes on it: its keyboard waits
 abbrev pub waiting : SizedScreen → Station
 waiting screen = record { screen = screen; keyboard = fresh; number = 0; took_write = false }
 
--- a terminal of a model as it begins, also after a restart
+-- a terminal of this model after `new` or `restart`
 abbrev pub new_terminal : Model → Terminal
 new_terminal model = record { link = Detached; station = waiting (blank_of model); out = [] }
 
--- at the begin of a connection, on which it wants this LU, if one
+-- a terminal at the beginning of a connection, on which it asks for the LU `wanted`, if there is one
 abbrev pub connected : Model → Option (List ℕ) → Terminal
-connected model wanted = record { link = Attached nothing (term_start model wanted); station = waiting (blank_of model); out = [] }
+connected model wanted =
+    record { link = Attached nothing (term_start model wanted); station = waiting (blank_of model); out = [] }
 
--- its model
+-- the terminal's model
 abbrev pub model_of : Terminal → Model
 model_of terminal = terminal.station.screen.model
 
--- the connection is lost: the screen stays
+-- the terminal after its connection is lost: the screen stays
 abbrev pub lost : Terminal → Terminal
 lost old = record { link = Detached; station = waiting old.station.screen; out = [] }
 
--- its phase while it talks
+-- the phase of an attached terminal, by the state of the negotiation
 abbrev pub talk_phase : TermState → TermPhase
 talk_phase (Agreed lu) = phase.Bound lu
 talk_phase (Refused reason) = phase.Refused reason

@@ -1,4 +1,4 @@
-//! How a terminal that is attached takes bytes.
+//! Feeding bytes from the host to a terminal that is attached to a connection.
 ghost use Rattle.std.specs.Prelude.{◌≡◌, ◌<◌, ◌≤◌, ◌++◌, ℕ, false, length, take, None, Vec};
 ghost use Rattle.std.specs.declared.alloc.Global.{Global};
 ghost use Rattle.std.specs.Vec.{vec_capacity};
@@ -15,7 +15,7 @@ use crate::station::Station;
 use telnet_wire::{Decoder, Item, Step};
 use tn3270e_msg::{Cause, Fed, Stop, TermState, TermTalk, put_reply};
 
-/// Takes bytes as long as the connection is open and there is room for a reply.
+/// Takes bytes until all are taken, one closes the connection, or memory for the largest reply is refused.
 pub(crate) fn feed_attached(
     talk: &mut TermTalk,
     decoder: &mut Decoder,
@@ -25,8 +25,10 @@ pub(crate) fn feed_attached(
 ) -> Fed
     requires { IsRunning decoder.old }
     ensures few { result.taken ≤ length bytes.now }
-    ensures takes { TakesBytes (terminal_of decoder.old talk.old None station.old out.old) (take result.taken bytes.now) (terminal_of decoder.new talk.new (cause_of result.stop) station.new out.new) }
-    ensures stops { StopsFor (vec_capacity out.new) result.stop (terminal_of decoder.old talk.old None station.old out.old) bytes.now result.taken (terminal_of decoder.new talk.new (cause_of result.stop) station.new out.new) }
+    ensures takes { TakesBytes (terminal_of decoder.old talk.old None station.old out.old) (take result.taken bytes.now)
+        (terminal_of decoder.new talk.new (cause_of result.stop) station.new out.new) }
+    ensures stops { StopsFor (vec_capacity out.new) result.stop (terminal_of decoder.old talk.old None station.old
+        out.old) bytes.now result.taken (terminal_of decoder.new talk.new (cause_of result.stop) station.new out.new) }
     ensures left { IsLeft (cause_of result.stop) decoder.new }
     ensures capacity { vec_capacity out.old ≤ vec_capacity out.new }
 {
@@ -53,8 +55,8 @@ pub(crate) fn feed_attached(
     }
 }
 
-/// Takes the data up to the next IAC, which needs no room, and the byte after it. Answers how many bytes these are, and the cause by
-/// which the last closes the connection, if it does.
+/// Takes the data bytes up to the next IAC, which need no room for a reply, and the byte after them. Returns the number
+/// of these bytes, and the cause by which the last one closes the connection, if it does.
 fn take_some(
     talk: &mut TermTalk,
     decoder: &mut Decoder,
@@ -67,7 +69,8 @@ fn take_some(
     requires some { 0 < length bytes.now }
     ensures some { 0 < result.0 }
     ensures few { result.0 ≤ length bytes.now }
-    ensures taken { TakesBytes (terminal_of decoder.old talk.old None station.old out.old) (take result.0 bytes.now) (terminal_of decoder.new talk.new result.1 station.new out.new) }
+    ensures taken { TakesBytes (terminal_of decoder.old talk.old None station.old out.old) (take result.0 bytes.now)
+        (terminal_of decoder.new talk.new result.1 station.new out.new) }
     ensures left { IsLeft result.1 decoder.new }
     ensures capacity { vec_capacity out.old ≤ vec_capacity out.new }
 {
@@ -81,14 +84,15 @@ fn take_some(
     }
 }
 
-/// Takes the data up to the next IAC, and answers how many bytes these are. Of a single byte it takes none.
+/// Takes the data bytes up to the next IAC, and returns their number. If there is only one byte it takes none.
 fn take_data(decoder: &mut Decoder, station: &mut Station, bytes: &[u8]) -> usize
     requires { IsRunning decoder.old }
     ensures few { result ≤ length bytes.now }
-    ensures taken { (talk : Term) (out : Vec ℕ Global) → TakesBytes (terminal_of decoder.old talk None station.old out) (take result bytes.now) (terminal_of decoder.new talk None station.new out) }
+    ensures taken { (talk : Term) (out : Vec ℕ Global) → TakesBytes (terminal_of decoder.old talk None station.old out)
+        (take result bytes.now) (terminal_of decoder.new talk None station.new out) }
     ensures running { IsRunning decoder.new }
 {
-    // A byte alone is pushed for less.
+    // `take_byte` costs less for a single byte.
     if bytes.len() < 2 {
         return 0;
     }
@@ -99,7 +103,7 @@ fn take_data(decoder: &mut Decoder, station: &mut Station, bytes: &[u8]) -> usiz
     count
 }
 
-/// Takes a byte, and answers the cause by which it closes the connection, if it does.
+/// Takes a byte, and returns the cause by which it closes the connection, if it does.
 fn take_byte(
     talk: &mut TermTalk,
     decoder: &mut Decoder,
@@ -109,7 +113,8 @@ fn take_byte(
 ) -> Option<Cause>
     requires running { IsRunning decoder.old }
     requires room { HasRoom out.old }
-    ensures taken { TakesByte (terminal_of decoder.old talk.old None station.old out.old) byte (terminal_of decoder.new talk.new result station.new out.new) }
+    ensures taken { TakesByte (terminal_of decoder.old talk.old None station.old out.old) byte
+        (terminal_of decoder.new talk.new result station.new out.new) }
     ensures left { IsLeft result decoder.new }
     ensures capacity { vec_capacity out.old ≤ vec_capacity out.new }
 {
@@ -121,7 +126,7 @@ fn take_byte(
     }
 }
 
-/// Takes what the stream hands out, and answers the cause by which it closes the connection, if it does.
+/// Takes an item that the decoder delivers, and returns the cause by which it closes the connection, if it does.
 fn take_item(
     talk: &mut TermTalk,
     station: &mut Station,

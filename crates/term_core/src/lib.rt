@@ -1,5 +1,8 @@
-//! The terminal whole: Telnet bytes and keystrokes come in, Telnet bytes and a printed screen go out. It owns no connection
-//! and waits for nothing: its caller feeds it bytes, and sends what it has to send.
+//! A whole TN3270E display terminal: Telnet bytes and keystrokes go in, Telnet bytes and a printed screen come out. It
+//! has no socket and no clock: its caller feeds it the host's bytes ([`Terminal::feed`]) and keys
+//! ([`Terminal::press`]), and sends what is in [`Terminal::out`]. It joins `telnet_wire` (the stream), `tn3270e_msg`
+//! (the negotiation), `presentation` (the screen) and `keyboard`. Drawing on a tty and reading its keys are the parts
+//! of `tty_screen` and `tty_keys`.
 //!
 //! ```rust
 //! let mut terminal = Terminal::new(alloc, Model::M2)?;
@@ -22,10 +25,10 @@
 //! println!(rt; "{}", terminal.screen_text(alloc)?)?;
 //! ```
 //!
-//! The repository's `tests/cases` has whole dialogues with a terminal, byte for byte.
-//! `specs/Feeds` says what feeding is, `Bytes`, `Items` and `Records` what bytes make of a terminal, `Presses` what keys do,
-//! `Says` what is sent, and `ScreenText` what is printed. [`laws::one_machine`] has the laws of these as its contract, and
-//! [`laws::room_suffices`] those of its output's room (`Room`).
+//! The repository's `tests/cases` has whole dialogues with a terminal, byte for byte. `specs/Feeds` defines feeding;
+//! `Bytes`, `Items` and `Records` what bytes do to a terminal; `Presses` what keys do; `Says` what is sent; and
+//! `ScreenText` what is printed. [`laws::one_machine`] has the laws of these as its contract, and
+//! [`laws::room_suffices`] those of the output buffer's capacity (`Room`).
 #![tactic(auto)]
 
 mod feeding;

@@ -1,10 +1,10 @@
 use datastream::Sense;
 
-/// What became of a command (RFC 1647, section 10.4).
+/// The outcome of a command, which a response reports to the host (RFC 1647, section 10.4).
 #[derive(Clone, Copy, Debug, PartialEq, Eq)]
 pub enum Outcome {
-    /// It was done: POSITIVE, DEVICE-END.
+    /// The command was executed: a POSITIVE response with DEVICE-END.
     DeviceEnd,
-    /// It has a fault: NEGATIVE, and this.
+    /// The command was rejected: a NEGATIVE response with this sense.
     Refused(Sense),
 }

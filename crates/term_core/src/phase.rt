@@ -1,22 +1,22 @@
-//! How far a terminal is with its host.
+//! The phase of a terminal's connection to its host.
 ghost use Rattle.std.specs.Prelude.{◌≡◌};
 ghost use Rattle.term_core.specs.State.{is_bound};
 
 use std::fmt;
 use tn3270e_msg::{Cause, Lu, Reason};
 
-/// How far a terminal is with its host.
+/// The phase of a terminal's connection to its host (our profile).
 #[derive(Clone, Copy, Debug, PartialEq, Eq)]
 pub enum TermPhase {
-    /// It isn't attached to a connection.
+    /// The terminal isn't attached to a connection.
     Idle,
-    /// The negotiation goes on.
+    /// The terminal is attached, and the negotiation isn't complete.
     Talking,
-    /// It is bound to this LU, and the host writes on its screen.
+    /// The terminal is bound to this LU, and the host writes on its screen.
     Bound(Lu),
-    /// The host refused it an LU for this reason; the connection is still there.
+    /// The host rejected the device request for this reason; the connection is still open.
     Refused(Reason),
-    /// It closed the connection for this cause.
+    /// The terminal closed the connection for this cause.
     Closed(Cause),
 }
 

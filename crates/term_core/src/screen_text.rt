@@ -18,7 +18,8 @@ const HEXADECIMAL: [char; 16] = [
 
 /// Adds blanks.
 fn put_blanks(text: &mut String, count: u16) -> Result<(), Memory>
-    ensures { OnOk result (string_bytes text.new ≡ string_bytes text.old ++ flat_map encode_utf8 (replicate count blank)) }
+    ensures { OnOk result
+        (string_bytes text.new ≡ string_bytes text.old ++ flat_map encode_utf8 (replicate count blank)) }
 {
     for _ in 0..count {
         text.push(' ')?;
@@ -26,9 +27,10 @@ fn put_blanks(text: &mut String, count: u16) -> Result<(), Memory>
     Ok(())
 }
 
-/// Adds a character of a row, and before it the blanks that wait. A blank is not added: it waits.
+/// Adds a character of a row, and before it the blanks that wait. A blank isn't added yet: it waits.
 fn put_glyph(text: &mut String, waiting: u16, glyph: char) -> Result<(), Memory>
-    ensures { OnOk result (string_bytes text.new ≡ string_bytes text.old ++ flat_map encode_utf8 (let_out waiting glyph)) }
+    ensures { OnOk result
+        (string_bytes text.new ≡ string_bytes text.old ++ flat_map encode_utf8 (let_out waiting glyph)) }
 {
     if glyph == ' ' {
         return Ok(());
@@ -37,7 +39,7 @@ fn put_glyph(text: &mut String, waiting: u16, glyph: char) -> Result<(), Memory>
     text.push(glyph)
 }
 
-/// The number of blanks that wait after a character of a row, if `waiting` wait before it.
+/// The number of blanks that wait after a character of a row, if `waiting` blanks wait before it.
 fn waiting_behind(waiting: u16, glyph: char) -> u16
     requires { waiting + 1 < 2 ^ 16 }
     ensures count { result ≡ waiting_behind waiting glyph }
@@ -46,7 +48,7 @@ fn waiting_behind(waiting: u16, glyph: char) -> u16
     if glyph == ' ' { waiting + 1 } else { 0 }
 }
 
-/// Adds the row that comes next without the blanks at its end, and a newline.
+/// Adds the next row without the blanks at its end, and a newline.
 fn put_line(text: &mut String, glyphs: &mut Glyphs<'_>, columns: u16) -> Result<(), Memory>
     requires { columns ≤ length glyphs.old }
     ensures text { OnOk result (string_bytes text.new ≡ string_bytes text.old ++ line_of (take columns glyphs.old)) }
@@ -73,8 +75,8 @@ fn put_lines(text: &mut String, screen: &Screen) -> Result<(), Memory>
     Ok(())
 }
 
-/// A screen's rows as text (our profile): a line for each row of its size, without the blanks at its end. Each line ends
-/// with a newline.
+/// A screen's rows as text (our profile): a line for each row of the screen's size, without the blanks at the row's
+/// end. Each line ends with a newline. Err only if memory is refused.
 pub fn screen_lines(alloc: Global, screen: &Screen) -> Result<String, Memory>
     ensures { IfOk result (λ text. string_bytes text ≡ all_lines screen.now) }
 {
@@ -83,14 +85,14 @@ pub fn screen_lines(alloc: Global, screen: &Screen) -> Result<String, Memory>
     Ok(text)
 }
 
-/// What is added to the lock in insert mode.
+/// The word after the lock's name: ` insert` in insert mode, else nothing.
 fn insert_word(inserting: bool) -> &'static str
     ensures { result.now ≡ insert_word inserting }
 {
     if inserting { " insert" } else { "" }
 }
 
-/// Adds the line on the cursor, the keyboard and the AID.
+/// Adds the line with the cursor address, the keyboard lock and the AID.
 fn put_status(text: &mut String, screen: &Screen, keyboard: Keyboard) -> Result<(), Memory>
     ensures { OnOk result (string_bytes text.new ≡ string_bytes text.old ++ status_line screen.now.screen keyboard) }
 {
@@ -107,8 +109,9 @@ fn put_status(text: &mut String, screen: &Screen, keyboard: Keyboard) -> Result<
 }
 
 impl Terminal {
-    /// The screen as text (our profile): its rows as `screen_lines` gives them, and a line `cursor N lock L aid XX`, where L
-    /// is `free`, `wait` or `error`, followed by ` insert` in insert mode, and XX the AID's byte in hexadecimal.
+    /// The screen as text (our profile): its rows as `screen_lines` returns them, and a line `cursor N lock L aid XX`.
+    /// N is the cursor address, L is `free`, `wait` or `error`, followed by ` insert` in insert mode, and XX is the AID
+    /// in hexadecimal. Err only if memory is refused.
     pub fn screen_text(&self, alloc: Global) -> Result<String, Memory>
         ensures { IfOk result (λ text. string_bytes text ≡ screen_text self.now.terminal.station) }
     {

@@ -1,10 +1,10 @@
-//! The display station: screen and keyboard, and what records and keys make of them.
+//! The display station: the screen and the keyboard, and what records and keys do to them.
 ghost use Rattle.std.specs.Prelude.{◌≡◌, ◌≤◌, ◌+◌, ◌++◌, ◌∷◌, [], Bool, None, Some, IfOk, MatchResult, length, vec_len};
 ghost use Rattle.std.specs.Vec.{vec_capacity};
 ghost use Rattle.datastream.specs.Grammar.{is_write};
 ghost use Rattle.codes3270.specs.Size.{alternate_of};
 ghost use Rattle.presentation.specs.Sizes.{IsReadFor, blank_of};
-ghost use Rattle.datastream.specs.Screen.{Screen as Shown};
+ghost use Rattle.datastream.specs.Screen.{Screen as ScreenValue};
 ghost use Rattle.datastream.specs.Inbound.{read_modified, read_buffer};
 ghost use Rattle.term_core.specs.State.{waiting};
 ghost use Rattle.term_core.specs.Bytes.{before_byte};
@@ -31,31 +31,32 @@ use tn3270e_msg::{
     next_seq, read_header,
 };
 
-/// What the operator has before him, and the room for a record.
+/// The screen, the keyboard, the sequence number of the next data record, and a buffer for a record.
 #[derive(Drop)]
 pub(crate) struct Station {
     screen: Screen,
     keyboard: Keyboard,
     number: u16,
     took_write: bool,
-    // For the largest record that is sent.
-    room: Vec<u8>,
+    // Has room for the largest record that is sent.
+    record_buffer: Vec<u8>,
 }
 
 impl marker::Model for Station {
     ghost use Rattle.std.specs.Prelude.{◌≤◌};
     ghost use Rattle.std.specs.Vec.{vec_capacity};
-    ghost use Rattle.term_core.specs.State.{Station as Kept};
+    ghost use Rattle.term_core.specs.State.{Station as StationValue};
     ghost use Rattle.term_core.specs.Room.{record_room};
 
-    ghost Value = { Kept };
+    ghost Value = { StationValue };
 
-    ghost view = { λ s. record { screen = s.screen; keyboard = s.keyboard; number = s.number; took_write = s.took_write } };
+    ghost view = { λ s.
+        record { screen = s.screen; keyboard = s.keyboard; number = s.number; took_write = s.took_write } };
 
-    ghost invariant = { λ s. record_room ≤ vec_capacity s.room };
+    ghost invariant = { λ s. record_room ≤ vec_capacity s.record_buffer };
 }
 
-/// A read: the modified fields as a key sends them, all of them whatever the AID, or the whole buffer.
+/// A read: of the modified fields as the AID asks for them, of all modified fields, or of the buffer.
 #[derive(Clone, Copy)]
 enum Reading {
     Modified,
@@ -63,9 +64,9 @@ enum Reading {
     Buffer,
 }
 
-/// The read that a command asks for.
+/// The read that a command asks for; `None` if it asks for none.
 fn reading_of(code: CommandCode) -> Option<Reading>
-    ensures { (screen : Shown) → data_read code screen ≡ data_if result screen }
+    ensures { (screen : ScreenValue) → data_read code screen ≡ data_if result screen }
 {
     match code {
         CommandCode::ReadModified => Some(Reading::Modified),
@@ -88,7 +89,7 @@ fn is_write(code: CommandCode) -> bool
     )
 }
 
-/// Sends the response to a command with this number.
+/// Appends the response to the command with this sequence number.
 fn send_response(out: &mut Vec<u8>, number: u16, outcome: Outcome)
     requires { HasRoomForResponse out.old }
     ensures sent { out.new.items ≡ out.old.items ++ sent_bytes (response number outcome ∷ []) }
@@ -110,21 +111,21 @@ fn send_response(out: &mut Vec<u8>, number: u16, outcome: Outcome)
 }
 
 impl Station {
-    /// As a terminal of a model begins: a blank screen, and a keyboard that waits.
+    /// The station of a terminal of this model: a blank screen, and a keyboard that waits for the host.
     pub(crate) fn new(alloc: Global, model: Model) -> Result<Station, Memory>
         ensures { IfOk result (λ station. station ≡ waiting (blank_of model)) }
     {
-        let room = Vec::with_capacity(alloc, RECORD_ROOM)?;
+        let record_buffer = Vec::with_capacity(alloc, RECORD_ROOM)?;
         Ok(Station {
             screen: Screen::blank(model),
             keyboard: Keyboard::new(),
             number: 0,
             took_write: false,
-            room,
+            record_buffer,
         })
     }
 
-    /// Waits for a host, with the screen as it is.
+    /// Resets all but the screen: the keyboard waits for a host.
     pub(crate) fn wait(&mut self)
         ensures { self.new ≡ waiting self.old.screen }
     {
@@ -133,7 +134,7 @@ impl Station {
         self.took_write = false;
     }
 
-    /// Resets everything: a blank screen, and a keyboard that waits.
+    /// Resets everything: the screen is blank, and the keyboard waits for a host.
     pub(crate) fn reset(&mut self)
         ensures { self.new ≡ waiting (blank_of self.old.screen.model) }
     {
@@ -159,18 +160,19 @@ impl Station {
         self.took_write
     }
 
-    /// A byte came that may complete no write.
+    /// Clears `took_write` before a byte is taken.
     pub(crate) fn begin_byte(&mut self)
         ensures { self.new ≡ before_byte self.old }
     {
         self.took_write = false;
     }
 
-    /// Sends a record of data that wants no response.
+    /// Appends a data record with what a read returns. The record asks for no response; the sequence number goes up.
     fn send(&mut self, reading: Reading, out: &mut Vec<u8>)
         requires { HasRoomForData out.old }
         ensures station { self.new ≡ numbered (Some (data_of reading self.old.screen.screen)) self.old }
-        ensures sent { out.new.items ≡ out.old.items ++ sent_bytes (data_record self.old.number (data_of reading self.old.screen.screen) ∷ []) }
+        ensures sent { out.new.items ≡ out.old.items
+            ++ sent_bytes (data_record self.old.number (data_of reading self.old.screen.screen) ∷ []) }
         ensures room { vec_len out.new ≤ vec_len out.old + data_room }
         ensures capacity { vec_capacity out.old ≤ vec_capacity out.new }
     {
@@ -180,14 +182,16 @@ impl Station {
             flag: NO_RESPONSE,
             seq: self.number,
         };
-        self.room.clear();
-        self.room.extend_from_slice(&header_bytes(&header)).unwrap();
-        put_reading(&self.screen, reading, &mut self.room);
-        put_record(out, self.room.as_slice()).unwrap();
+        self.record_buffer.clear();
+        self.record_buffer
+            .extend_from_slice(&header_bytes(&header))
+            .unwrap();
+        put_reading(&self.screen, reading, &mut self.record_buffer);
+        put_record(out, self.record_buffer.as_slice()).unwrap();
         self.number = next_seq(self.number);
     }
 
-    /// Applies a command, and sends the data that it asks for and then the response that its record wants.
+    /// Applies a command, and appends the data that it asks for and then the response that its header asks for.
     fn obey(&mut self, header: &Header, command: &Command<'_>, out: &mut Vec<u8>)
         requires room { HasRoom out.old }
         requires read { IsReadFor self.old.screen command.now }
@@ -208,7 +212,7 @@ impl Station {
         }
     }
 
-    /// The size that the screen has now.
+    /// The current size of the screen.
     fn size(&self) -> Size
         ensures { result ≡ self.now.screen.size }
     {
@@ -222,15 +226,16 @@ impl Station {
         self.screen.model().alternate()
     }
 
-    /// The command that the bytes spell for the screen, or the first fault in them.
+    /// The command that the bytes encode for this screen, or the first fault in them.
     fn read<'a>(&self, bytes: &'a [u8]) -> Result<Command<'a>, CommandFault>
-        ensures found { MatchResult result (λ command. SpellsCommand self.now command bytes.now) (λ fault. SpellsNoCommand self.now fault bytes.now) }
+        ensures found { MatchResult result (λ command. SpellsCommand self.now command bytes.now)
+            (λ fault. SpellsNoCommand self.now fault bytes.now) }
         ensures read { IfOk result (λ command. IsReadFor self.now.screen command) }
     {
         read_command(bytes, self.size(), self.alternate())
     }
 
-    /// Takes a record that comes to a bound terminal, and answers the cause by which it closes the connection, if it does.
+    /// Takes a record of a bound terminal, and returns the cause by which it closes the connection, if it does.
     pub(crate) fn take_record(&mut self, bytes: &[u8], out: &mut Vec<u8>) -> Option<Cause>
         requires { HasRoom out.old }
         ensures taken { RecordTaken self.old bytes.now out.old out.new result self.new }
@@ -253,7 +258,7 @@ impl Station {
         None
     }
 
-    /// Whether a key would send, which the key and the lock decide.
+    /// Whether a key sends data: an attention key while the lock is free.
     fn sends(&self, key: &Key) -> bool
         ensures { result ≡ is_sent (key_outcome key.now self.now).answer }
     {
@@ -263,7 +268,7 @@ impl Station {
         }
     }
 
-    /// How many bytes of room a key asks for: those of the longest data if it sends, and none if it doesn't.
+    /// The room, in bytes, that a key needs in `out`: that of the longest data record if it sends one, else 0.
     pub(crate) fn room_for(&self, key: &Key, bound: bool) -> usize
         ensures { result ≡ room_of (data_of_key key.now bound self.now) }
     {
@@ -274,7 +279,7 @@ impl Station {
         }
     }
 
-    /// Presses a key. If it sends and the terminal is bound, its data is appended.
+    /// Presses a key. If it sends data and the terminal is bound, the data record is appended.
     pub(crate) fn press(&mut self, key: Key, bound: bool, out: &mut Vec<u8>) -> Pressed
         requires { vec_len out.old + room_of (data_of_key key bound self.old) ≤ vec_capacity out.old }
         ensures station { self.new ≡ station_after_key key bound self.old }
@@ -292,7 +297,7 @@ impl Station {
     }
 }
 
-/// Law: how long the data is that a read gets.
+/// Law: a read returns at most `longest_reading` bytes.
 fn readings_fit(screen: &Screen)
     ensures modified { (all : Bool) → length (read_modified all screen.now.screen) ≤ longest_reading }
     ensures buffer { length (read_buffer screen.now.screen) ≤ longest_reading }
@@ -302,7 +307,7 @@ fn readings_fit(screen: &Screen)
     let _on_the_screen = screen.cursor();
 }
 
-/// Appends the data that a read gets.
+/// Appends the data that a read returns.
 fn put_reading(screen: &Screen, reading: Reading, body: &mut Vec<u8>)
     requires { vec_len body.old + longest_reading ≤ vec_capacity body.old }
     ensures appended { body.new.items ≡ body.old.items ++ data_of reading screen.now.screen }

@@ -1,6 +1,6 @@
-//! The terminal: a decoder, a talk, a station, and what is to be sent.
+//! The terminal: a Telnet decoder, a negotiation, a display station, and the bytes that it has to send.
 ghost use Rattle.std.specs.Prelude.{◌≡◌, ◌<◌, ◌≤◌, [], length, drop, IfOk, OnOk, OnErr};
-ghost use Rattle.telnet_wire.specs.Held.{fresh};
+ghost use Rattle.telnet_wire.specs.DecoderValue.{fresh};
 ghost use Rattle.term_core.specs.State.{new_terminal, connected, lost, model_of, phase_of};
 ghost use Rattle.term_core.specs.Feeds.{Feeds};
 ghost use Rattle.term_core.specs.Presses.{LacksKeyRoom, after_key, answer_to_key};
@@ -26,15 +26,15 @@ enum Attachment {
     Closed(Cause),
 }
 
-/// A 3278 display terminal of a model from 2 to 5: Telnet bytes and keys come in, Telnet bytes and a screen go out.
+/// A 3278 display terminal of a model from 2 to 5: Telnet bytes and keys go in, Telnet bytes and a screen come out.
 ///
-/// Contracts see its link (the rest of the stream and the talk, while it is attached), its station (screen, keyboard, the
-/// number of its next record, and what `took_write` answers), what it has to send, and `room`, the capacity in bytes of the
-/// buffer that holds this.
+/// Contracts see its link (the rest of the stream and the negotiation, while it is attached), its station (screen,
+/// keyboard, the sequence number of its next record, and `took_write`), the bytes that it has to send, and `room`, the
+/// capacity in bytes of the buffer that holds them.
 ///
-/// `new` makes that buffer with room for the largest reply and 1,024 bytes more ([`OUT_ROOM`](crate::OUT_ROOM)), and only
-/// `lost` gives it away. So `press` and `feed` need memory only if more than that waits to be sent, or after a `lost` that
-/// wasn't followed by [`make_room`](Terminal::make_room).
+/// `new` gives that buffer room for the largest reply and 1,024 bytes more ([`OUT_ROOM`](crate::OUT_ROOM)), and only
+/// `lost` may take it away. So `press` and `feed` need memory only while more than 1,024 bytes wait to be sent, or
+/// after a `lost` that wasn't followed by [`make_room`](Terminal::make_room).
 #[derive(Drop)]
 pub struct Terminal {
     attachment: Attachment,
@@ -45,21 +45,24 @@ pub struct Terminal {
 
 impl marker::Model for Terminal {
     ghost use Rattle.std.specs.Vec.{vec_capacity};
-    ghost use Rattle.term_core.specs.State.{Device};
+    ghost use Rattle.term_core.specs.State.{TerminalWithRoom};
 
-    ghost Value = { Device };
+    ghost Value = { TerminalWithRoom };
 
     ghost use Rattle.term_core.specs.Over.{link_of, IsSound};
 
-    ghost view = { λ t. record { terminal = record { link = link_of t.attachment t.decoder; station = t.station; out = t.out.items }; room = vec_capacity t.out } };
+    ghost view = { λ t. record {
+      terminal = record { link = link_of t.attachment t.decoder; station = t.station; out = t.out.items };
+      room = vec_capacity t.out;
+    } };
 
     ghost invariant = { λ t. IsSound t.attachment t.decoder };
 }
 
 impl Terminal {
-    /// A terminal of this model that isn't attached: a blank screen of 24 rows of 80 cells, and a keyboard that waits.
+    /// A terminal of this model that isn't attached: its screen is blank, 24 rows of 80 cells, and its keyboard waits.
     ///
-    /// It makes the room that its decoder, its records and its output will need.
+    /// It allocates all that its decoder, its records and its output need. Err only if memory is refused.
     pub fn new(alloc: Global, model: Model) -> Result<Terminal, Memory>
         ensures terminal { IfOk result (λ device. device.terminal ≡ new_terminal model) }
         ensures room { IfOk result (λ device. out_room ≤ device.room) }
@@ -77,7 +80,7 @@ impl Terminal {
         })
     }
 
-    /// Makes room for the largest reply, as `new` does. Only `lost` takes that room away, and only if something was unsent.
+    /// Makes room for the largest reply, as `new` does. Only `lost` takes it away, and only if something was unsent.
     ///
     /// Nothing else changes. If the room is there, the call succeeds without memory.
     pub fn make_room(&mut self) -> Result<(), Memory>
@@ -91,11 +94,11 @@ impl Terminal {
         self.out.reserve_exact(OUT_ROOM.saturating_sub(waiting))
     }
 
-    /// Begins a connection, with a blank screen of 24 rows of 80 cells and a keyboard that waits; on it the terminal will ask
-    /// for this LU, if one.
+    /// Begins a connection, with a blank screen of 24 rows of 80 cells and a keyboard that waits. In the negotiation
+    /// the terminal will ask for the LU `wanted`, if there is one.
     ///
-    /// It may be called only in phase Idle. It takes no memory, and keeps the room of the output: after a `lost` call
-    /// `make_room` first.
+    /// The terminal must be in phase Idle. The call needs no memory, and keeps the capacity of the output buffer: after
+    /// a `lost` call `make_room` first.
     pub fn connected(&mut self, wanted: Option<Lu>)
         requires { phase_of self.old.terminal.link ≡ TermPhase.Idle }
         ensures terminal { self.new.terminal ≡ connected (model_of self.old.terminal) wanted }
@@ -108,12 +111,13 @@ impl Terminal {
         self.attachment = Attachment::Attached(TermTalk::new(model, wanted));
     }
 
-    /// Takes bytes that came from the host, up to one that closes the connection, and answers how many it took and what
-    /// stopped it. The terminal is then as after these bytes.
+    /// Takes bytes of the host, up to one that closes the connection. Returns how many bytes it took, and what stopped
+    /// it. The terminal is then in its state after these bytes.
     ///
-    /// Before each byte it makes room for the largest reply. It stops with Memory only if that room isn't there and memory is
-    /// refused: with the room that `new` makes, only while more than 1,024 bytes wait to be sent. A terminal that isn't
-    /// attached takes nothing and answers Going, one that has closed takes nothing and answers its cause.
+    /// Before each byte it makes room for the largest reply. It stops with Memory only if that room isn't there and
+    /// memory is refused: with the room that `new` makes, only while more than 1,024 bytes wait to be sent. A terminal
+    /// that isn't attached takes nothing and returns Going; one that has closed the connection takes nothing and
+    /// returns the cause.
     pub fn feed(&mut self, bytes: &[u8]) -> Fed
         ensures fed { Feeds self.new.room self.old.terminal bytes.now result self.new.terminal }
         ensures room { self.old.room ≤ self.new.room }
@@ -143,11 +147,11 @@ impl Terminal {
         }
     }
 
-    /// Presses a key, and answers what the keyboard answers. If the key sends and the terminal is bound, its data is put
-    /// into `out`; in another phase nothing is.
+    /// Presses a key, and returns the keyboard's answer. If the key sends data and the terminal is bound, a data record
+    /// is appended to `out`; in another phase none is.
     ///
-    /// Before a key that sends acts, it makes room for the longest data. It answers Memory only if that room isn't there and
-    /// memory is refused; then nothing has changed. A key that sends nothing takes no memory.
+    /// Before a key that sends acts, the call makes room for the longest data. It fails only if that room isn't there
+    /// and memory is refused; then nothing has changed. A key that sends nothing needs no memory.
     pub fn press(&mut self, key: Key) -> Result<Pressed, Memory>
         ensures pressed { OnOk result (self.new.terminal ≡ after_key key self.old.terminal) }
         ensures answer { IfOk result (λ answer. answer ≡ answer_to_key key self.old.terminal) }
@@ -161,14 +165,14 @@ impl Terminal {
         Ok(self.station.press(key, bound, &mut self.out))
     }
 
-    /// What it has to send.
+    /// The bytes that it has to send, as they go over the connection.
     pub fn out(&self) -> &[u8]
         ensures { result.now ≡ self.now.terminal.out }
     {
         self.out.as_slice()
     }
 
-    /// The first `count` bytes of `out` are sent, and dropped.
+    /// Removes the first `count` bytes of `out`, which were sent. `count` must be at most the length of `out`.
     pub fn sent(&mut self, count: usize)
         requires { count ≤ length self.old.terminal.out }
         ensures terminal { self.new.terminal ≡ record self.old.terminal { out = drop count self.old.terminal.out } }
@@ -179,10 +183,10 @@ impl Terminal {
         self.out.truncate(left);
     }
 
-    /// The connection is lost: hands back what wasn't sent. The screen stays, the keyboard is new and waits, and the
-    /// terminal is in phase Idle.
+    /// Ends the connection, and returns the bytes that weren't sent. The screen stays, the keyboard is reset and waits,
+    /// and the terminal is in phase Idle.
     ///
-    /// What wasn't sent is handed back in the output buffer itself, so that no memory is taken. If all was sent, the terminal
+    /// The bytes are returned in the output buffer itself, so that no memory is needed. If all was sent, the terminal
     /// keeps that buffer.
     pub fn lost(&mut self) -> Vec<u8>
         ensures unsent { result.items ≡ self.old.terminal.out }
@@ -199,7 +203,7 @@ impl Terminal {
         }
     }
 
-    /// Makes the terminal as `new` made it; the room of its output stays.
+    /// Resets the terminal to its state after `new`. The output buffer keeps its capacity.
     pub fn restart(&mut self)
         ensures terminal { self.new.terminal ≡ new_terminal (model_of self.old.terminal) }
         ensures room { self.new.room ≡ self.old.room }
@@ -209,36 +213,36 @@ impl Terminal {
         self.out.clear();
     }
 
-    /// The screen.
+    /// The screen, with its model and its current size.
     pub fn screen(&self) -> &Screen
         ensures { result.now ≡ self.now.terminal.station.screen }
     {
         self.station.screen()
     }
 
-    /// The keyboard's lock.
+    /// The keyboard lock.
     pub fn lock(&self) -> Lock
         ensures { result ≡ self.now.terminal.station.keyboard.lock }
     {
         self.station.keyboard().lock()
     }
 
-    /// The keyboard.
+    /// The keyboard: its lock and its insert mode.
     pub fn keyboard(&self) -> Keyboard
         ensures { result ≡ self.now.terminal.station.keyboard }
     {
         self.station.keyboard()
     }
 
-    /// Whether the last byte that `feed` took completed a write with restore, which was applied, and no `connected`, `lost`
-    /// or `restart` came since.
+    /// Whether the last byte that `feed` took completed a write with keyboard restore, which was applied, and there was
+    /// no `connected`, `lost` or `restart` since.
     pub fn took_write(&self) -> bool
         ensures { result ≡ self.now.terminal.station.took_write }
     {
         self.station.took_write()
     }
 
-    /// How far it is with its host.
+    /// The phase of its connection to the host.
     pub fn phase(&self) -> TermPhase
         ensures { result ≡ phase_of self.now.terminal.link }
     {

@@ -22,7 +22,7 @@ use Rattle.tn3270e_msg.specs.Functions.{offer, responses}
 use Rattle.tn3270e_msg.specs.Talk.{Comes, Will, Do, Hears, Talk, IsLuIfSome, IsOwnedMessage, items_sent, names_asked, payload_sent, message_says, message_sent, follow}
 use Rattle.tn3270e_msg.specs.HostTable.{host_transition, answer_transition}
 use Rattle.tn3270e_msg.specs.TermTable.{Term, term_transition}
-use Rattle.tn3270e_msg.specs.Pair.{Pair, ComesUp, ComesDown, Answer, Answers, Event, Up, Down, Pool, Happens, Happen, start, IsAnswerTo, HostIsOpen, TermIsOpen, IsSettled, EndsBy, TalksAgree, TalksAlwaysAgree}
+use Rattle.tn3270e_msg.specs.Pair.{Pair, ComesUp, ComesDown, Answer, Answers, Event, Up, Down, Pool, IsStep, Happen, start, IsAnswerTo, HostIsOpen, TermIsOpen, IsSettled, EndsBy, TalksAgree, TalksAlwaysAgree}
 use Rattle.tn3270e_msg.proofs.Sets.{wants_by}
 use Rattle.tn3270e_msg.proofs.Hearings.{sent_is_heard}
 use Rattle.tn3270e_msg.proofs.Letters.{name_is_read_as_itself}
@@ -207,7 +207,7 @@ agreement_gives : (model : Model) (wanted : Option (List ℕ)) (lu : List ℕ)
     ≡ (record { state = TermAgreed lu; refusals_left = 8 }, reply.Agreed)
 agreement_gives model wanted lu = rw responses_alone refl
 
-step : (model : Model) (wanted : Option (List ℕ)) → IsLuIfSome wanted → (moment : Moment) → IsMoment wanted moment → (event : Event) (new : Pair) → Happens event (pair_at model wanted moment) new → IsNext model wanted moment new
+step : (model : Model) (wanted : Option (List ℕ)) → IsLuIfSome wanted → (moment : Moment) → IsMoment wanted moment → (event : Event) (new : Pair) → IsStep event (pair_at model wanted moment) new → IsNext model wanted moment new
 step model wanted wish offered h Down new g = record {
   next = willing;
   pair_is = term_gave _ new g (Opt DoVerb 40) [] Do refl (λ c k. k) (record { state = Willing; refusals_left = 8 }) (reply.Opt WillVerb 40) refl;
@@ -314,7 +314,7 @@ ends_at model wanted (functions_asked lu) s = absurd (let e = s.up in cc)
 ends_at model wanted (functions_given lu) s = absurd (let e = s.down in cc)
 ends_at model wanted (both_agreed lu) s = (refl, refl)
 
-stays_at : (model : Model) (wanted : Option (List ℕ)) → IsLuIfSome wanted → (event : Event) (old new : Pair) (count : ℕ) → IsAt model wanted old count → Happens event old new → IsAt model wanted new (count + 1)
+stays_at : (model : Model) (wanted : Option (List ℕ)) → IsLuIfSome wanted → (event : Event) (old new : Pair) (count : ℕ) → IsAt model wanted old count → IsStep event old new → IsAt model wanted new (count + 1)
 stays_at model wanted wish event old new count at g =
     let next = step model wanted wish at.moment at.is_moment event new (rw at.pair_is at g) in
     record { moment = next.next; pair_is = next.pair_is; is_moment = next.is_moment; counted = next.counted ∙ ap (λ (n : ℕ). n + 1) at.counted }

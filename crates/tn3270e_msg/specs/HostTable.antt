@@ -1,5 +1,5 @@
--- The host's talk (RFC 1647, section 7; the choices among its replies are our profile): one
--- equation a line of its table.
+-- The host's talk (RFC 1647, section 7; the choice among replies is our profile): one
+-- equation for each line of its table.
 use Rattle.std.specs.Prelude.{◌≡◌, ℕ, Bool, true, false, List, Option, None, Some, option_map, Result, Ok, Err}
 use Rattle.codes3270.specs.declared.size.Model.{Model}
 use Rattle.telnet_wire.specs.declared.wire.Verb.TheVariants.{Wont as WontVerb, Do as DoVerb, Dont as DontVerb}
@@ -22,18 +22,20 @@ use Rattle.tn3270e_msg.specs.Lu.{lu_of}
 use Rattle.tn3270e_msg.specs.Message.{Name, Connect, Associate}
 use Rattle.tn3270e_msg.specs.Talk.{Comes, Will, Wont, Do, Dont, OtherWill, OtherDo, RequestsType, RequestsFunctions, IsFunctions, NoTalk, Hears, Talk, start_at, follow}
 
--- A device request: the host rejects a type that it doesn't serve, and ASSOCIATE. With CONNECT or
--- no name it asks the pool; no pool has an LU with a name that can't be one.
+-- A request with CONNECT for this device type: the host asks the pool, unless the name can't be an LU name.
 abbrev pub named_transition : Device → Option (List ℕ) → Transition HostState
 named_transition device None = Refuses Asked (TypeReject (record { 0 = 3 }))
 named_transition device (Some lu) = Goes (Asking device) (AskPool (Some lu))
 
+-- A device request: the host rejects a type that it doesn't serve, and ASSOCIATE. With CONNECT or
+-- no name it asks the pool.
 abbrev pub request_transition : Option Device → Option Name → Transition HostState
 request_transition None name = Refuses Asked (TypeReject (record { 0 = 4 }))
 request_transition (Some device) (Some (Associate name)) = Refuses Asked (TypeReject (record { 0 = 7 }))
 request_transition (Some device) None = Goes (Asking device) (AskPool None)
 request_transition (Some device) (Some (Connect name)) = named_transition device (lu_of name)
 
+-- the transition for what an item means
 abbrev pub host_transition : HostState → Comes → Transition HostState
 host_transition (Closed cause) _ = Closes cause
 host_transition Offered Will = Goes Asked (Sub SendType Going)
@@ -48,47 +50,50 @@ host_transition Asked (RequestsType device name) = request_transition (device_of
 host_transition (Named device lu) (RequestsFunctions ResponsesAlone) = Goes (Agreed device lu) (Sub FunIs AgreedAfter)
 host_transition (Named device lu) (RequestsFunctions ResponsesAndMore) = Refuses (Countered device lu) FunRequest
 host_transition (Named device lu) (RequestsFunctions NoResponses) = Closes NoResponsesCause
-host_transition (Countered device lu) (RequestsFunctions ResponsesAlone) = Goes (Agreed device lu) (Sub FunIs AgreedAfter)
+host_transition (Countered device lu) (RequestsFunctions ResponsesAlone) =
+    Goes (Agreed device lu) (Sub FunIs AgreedAfter)
 host_transition (Countered device lu) (RequestsFunctions ResponsesAndMore) = Refuses (Countered device lu) FunRequest
 host_transition (Countered device lu) (RequestsFunctions NoResponses) = Closes NoResponsesCause
 host_transition (Countered device lu) (IsFunctions ResponsesAlone) = Goes (Agreed device lu) AgreedReply
 host_transition _ _ = Closes BadTalk
 
--- the pool's answer
+-- the transition for the pool's answer
 abbrev pub answer_transition : Device → Result (List ℕ) Reason → Transition HostState
 answer_transition device (Ok lu) = Goes (Named device lu) (Sub (TypeIs device lu) Going)
 answer_transition device (Err reason) = Refuses Asked (TypeReject reason)
 
+-- the talk after the offer
 abbrev pub host_start : Talk HostState
 host_start = start_at Offered
 
--- the talk takes an item
+-- holds if the talk gives this reply to this item, and is then `new`
 pub record HostTakes (old : Talk HostState) (item : WireItem) (reply : Reply) (new : Talk HostState) : Type 0 where
   pub comes : Comes
   pub hears : Hears item comes
   pub gives : (new, reply) ≡ follow Closed old (host_transition old.state comes)
 
--- the talk takes the pool's answer, for which it waited
-pub record HostAnswered (old : Talk HostState) (answer : Result (List ℕ) Reason) (reply : Reply) (new : Talk HostState) : Type 0 where
+-- holds if the talk, which waits for the pool, gives this reply to the pool's answer, and is then `new`
+pub record HostAnswered (old : Talk HostState) (answer : Result (List ℕ) Reason) (reply : Reply)
+    (new : Talk HostState) : Type 0 where
   pub device : Device
   pub asking : old.state ≡ Asking device
   pub gives : (new, reply) ≡ follow Closed old (answer_transition device answer)
 
--- the LU that was granted
+-- the LU that was granted, if it was
 abbrev pub granted : HostState → Option (List ℕ)
 granted (Named device lu) = Some lu
 granted (Countered device lu) = Some lu
 granted (Agreed device lu) = Some lu
 granted _ = None
 
--- the device that the terminal asked for, for which that LU was granted
+-- the device type that the terminal requested and for which its LU was granted
 abbrev pub device_granted : HostState → Option Device
 device_granted (Named device lu) = Some device
 device_granted (Countered device lu) = Some device
 device_granted (Agreed device lu) = Some device
 device_granted _ = None
 
--- the device that it asked for, from its request on
+-- the device type that the terminal requested, from its request on
 abbrev pub device_asked : HostState → Option Device
 device_asked (Asking device) = Some device
 device_asked (Named device lu) = Some device
@@ -96,11 +101,11 @@ device_asked (Countered device lu) = Some device
 device_asked (Agreed device lu) = Some device
 device_asked _ = None
 
--- and that device's model
+-- the model of the device type that the terminal requested, from its request on
 abbrev pub model_asked : HostState → Option Model
 model_asked state = option_map model_of (device_asked state)
 
--- both ends agreed
+-- whether both ends agreed
 abbrev pub is_agreed : HostState → Bool
 is_agreed (Agreed device lu) = true
 is_agreed Offered = false
@@ -110,7 +115,7 @@ is_agreed (Named device lu) = false
 is_agreed (Countered device lu) = false
 is_agreed (Closed cause) = false
 
--- the LU on which they agreed
+-- the LU on which both ends agreed
 abbrev pub agreed_lu : HostState → Option (List ℕ)
 agreed_lu (Agreed device lu) = Some lu
 agreed_lu Offered = None
@@ -124,7 +129,7 @@ agreed_lu (Closed cause) = None
 abbrev pub offer_token : Token
 offer_token = OptToken DoVerb 40
 
--- the talk awaits the pool's answer
+-- holds if the talk waits for the pool's answer
 abbrev pub IsAsking : HostState → Type 0
 IsAsking (Asking device) = Unit {0}
 IsAsking _ = ⊥

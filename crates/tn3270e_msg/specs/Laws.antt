@@ -12,29 +12,34 @@ use Rattle.tn3270e_msg.specs.Talk.{Comes, Hears}
 
 -- bytes begin with at most one header
 abbrev pub OneHeader : Type 0
-OneHeader = (bytes : List ℕ) (header other : Header) (body rest : List ℕ) → Begins bytes header body → Begins bytes other rest → (header ≡ other) × (body ≡ rest)
+OneHeader = (bytes : List ℕ) (header other : Header) (body rest : List ℕ) → Begins bytes header body
+    → Begins bytes other rest → (header ≡ other) × (body ≡ rest)
 
 -- bytes that begin with a header have no fault
 abbrev pub FaultIsNoHeader : Type 0
-FaultIsNoHeader = (bytes : List ℕ) (fault : HeadFault) (header : Header) (body : List ℕ) → HeadHasFault bytes fault → Begins bytes header body → ⊥
+FaultIsNoHeader = (bytes : List ℕ) (fault : HeadFault) (header : Header) (body : List ℕ) → HeadHasFault bytes fault
+    → Begins bytes header body → ⊥
 
--- they have at most one fault
+-- bytes have at most one fault as a header
 abbrev pub OneHeadFault : Type 0
-OneHeadFault = (bytes : List ℕ) (fault other : HeadFault) → HeadHasFault bytes fault → HeadHasFault bytes other → fault ≡ other
+OneHeadFault = (bytes : List ℕ) (fault other : HeadFault) → HeadHasFault bytes fault → HeadHasFault bytes other
+    → fault ≡ other
 
 -- bytes are at most one message
 abbrev pub OneMessage : Type 0
 OneMessage = (bytes : List ℕ) (message other : Message) → Says bytes message → Says bytes other → message ≡ other
 
--- bytes that are a message have no fault
+-- bytes that are a message have no fault as a message
 abbrev pub FaultIsNoMessage : Type 0
-FaultIsNoMessage = (bytes : List ℕ) (fault : SubFault) (message : Message) → SubHasFault bytes fault → Says bytes message → ⊥
+FaultIsNoMessage = (bytes : List ℕ) (fault : SubFault) (message : Message) → SubHasFault bytes fault
+    → Says bytes message → ⊥
 
--- they have at most one fault
+-- bytes have at most one fault as a message
 abbrev pub OneSubFault : Type 0
-OneSubFault = (bytes : List ℕ) (fault other : SubFault) → SubHasFault bytes fault → SubHasFault bytes other → fault ≡ other
+OneSubFault = (bytes : List ℕ) (fault other : SubFault) → SubHasFault bytes fault → SubHasFault bytes other
+    → fault ≡ other
 
--- an item says one thing to a talk
+-- an item means one thing to a talk
 abbrev pub OneHearing : Type 0
 OneHearing = (item : WireItem) (comes other : Comes) → Hears item comes → Hears item other → comes ≡ other
 

@@ -1,5 +1,5 @@
--- The terminal's talk (RFC 1647, section 7; the choices among its replies are our profile): one
--- equation a line of its table.
+-- The terminal's talk (RFC 1647, section 7; the choice among replies is our profile): one
+-- equation for each line of its table.
 use Rattle.std.specs.Prelude.{◌≡◌, ℕ, Bool, true, false, List, Option, None, Some, if◌then◌else◌}
 use Rattle.std.specs.Str.{bytes_eq}
 use Rattle.codes3270.specs.declared.size.Model.{Model}
@@ -20,14 +20,14 @@ use Rattle.tn3270e_msg.specs.Device.{device_for, has_text}
 use Rattle.tn3270e_msg.specs.Lu.{lu_of}
 use Rattle.tn3270e_msg.specs.Talk.{Comes, Will, Wont, Do, Dont, OtherWill, OtherDo, SendsType, IsType, RejectsType, RequestsFunctions, IsFunctions, NoTalk, Hears, Talk, start_at, follow}
 
--- a grant is accepted if it is for the type that was asked for, and of the LU that was wanted, if
--- one was
+-- The transition for a grant: it is accepted if it has the requested device type, and the wanted LU if one is wanted.
 abbrev pub grant_transition : Option (List ℕ) → Bool → Option (List ℕ) → Transition TermState
 grant_transition None true (Some lu) = Goes (FunctionsAsked lu) (Sub FunRequest Going)
 grant_transition (Some wanted) true (Some lu) =
     if bytes_eq lu wanted then Goes (FunctionsAsked lu) (Sub FunRequest Going) else Closes BadTalk
 grant_transition _ _ _ = Closes BadTalk
 
+-- the transition for what an item means
 abbrev pub term_transition : Model → Option (List ℕ) → TermState → Comes → Transition TermState
 term_transition model wanted (Closed cause) _ = Closes cause
 term_transition model wanted (Refused reason) _ = Stays Nothing
@@ -40,25 +40,29 @@ term_transition model wanted _ (OtherDo code) = Stays (Opt WontVerb code)
 term_transition model wanted _ (OtherWill code) = Stays (Opt DontVerb code)
 term_transition model wanted _ NoTalk = Stays Nothing
 term_transition model wanted Willing SendsType = Goes TypeAsked (Sub (TypeRequest model wanted) Going)
-term_transition model wanted TypeAsked (IsType device name) = grant_transition wanted (has_text (device_for model) device) (lu_of name)
+term_transition model wanted TypeAsked (IsType device name) =
+    grant_transition wanted (has_text (device_for model) device) (lu_of name)
 term_transition model wanted TypeAsked (RejectsType reason) = Goes (Refused reason) (RefusedReply reason)
 term_transition model wanted (FunctionsAsked lu) (IsFunctions ResponsesAlone) = Goes (Agreed lu) AgreedReply
 term_transition model wanted (FunctionsAsked lu) (IsFunctions _) = Closes NoResponsesCause
-term_transition model wanted (FunctionsAsked lu) (RequestsFunctions ResponsesAlone) = Goes (Agreed lu) (Sub FunIs AgreedAfter)
-term_transition model wanted (FunctionsAsked lu) (RequestsFunctions ResponsesAndMore) = Refuses (FunctionsAsked lu) FunRequest
+term_transition model wanted (FunctionsAsked lu) (RequestsFunctions ResponsesAlone) =
+    Goes (Agreed lu) (Sub FunIs AgreedAfter)
+term_transition model wanted (FunctionsAsked lu) (RequestsFunctions ResponsesAndMore) =
+    Refuses (FunctionsAsked lu) FunRequest
 term_transition model wanted (FunctionsAsked lu) (RequestsFunctions NoResponses) = Closes NoResponsesCause
 term_transition model wanted _ _ = Closes BadTalk
 
--- a terminal's talk, with its model and the LU that it wants
+-- a terminal's talk, its model and the LU that it wants
 pub record Term : Type 0 where
   pub model : Model
   pub wanted : Option (List ℕ)
   pub talk : Talk TermState
 
+-- the talk before the first item
 abbrev pub term_start : Model → Option (List ℕ) → Term
 term_start model wanted = record { model = model; wanted = wanted; talk = start_at Waiting }
 
--- the talk takes an item
+-- holds if the talk gives this reply to this item, and is then `new`
 pub record TermTakes (old : Term) (item : WireItem) (reply : Reply) (new : Term) : Type 0 where
   pub comes : Comes
   pub hears : Hears item comes
@@ -66,7 +70,7 @@ pub record TermTakes (old : Term) (item : WireItem) (reply : Reply) (new : Term)
   pub model : new.model ≡ old.model
   pub wanted : new.wanted ≡ old.wanted
 
--- both ends agreed
+-- whether both ends agreed
 abbrev pub is_agreed : TermState → Bool
 is_agreed (Agreed lu) = true
 is_agreed Waiting = false
@@ -76,7 +80,7 @@ is_agreed (FunctionsAsked lu) = false
 is_agreed (Refused reason) = false
 is_agreed (Closed cause) = false
 
--- the LU on which they agreed
+-- the LU on which both ends agreed
 abbrev pub agreed_lu : TermState → Option (List ℕ)
 agreed_lu (Agreed lu) = Some lu
 agreed_lu Waiting = None
@@ -86,7 +90,7 @@ agreed_lu (FunctionsAsked lu) = None
 agreed_lu (Refused reason) = None
 agreed_lu (Closed cause) = None
 
--- why the host granted no LU
+-- why the host rejected the device request, if it did
 abbrev pub reason_refused : TermState → Option Reason
 reason_refused (Refused reason) = Some reason
 reason_refused Waiting = None
@@ -96,7 +100,7 @@ reason_refused (FunctionsAsked lu) = None
 reason_refused (Agreed lu) = None
 reason_refused (Closed cause) = None
 
--- the LU that was granted
+-- the LU that was granted, if it was
 abbrev pub bound : TermState → Option (List ℕ)
 bound (FunctionsAsked lu) = Some lu
 bound (Agreed lu) = Some lu

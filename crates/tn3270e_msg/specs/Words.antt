@@ -41,6 +41,7 @@ reason_name reason =
     else (if reason.0 == 4 then Some (codes "INV-DEVICE-TYPE")
     else (if reason.0 == 7 then Some (codes "UNSUPPORTED-REQ") else None)))
 
+-- the name if there is one, else the code in decimal
 abbrev pub name_or_code : Option (List ℕ) → ℕ → List ℕ
 name_or_code (Some name) code = name
 name_or_code None code = decimal code
@@ -49,6 +50,6 @@ name_or_code None code = decimal code
 abbrev pub reason_text : Reason → List ℕ
 reason_text reason = name_or_code (reason_name reason) reason.0
 
--- the letters of an LU's name as UTF-8; each is one byte
+-- an LU name as UTF-8; each character is one byte
 abbrev pub lu_text : List ℕ → List ℕ
 lu_text name = flat_map encode_utf8 name

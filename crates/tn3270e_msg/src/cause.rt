@@ -1,31 +1,31 @@
-//! Why an end closes, and how far it took the bytes that it was fed.
+//! Why an end closes the connection, and how many of its input bytes it has processed.
 ghost use Rattle.std.specs.Prelude.{◌≡◌};
 ghost use Rattle.tn3270e_msg.specs.Words.{cause_name, cause_number};
 
 use std::fmt;
 
-/// Why an end closes a connection (our profile).
+/// Why an end closes the connection (our profile). An end is the host or the terminal.
 #[derive(Clone, Copy, Debug, PartialEq, Eq)]
 pub enum Cause {
-    /// 1: the peer wants no TN3270E.
+    /// 1: the other end refuses TN3270E.
     NoTn3270e,
-    /// 2: the peer wants no RESPONSES.
+    /// 2: the other end refuses the function RESPONSES.
     NoResponses,
-    /// 3: a message of the peer is malformed, or out of order.
+    /// 3: a message of the other end is malformed or out of order.
     BadTalk,
-    /// 4: this end rejected or countered the peer's request for the eighth time.
+    /// 4: this end rejected or countered the other end's request for the eighth time.
     TooMany,
-    /// 5: the stream is broken: the decoder refused a byte.
+    /// 5: the Telnet decoder refused a byte.
     Wire,
-    /// 6: a record has no header.
+    /// 6: a record does not begin with a header.
     BadRecord,
     /// 7: data from a terminal is wrong, or out of turn.
     BadInbound,
-    /// 8: a response answers no pending command.
+    /// 8: a response doesn't match any pending command.
     BadResponse,
-    /// 9: the terminal refused an Erase/Write.
+    /// 9: the terminal rejected an Erase/Write by a negative response.
     Negative,
-    /// 10: the terminal's screen shows that it broke a rule which the host relies on.
+    /// 10: the terminal's screen shows that it broke a rule on which the host relies.
     RuleBroken,
 }
 
@@ -78,21 +78,21 @@ impl fmt::Display for Cause {
     }
 }
 
-/// How many of the fed bytes an end took, and what stopped it there.
+/// How many of its input bytes an end has processed, and what stopped it there.
 #[derive(Clone, Copy, Debug, PartialEq, Eq)]
 pub struct Fed {
-    /// How many of the bytes were taken; the end's state is that after these.
+    /// The number of bytes processed. The end's state is that after these.
     pub taken: usize,
-    /// What stopped it after them.
+    /// What stopped it after these bytes.
     pub stop: Stop,
 }
 
-/// What stopped an end that was fed bytes.
+/// What stopped an end from processing more bytes.
 #[derive(Clone, Copy, Debug, PartialEq, Eq)]
 pub enum Stop {
-    /// Nothing: the end goes on.
+    /// Nothing: the end continues.
     Going,
-    /// The allocator refused memory: the other bytes may be fed again.
+    /// The allocator refused memory. The caller may feed the other bytes again.
     Memory,
     /// The end is closed.
     Closed(Cause),

@@ -1,10 +1,10 @@
-//! The types of device that a host serves (RFC 1647, section 7.1).
+//! The device types that a host serves (RFC 1647, section 7.1).
 ghost use Rattle.std.specs.Prelude.{◌≡◌};
 ghost use Rattle.tn3270e_msg.specs.Device.{device_for, device_of, device_text, devices, has_text, model_of};
 
 use codes3270::Model;
 
-/// A 3278 display, by its model, 2 to 5; `E` means that it has extended attributes.
+/// The device type of a 3278 display, by its model, 2 to 5. `E` means that it has extended attributes.
 #[derive(Clone, Copy, Debug, PartialEq, Eq)]
 pub enum Device {
     /// IBM-3278-2.
@@ -37,7 +37,7 @@ impl Device {
         Device::Model5E,
     ];
 
-    /// The device with this text, compared in ASCII without case; None if no device has it.
+    /// The device type with this text, compared without regard to ASCII case. `None` if there is none.
     #[tactic(auto, unfolding(crate::specs::Device::device_of))]
     pub fn read(text: &[u8]) -> Option<Device>
         ensures { result ≡ device_of text.now }
@@ -48,7 +48,7 @@ impl Device {
             .find(|device| device.has_text(text))
     }
 
-    /// The device that a terminal of this model is: the one without extended attributes.
+    /// The device type that a terminal of this model requests: the one without extended attributes.
     pub fn of(model: Model) -> Device
         ensures value { result ≡ device_for model }
         ensures model { model_of result ≡ model }
@@ -61,7 +61,7 @@ impl Device {
         }
     }
 
-    /// Its model, with extended attributes or not.
+    /// Its model. Types with and without extended attributes have the same model.
     pub fn model(self) -> Model
         ensures { result ≡ model_of self }
     {
@@ -73,7 +73,7 @@ impl Device {
         }
     }
 
-    /// Its text, in upper case.
+    /// The text of the device type, in upper case, such as `IBM-3278-2-E`.
     pub fn text(self) -> &'static [u8]
         ensures { result.now ≡ device_text self }
     {
@@ -89,7 +89,7 @@ impl Device {
         }
     }
 
-    /// Whether this is its text, compared in ASCII without case.
+    /// Whether this is the device type's text, compared without regard to ASCII case.
     pub fn has_text(self, text: &[u8]) -> bool
         ensures { result ≡ has_text self text.now }
     {

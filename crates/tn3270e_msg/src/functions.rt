@@ -7,13 +7,16 @@ use crate::codes::RESPONSES;
 /// How a set of functions compares with the one that both ends want: RESPONSES alone (our profile).
 #[derive(Clone, Copy, Debug, PartialEq, Eq)]
 pub enum FunctionsOffer {
+    /// RESPONSES and no other function.
     ResponsesAlone,
+    /// RESPONSES and other functions.
     ResponsesAndMore,
+    /// Any functions without RESPONSES, or none.
     NoResponses,
 }
 
 impl FunctionsOffer {
-    /// How the set of the functions in this list compares.
+    /// Compares the set of the functions in this list of codes, which may repeat.
     pub fn of(list: &[u8]) -> FunctionsOffer
         ensures { result ≡ offer (functions_of list.now) }
     {

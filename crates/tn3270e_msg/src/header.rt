@@ -7,7 +7,7 @@ ghost use Rattle.tn3270e_msg.specs.declared.header.HeadFault.{HeadFault};
 use std::error::Error;
 use std::fmt;
 
-/// What a record holds: DATA-TYPE (RFC 1647, section 8.1).
+/// DATA-TYPE: what a record contains (RFC 1647, section 8.1).
 #[derive(Clone, Copy, Debug, PartialEq, Eq)]
 pub enum DataType {
     /// 3270-DATA, 0.
@@ -75,26 +75,25 @@ impl DataType {
     }
 }
 
-/// The data bytes that a record may have, its header included (our profile).
+/// The most data bytes of a record, its header included (our profile).
 pub const RECORD_LIMIT: usize = 16_384;
 
 /// The number of bytes of a header (RFC 1647, section 8.1).
 pub const HEADER_LENGTH: usize = 5;
 
-/// RESPONSE-FLAG of 3270-DATA that wants no response (RFC 1647, section 8.1.3).
+/// RESPONSE-FLAG of 3270-DATA whose sender wants no response (RFC 1647, section 8.1.3).
 pub const NO_RESPONSE: u8 = 0;
 
-/// RESPONSE-FLAG of 3270-DATA that wants a response only if it is refused (RFC 1647, section
-/// 8.1.3).
+/// RESPONSE-FLAG of 3270-DATA whose sender wants a response only if the data is rejected (RFC 1647, section 8.1.3).
 pub const ERROR_RESPONSE: u8 = 1;
 
-/// RESPONSE-FLAG of 3270-DATA that wants a response in any case (RFC 1647, section 8.1.3).
+/// RESPONSE-FLAG of 3270-DATA whose sender wants a response in any case (RFC 1647, section 8.1.3).
 pub const ALWAYS_RESPONSE: u8 = 2;
 
 /// RESPONSE-FLAG of the response to data that was processed (RFC 1647, section 8.1.3).
 pub const POSITIVE: u8 = 0;
 
-/// RESPONSE-FLAG of the response to data that was refused (RFC 1647, section 8.1.3).
+/// RESPONSE-FLAG of the response to data that was rejected (RFC 1647, section 8.1.3).
 pub const NEGATIVE: u8 = 1;
 
 /// The first [`HEADER_LENGTH`] bytes of a record (RFC 1647, section 8.1).
@@ -106,14 +105,14 @@ pub struct Header {
     pub request: u8,
     /// RESPONSE-FLAG: at most 2 on 3270-DATA, at most 1 on RESPONSE, else any byte.
     pub flag: u8,
-    /// SEQ-NUMBER, which is sent with its high byte first.
+    /// SEQ-NUMBER. Its high byte is sent first.
     pub seq: u16,
 }
 
-/// Why bytes begin with no header.
+/// Why bytes don't begin with a header.
 #[derive(Clone, Copy, Debug, PartialEq, Eq)]
 pub enum HeadFault {
-    /// There are fewer than [`HEADER_LENGTH`].
+    /// There are fewer than [`HEADER_LENGTH`] bytes.
     Short,
     /// RESPONSE-FLAG is over 2 on 3270-DATA, or over 1 on RESPONSE.
     BadFlag,
@@ -137,9 +136,8 @@ impl Error for HeadFault {}
 
 /// Reads the header that a record begins with, and the body after it (RFC 1647, section 8.1).
 ///
-/// It answers [`HeadFault::Short`] if there are fewer than [`HEADER_LENGTH`] bytes, and
-/// [`HeadFault::BadFlag`] if the type has no such RESPONSE-FLAG. It accepts a type without a name,
-/// and any REQUEST-FLAG.
+/// It fails with [`HeadFault::Short`] if there are fewer than [`HEADER_LENGTH`] bytes, and with [`HeadFault::BadFlag`]
+/// if the type has no such RESPONSE-FLAG. It accepts a type without a name, and any REQUEST-FLAG.
 pub fn read_header(bytes: &[u8]) -> Result<(Header, &[u8]), HeadFault>
     ensures found { IfOk result (λ found. Begins bytes.now found.0 found.1.now) }
     ensures fault { IfErr result (HasFault bytes.now) }
@@ -171,8 +169,8 @@ fn find_header(bytes: &[u8]) -> Result<(Header, &[u8]), HeadFault>
     Ok((header, body))
 }
 
-/// The [`HEADER_LENGTH`] bytes of a header; they are read as this header. Its RESPONSE-FLAG must be
-/// one that its type has, and `Unnamed` must hold a code from 8 on.
+/// The [`HEADER_LENGTH`] bytes of a header. They are read back as this header. Its RESPONSE-FLAG must be
+/// one that its type has, and `Unnamed` must have a code from 8 on.
 pub fn header_bytes(header: &Header) -> [u8; HEADER_LENGTH]
     requires { IsHeader header.now }
     ensures bytes { result ≡ spelling header.now }
@@ -182,7 +180,7 @@ pub fn header_bytes(header: &Header) -> [u8; HEADER_LENGTH]
     [header.kind.code(), header.request, header.flag, high, low]
 }
 
-/// The number of the record after the one with this number: 0 follows 32767 (our profile).
+/// The SEQ-NUMBER after this one: 0 follows 32767 (our profile).
 pub const fn next_seq(seq: u16) -> u16
     ensures { result ≡ next_number seq }
 {

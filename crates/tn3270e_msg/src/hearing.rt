@@ -1,4 +1,4 @@
-//! What both ends' talks have in common.
+//! What the negotiations of both ends have in common.
 ghost use Rattle.std.specs.Prelude.{◌≡◌};
 ghost use Rattle.telnet_wire.specs.Items.{item_of};
 ghost use Rattle.tn3270e_msg.specs.Talk.{Hears, option_says, follow as followed};
@@ -11,49 +11,57 @@ use crate::reading::read_sub;
 use crate::reply::{After, OwnedMessage, Reply};
 use telnet_wire::{Item, Verb};
 
-/// The most rejections and counter-requests that a talk sends; it closes with the last (our
-/// profile).
+/// The most rejections and counter-requests that a talk sends; it closes with the last (our profile).
 pub const MOST_REFUSALS: u8 = 8;
 
-/// What an item says to a talk.
+/// What an item of the wire means for a talk.
 #[derive(Clone, Copy, Debug)]
 pub enum Heard<'a> {
+    /// WILL TN3270E.
     Will,
+    /// WONT TN3270E.
     Wont,
+    /// DO TN3270E.
     Do,
+    /// DONT TN3270E.
     Dont,
+    /// WILL of another option, with this code.
     OtherWill(u8),
+    /// DO of another option, with this code.
     OtherDo(u8),
+    /// A message of TN3270E.
     Message(SubMessage<'a>),
+    /// A subnegotiation of TN3270E that is no message.
     Malformed,
+    /// Anything else: a record, a command, or a message of another option.
     NoTalk,
 }
 
-/// What a talk does about it.
+/// How a talk reacts to an item.
 #[derive(Clone, Copy, Debug)]
 pub enum Transition<S> {
-    /// A reply in the same state.
+    /// It replies, and its state stays as it is.
     Stays(Reply),
-    /// A reply, and the state after it.
+    /// It replies, and goes to this state.
     Goes(S, Reply),
-    /// A rejection or a counter-request, and the state after it.
+    /// It sends a rejection or a counter-request, and goes to this state.
     Refuses(S, OwnedMessage),
     /// The end closes.
     Closes(Cause),
 }
 
-/// A talk's state; a talk may be closed.
+/// The state of a talk. One of the states is closed.
 pub trait TalkState: Copy {
     ghost use Rattle.tn3270e_msg.specs.declared.cause.Cause.{Cause};
 
     ghost closed: { Cause → Self };
 
+    /// The closed state with this cause.
     fn closed_by(cause: Cause) -> Self
         ensures { result ≡ closed cause };
 }
 
-/// Applies a transition to a talk, which closes with the last rejection or counter-request that it
-/// may send.
+/// Applies a transition to a talk, which closes with the last rejection or counter-request that it may send.
 pub fn follow<S: TalkState>(
     state: &mut S,
     refusals_left: &mut u8,
@@ -85,6 +93,7 @@ pub fn follow<S: TalkState>(
     }
 }
 
+/// What an item of the wire means for a talk.
 pub fn hear<'a>(item: &Item<'a>) -> Heard<'a>
     ensures { Hears (item_of item.now) (heard_says result) }
 {

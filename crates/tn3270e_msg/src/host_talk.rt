@@ -1,5 +1,5 @@
-//! The host's talk, from its offer to agreement (RFC 1647, section 7; the choices among its replies
-//! are our profile).
+//! The host's talk: its side of the negotiation, from its offer to agreement (RFC 1647, section 7; the choice
+//! among replies is our profile).
 ghost use Rattle.std.specs.Prelude.{◌≡◌, ◌↔◌, ℕ, List, IsTrue};
 ghost use Rattle.telnet_wire.specs.Items.{item_of};
 ghost use Rattle.telnet_wire.specs.Token.{spelling};
@@ -28,15 +28,15 @@ use telnet_wire::{Item, Memory, Verb, put_option};
 pub enum HostState {
     /// TN3270E was offered.
     Offered,
-    /// The terminal was asked for its type.
+    /// The host asked for the terminal's device type.
     Asked,
-    /// The pool is asked for an LU, for this device.
+    /// The host asks the pool for an LU, for this device type.
     Asking(Device),
-    /// An LU was granted, for the device that was asked for.
+    /// The pool granted this LU, for the device type that the terminal requested.
     Named(Device, Lu),
-    /// An LU was granted, and the host countered the terminal's functions by RESPONSES alone.
+    /// The pool granted this LU, and the host countered the terminal's functions by RESPONSES alone.
     Countered(Device, Lu),
-    /// Both ends agreed, with this LU granted for this device.
+    /// Both ends agreed. The terminal has this LU and this device type.
     Agreed(Device, Lu),
     /// The host closes.
     Closed(Cause),
@@ -162,7 +162,7 @@ fn functions_transition(device: Device, lu: Lu, offer: FunctionsOffer) -> Transi
     }
 }
 
-/// The host's part of the talk with one terminal. Contracts see its state, and how many
+/// The host's side of the negotiation with one terminal. Contracts see its state, and how many
 /// rejections and counter-requests it may still send.
 #[derive(Drop, Debug)]
 pub struct HostTalk {
@@ -180,7 +180,7 @@ impl marker::Model for HostTalk {
 }
 
 impl HostTalk {
-    /// A talk in which TN3270E was just offered.
+    /// A talk after the host sent its offer, DO TN3270E.
     pub fn new() -> HostTalk
         ensures { result ≡ host_start }
     {
@@ -190,9 +190,9 @@ impl HostTalk {
         }
     }
 
-    /// Takes an item from the terminal, and answers what the host must do about it. A message that
-    /// the talk doesn't await closes it, by BadTalk. The eighth rejection or counter-request is
-    /// sent and closes it, by TooMany. A closed talk answers its cause again.
+    /// Processes an item from the terminal, and returns what the host must do. A message that
+    /// the talk doesn't expect closes it, with BadTalk. The eighth rejection or counter-request is
+    /// sent and closes it, with TooMany. A closed talk returns its cause again.
     pub fn take(&mut self, item: &Item) -> Reply
         ensures { HostTakes self.old (item_of item.now) (result) self.new }
     {
@@ -200,9 +200,8 @@ impl HostTalk {
         follow(&mut self.state, &mut self.refusals_left, transition)
     }
 
-    /// Takes the pool's answer: DEVICE-TYPE IS with the LU that it grants, or a rejection with its
-    /// reason, the eighth of which closes the talk by TooMany. It may be called only while
-    /// [`HostTalk::asking`].
+    /// Processes the pool's answer. The reply is DEVICE-TYPE IS with the granted LU, or a rejection with its
+    /// reason, the eighth of which closes the talk with TooMany. [`HostTalk::asking`] must hold.
     pub fn answered(&mut self, answer: Result<Lu, Reason>) -> Reply
         requires { IsAsking self.old.state }
         ensures { HostAnswered self.old answer (result) self.new }
@@ -220,10 +219,9 @@ impl HostTalk {
         follow(&mut self.state, &mut self.refusals_left, transition)
     }
 
-    /// Adds the talk's first item, DO TN3270E: IAC, DO and the option's code 40, three bytes (RFC
-    /// 1647, section 7).
+    /// Appends the talk's first item, DO TN3270E: IAC, DO and the option's code 40, three bytes (RFC 1647, section 7).
     ///
-    /// A vector that can't grow keeps the bytes that it had.
+    /// If memory is refused, the vector keeps the bytes that it had.
     pub fn put_offer(out: &mut Vec<u8>) -> Result<(), Memory>
         ensures { Appends out.old (spelling offer_token) result out.new }
     {
@@ -237,7 +235,7 @@ impl HostTalk {
         self.state
     }
 
-    /// Whether the talk awaits the pool's answer: after [`Reply::AskPool`], until the answer is
+    /// Whether the talk waits for the pool's answer: after [`Reply::AskPool`], until the answer is
     /// given or the talk closes.
     pub fn asking(&self) -> bool
         ensures { IsTrue result ↔ IsAsking self.now.state }
@@ -245,7 +243,7 @@ impl HostTalk {
         matches!(self.state, HostState::Asking(_))
     }
 
-    /// The LU that was granted; None before, and once the talk closed.
+    /// The LU that was granted. `None` before that, and after the talk closed.
     pub fn lu(&self) -> Option<Lu>
         ensures { result ≡ granted self.now.state }
     {
@@ -257,7 +255,7 @@ impl HostTalk {
         }
     }
 
-    /// The LU on which both ends agreed; None before, and once the talk closed.
+    /// The LU on which both ends agreed. `None` before that, and after the talk closed.
     pub fn agreed_lu(&self) -> Option<Lu>
         ensures { result ≡ agreed_lu self.now.state }
     {
@@ -267,15 +265,15 @@ impl HostTalk {
         }
     }
 
-    /// Whether both ends agreed, and the talk didn't close since.
+    /// Whether both ends agreed and the talk isn't closed.
     pub fn is_agreed(&self) -> bool
         ensures { result ≡ is_agreed self.now.state }
     {
         matches!(self.state, HostState::Agreed(_, _))
     }
 
-    /// The device that the terminal asked for, for which its LU was granted; None before, and once
-    /// the talk closed.
+    /// The device type that the terminal requested and for which its LU was granted. `None` before that, and
+    /// after the talk closed.
     pub fn device(&self) -> Option<Device>
         ensures { result ≡ device_granted self.now.state }
     {
@@ -287,8 +285,8 @@ impl HostTalk {
         }
     }
 
-    /// The model of the device that the terminal asked for, with extended attributes or not, from
-    /// its request on. None before the request, once it is rejected, and once the talk closed.
+    /// The model of the device type that the terminal requested, with or without extended attributes. `None` before the
+    /// request, after it was rejected, and after the talk closed.
     pub fn model(&self) -> Option<Model>
         ensures { result ≡ model_asked self.now.state }
     {

@@ -9,13 +9,13 @@ use crate::{ALWAYS_RESPONSE, ERROR_RESPONSE, NEGATIVE, NO_RESPONSE, POSITIVE};
 
 /// Law: between a host and a terminal of this crate neither talk closes, whatever the pool answers
 /// and however items are delivered. After at most eight events nothing more can happen: both agreed
-/// on the LU that the pool granted, or the terminal was refused for the pool's reason.
+/// on the LU that the pool granted, or the terminal was rejected for the pool's reason.
 pub fn talks_agree()
     ensures { TalksAlwaysAgree }
 {}
 
-/// Law: bytes begin with at most one header or have one fault; they are at most one message or have
-/// one fault; an item says one thing to a talk; a name of an LU is read as itself.
+/// Law: bytes begin with at most one header or have one fault. They are at most one message or have
+/// one fault. An item means one thing to a talk. The name of an LU is read as itself.
 pub fn one_reading()
     ensures header { OneHeader }
     ensures header_or_fault { FaultIsNoHeader }

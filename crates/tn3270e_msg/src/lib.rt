@@ -1,8 +1,8 @@
-//! TN3270E (RFC 1647): the header of a record, the messages of a negotiation, and both ends' talks
-//! from the host's offer to agreement.
+//! TN3270E (RFC 1647): the header of a record, the messages of a negotiation, and both ends' sides of it (their talks),
+//! from the host's offer to agreement. Bytes of Telnet are the crate `telnet_wire`'s, and pools of LUs `lu_pool`'s.
 //!
-//! A talk takes the items of the wire one by one, and answers what its end must do about each. It
-//! sends nothing itself, and takes no memory:
+//! A talk takes the items of the wire one by one, and returns what its end must do about each. It
+//! sends nothing itself, and doesn't allocate:
 //!
 //! ```text
 //! let mut talk = TermTalk::new(Model::M2, Lu::read(b"PNL01"));
@@ -18,10 +18,9 @@
 //! }
 //! ```
 //!
-//! `specs/` has the definitions that contracts cite: `Header`, `Message` (the messages, and the
-//! payloads that spell them), `Talk` (what an item says), `HostTable` and `TermTable` (one equation
-//! a line of each talk's table), `Pair` (both talks with each other, for [`laws::talks_agree`]) and
-//! `Words` (the names of causes and reasons, and what `{}` prints).
+//! `specs/` has the definitions that contracts cite: `Header`, `Message` (the messages, and their payloads), `Talk`
+//! (what an item means), `HostTable` and `TermTable` (one equation for each line of a talk's table), `Pair` (both talks
+//! with each other, for [`laws::talks_agree`]) and `Words` (the names of causes and reasons, and what `{}` prints).
 #![tactic(auto)]
 
 mod cause;

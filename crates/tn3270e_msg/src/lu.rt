@@ -6,7 +6,7 @@ use std::fmt;
 use std::marker::Model;
 
 /// The name of a logical unit: one to eight of `A` to `Z`, `0` to `9`, `@`, `#` and `$`, the first
-/// no digit. Contracts see it as the list of its bytes.
+/// not a digit. Contracts see it as the list of its bytes.
 #[derive(Clone, Copy, Debug, PartialEq, Eq)]
 pub struct Lu {
     letters: [u8; 8],
@@ -27,8 +27,8 @@ impl Model for Lu {
 }
 
 impl Lu {
-    /// The name that these bytes spell in either case; None unless they are one to eight of its
-    /// letters, the first no digit.
+    /// Reads a name in upper or lower case. Returns `None` unless it is one to eight of these
+    /// characters, the first not a digit.
     pub fn read(bytes: &[u8]) -> Option<Lu>
         ensures value { result ≡ lu_of bytes.now }
         ensures is_lu { IfSome result (λ lu. IsTrue (is_lu lu)) }
@@ -47,7 +47,7 @@ impl Lu {
         Some(Lu { letters, size })
     }
 
-    /// Its one to eight bytes, in upper case; they are read as this name.
+    /// Its one to eight bytes, in upper case. They are read back as this name.
     pub fn as_bytes(&self) -> &[u8]
         ensures value { result.now ≡ self.now }
         ensures is_lu { IsTrue (is_lu self.now) }
@@ -57,7 +57,7 @@ impl Lu {
     }
 }
 
-/// Prints the name's letters.
+/// Prints the name, in upper case.
 impl fmt::Display for Lu {
     ghost use Rattle.std.specs.Prelude.{Some};
     ghost use Rattle.tn3270e_msg.specs.Words.{lu_text};

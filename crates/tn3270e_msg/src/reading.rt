@@ -1,4 +1,4 @@
-//! Messages from bytes.
+//! Reading messages from bytes.
 ghost use Rattle.std.specs.Prelude.{◌≡◌, ◌∷◌, ◌++◌, ◌↔◌, ℕ, List, Option, IfOk, IfErr, IsOkAnd, IfSome, IfNone, IsTrue, Err};
 ghost use Rattle.std.specs.List.{list_all};
 ghost use Rattle.std.specs.Char.{is_ascii_graphic};
@@ -16,8 +16,8 @@ use crate::reply::Reason;
 /// Reads the payload of a subnegotiation as a message (RFC 1647, sections 3 and 7); the message's
 /// texts and lists are lent from the payload.
 ///
-/// It answers [`SubFault::NotOurs`] if the first byte isn't 28 or there is none, and
-/// [`SubFault::Malformed`] if the bytes after it spell no message.
+/// It fails with [`SubFault::NotOurs`] if the first byte isn't X'28' or there is none, and with
+/// [`SubFault::Malformed`] if the bytes after it are no message.
 pub fn read_sub(bytes: &[u8]) -> Result<SubMessage<'_>, SubFault>
     ensures found { IfOk result (LiesIn bytes.now) }
     ensures fault { IfErr result (HasFault bytes.now) }
@@ -38,7 +38,7 @@ fn find_message(bytes: &[u8]) -> Result<SubMessage<'_>, SubFault>
     read_ours(rest).ok_or(SubFault::Malformed)
 }
 
-// The message after the option's code.
+// Reads a message after the option's code.
 fn read_ours(bytes: &[u8]) -> Option<SubMessage<'_>>
     ensures found { IfSome result (LiesIn (40 ∷ bytes.now)) }
     ensures none { IfNone result ((message : Message) → ¬ Says (40 ∷ bytes.now) message) }
@@ -75,7 +75,7 @@ fn type_is(bytes: &[u8]) -> Option<SubMessage<'_>>
     }
 }
 
-// The name after a device's text, if there is one.
+// Reads the name after a device type's text, if there is one.
 fn name_at(bytes: &[u8]) -> Option<Option<Name<'_>>>
     ensures found { IfSome result (λ name. IsName (name_of name) × (bytes.now ≡ name_part (name_of name))) }
     ensures none { IfNone result ((name : Option NameOf) → IsName name → bytes.now ≡ name_part name → ⊥) }

@@ -1,4 +1,4 @@
-//! The answers of both ends' talks.
+//! What both ends' talks ask their ends to do.
 ghost use Rattle.std.specs.Prelude.{◌≡◌, ◌≤◌, length, option_map};
 ghost use Rattle.tn3270e_msg.specs.Message.{IsMessage};
 ghost use Rattle.tn3270e_msg.specs.Lent.{message_of, payload};
@@ -14,25 +14,24 @@ use codes3270::Model;
 use std::fmt;
 use telnet_wire::Verb;
 
-/// Why a host rejects a device request: a code of RFC 1647, section 3, or one that it doesn't name.
+/// Why a host rejects a device request: a code of RFC 1647, section 3, or any other byte.
 #[derive(Clone, Copy, Debug, PartialEq, Eq)]
 pub struct Reason(pub u8);
 
 impl Reason {
-    /// DEVICE-IN-USE: the named LU is held; or none was named, and all are held.
+    /// DEVICE-IN-USE: the named LU is held or, without a name, all LUs are held.
     pub const DEVICE_IN_USE: Reason = Reason(1);
 
     /// INV-NAME: there is no such LU.
     pub const INV_NAME: Reason = Reason(3);
 
-    /// INV-DEVICE-TYPE: the type isn't served.
+    /// INV-DEVICE-TYPE: the host doesn't serve the device type.
     pub const INV_DEVICE_TYPE: Reason = Reason(4);
 
-    /// UNSUPPORTED-REQ: printers aren't served.
+    /// UNSUPPORTED-REQ: the host doesn't serve printers.
     pub const UNSUPPORTED_REQ: Reason = Reason(7);
 
-    /// The reason's name in RFC 1647, section 3, if it is one of these constants; None for any
-    /// other code.
+    /// The reason's name in RFC 1647, section 3, if it is one of these constants; `None` for any other code.
     pub fn name(self) -> Option<&'static str>
         ensures { option_map (λ name. name.now) result ≡ reason_name self }
     {
@@ -61,15 +60,14 @@ impl fmt::Display for Reason {
     }
 }
 
-/// A message that an end sends. It owns its parts; a `SubMessage` lends them.
+/// A message that an end sends. It owns its parts; a `SubMessage` borrows them.
 #[derive(Clone, Copy, Debug, PartialEq, Eq)]
 pub enum OwnedMessage {
     /// SEND DEVICE-TYPE.
     SendType,
-    /// DEVICE-TYPE REQUEST of this model, without extended attributes, with CONNECT and this LU if
-    /// there is one.
+    /// DEVICE-TYPE REQUEST of this model's type without extended attributes, with CONNECT and this LU if there is one.
     TypeRequest(Model, Option<Lu>),
-    /// DEVICE-TYPE IS, with CONNECT and the LU granted.
+    /// DEVICE-TYPE IS, with CONNECT and the granted LU.
     TypeIs(Device, Lu),
     /// DEVICE-TYPE REJECT REASON.
     TypeReject(Reason),
@@ -80,7 +78,7 @@ pub enum OwnedMessage {
 }
 
 impl OwnedMessage {
-    /// The message, with its parts lent. Its payload has at most 256 bytes.
+    /// The message, which borrows its parts. Its payload has at most 256 bytes.
     pub fn message(&self) -> SubMessage<'_>
         ensures value { message_of result ≡ message_sent self.now }
         ensures bytes { payload result ≡ payload_sent self.now }
@@ -108,10 +106,10 @@ impl OwnedMessage {
     }
 }
 
-/// The talk after a message is sent.
+/// How the talk continues after a message is sent.
 #[derive(Clone, Copy, Debug, PartialEq, Eq)]
 pub enum After {
-    /// It goes on.
+    /// The negotiation continues.
     Going,
     /// The ends agreed.
     Agreed,
@@ -122,18 +120,18 @@ pub enum After {
 /// What an end must do about an item.
 #[derive(Clone, Copy, Debug, PartialEq, Eq)]
 pub enum Reply {
-    /// Nothing.
+    /// It does nothing.
     Nothing,
-    /// It sends the negotiation of the option with this code.
+    /// It sends this verb with this option's code.
     Opt(Verb, u8),
-    /// It sends a message; then the talk is like this.
+    /// It sends a message, and then the talk continues as `After` says.
     Sub(OwnedMessage, After),
     /// The host asks its pool for an LU, of this name if there is one;
     /// [`HostTalk::answered`](crate::HostTalk::answered) takes the answer.
     AskPool(Option<Lu>),
     /// The ends agreed.
     Agreed,
-    /// The host refused the terminal an LU. The terminal's talk is over; its connection stays open.
+    /// The host rejected the device request. The terminal's talk ends; its connection stays open.
     Refused(Reason),
     /// The end closes.
     Close(Cause),

@@ -1,5 +1,5 @@
-//! The terminal's talk, from the host's offer to agreement (RFC 1647, section 7; the choices among
-//! its replies are our profile).
+//! The terminal's talk: its side of the negotiation, from the host's offer to agreement (RFC 1647, section 7; the
+//! choice among replies is our profile).
 ghost use Rattle.std.specs.Prelude.{◌≡◌, ℕ, List, Option};
 ghost use Rattle.codes3270.specs.declared.size.Model.{Model as ModelOf};
 ghost use Rattle.telnet_wire.specs.Items.{item_of};
@@ -28,15 +28,15 @@ use telnet_wire::{Item, Verb};
 pub enum TermState {
     /// The host hasn't offered TN3270E yet.
     Waiting,
-    /// The terminal agreed to TN3270E, and wasn't asked for its type yet.
+    /// The terminal agreed to TN3270E, and the host hasn't asked for its device type yet.
     Willing,
-    /// It sent its type, and awaits an LU.
+    /// The terminal requested its device type, and waits for an LU.
     TypeAsked,
-    /// It was granted this LU, and asked for RESPONSES.
+    /// The host granted this LU, and the terminal requested RESPONSES.
     FunctionsAsked(Lu),
-    /// Both ends agreed, with this LU granted.
+    /// Both ends agreed. The terminal has this LU.
     Agreed(Lu),
-    /// The host refused it an LU; every later item is ignored.
+    /// The host rejected the device request. Every later item is ignored.
     Refused(Reason),
     /// The terminal closes.
     Closed(Cause),
@@ -119,7 +119,8 @@ impl TermState {
 
 // The host's functions, once this LU is granted.
 fn agreement_transition(lu: Lu, offer: FunctionsOffer) -> Transition<TermState>
-    ensures { (model : ModelOf) (wanted : Option (List ℕ)) → result ≡ term_transition model wanted (FunctionsAsked lu) (IsFunctions offer) }
+    ensures { (model : ModelOf) (wanted : Option (List ℕ))
+        → result ≡ term_transition model wanted (FunctionsAsked lu) (IsFunctions offer) }
 {
     match offer {
         FunctionsOffer::ResponsesAlone => Transition::Goes(TermState::Agreed(lu), Reply::Agreed),
@@ -129,7 +130,8 @@ fn agreement_transition(lu: Lu, offer: FunctionsOffer) -> Transition<TermState>
 
 // The host's functions request, once this LU is granted.
 fn functions_transition(lu: Lu, offer: FunctionsOffer) -> Transition<TermState>
-    ensures { (model : ModelOf) (wanted : Option (List ℕ)) → result ≡ term_transition model wanted (FunctionsAsked lu) (RequestsFunctions offer) }
+    ensures { (model : ModelOf) (wanted : Option (List ℕ))
+        → result ≡ term_transition model wanted (FunctionsAsked lu) (RequestsFunctions offer) }
 {
     match offer {
         FunctionsOffer::ResponsesAlone => Transition::Goes(
@@ -150,7 +152,7 @@ fn is_type_of(model: Model, text: &[u8]) -> bool
     Device::of(model).has_text(text)
 }
 
-// DEVICE-TYPE IS, of the type that was asked for or not, with this name of an LU if it is one.
+// A DEVICE-TYPE IS. `is_own_type` says whether it has the requested type; `name` is its LU, if that is an LU name.
 fn grant_transition(
     wanted: Option<Lu>,
     is_own_type: bool,
@@ -170,7 +172,7 @@ fn grant_transition(
     )
 }
 
-/// The terminal's part of the talk with its host. Contracts see its model, the LU that it wants, its
+/// The terminal's side of the negotiation. Contracts see its model, the LU that it wants, its
 /// state, and how many counter-requests it may still send.
 #[derive(Drop, Debug)]
 pub struct TermTalk {
@@ -185,13 +187,16 @@ impl marker::Model for TermTalk {
 
     ghost Value = { Term };
 
-    ghost view = { λ talk. record { model = talk.model; wanted = talk.wanted; talk = record { state = talk.state; refusals_left = talk.refusals_left } } };
+    ghost view = { λ talk. record {
+      model = talk.model;
+      wanted = talk.wanted;
+      talk = record { state = talk.state; refusals_left = talk.refusals_left };
+    } };
 }
 
 impl TermTalk {
-    /// A talk before the first item, of a terminal of this model that wants this LU, if any. It asks
-    /// for its model's type without extended attributes, IBM-3278-2 to IBM-3278-5, and is granted
-    /// that type alone.
+    /// A talk before the first item, of a terminal of this model that wants this LU, if any. It requests its model's
+    /// device type without extended attributes, IBM-3278-2 to IBM-3278-5, and accepts no other type.
     pub fn new(model: Model, wanted: Option<Lu>) -> TermTalk
         ensures start { result ≡ term_start model wanted }
         ensures wanted { IsLuIfSome wanted }
@@ -208,9 +213,9 @@ impl TermTalk {
         }
     }
 
-    /// Takes an item from the host, and answers what the terminal must do about it. A message that
-    /// the talk doesn't await closes it, by BadTalk. The eighth counter-request is sent and closes
-    /// it, by TooMany. A closed talk answers its cause again, and a refused one nothing.
+    /// Processes an item from the host, and returns what the terminal must do. A message that
+    /// the talk doesn't expect closes it, with BadTalk. The eighth counter-request is sent and closes
+    /// it, with TooMany. A closed talk returns its cause again, and a rejected one returns `Nothing`.
     pub fn take(&mut self, item: &Item) -> Reply
         ensures { TermTakes self.old (item_of item.now) (result) self.new }
     {
@@ -225,7 +230,7 @@ impl TermTalk {
         self.state
     }
 
-    /// The LU on which both ends agreed; None before, and once the talk closed.
+    /// The LU on which both ends agreed. `None` before that, and after the talk closed.
     pub fn agreed_lu(&self) -> Option<Lu>
         ensures { result ≡ agreed_lu self.now.talk.state }
     {
@@ -235,14 +240,14 @@ impl TermTalk {
         }
     }
 
-    /// Whether both ends agreed, and the talk didn't close since.
+    /// Whether both ends agreed and the talk isn't closed.
     pub fn is_agreed(&self) -> bool
         ensures { result ≡ is_agreed self.now.talk.state }
     {
         matches!(self.state, TermState::Agreed(_))
     }
 
-    /// Why the host refused an LU; None unless it did.
+    /// Why the host rejected the device request. `None` unless it did.
     pub fn reason_refused(&self) -> Option<Reason>
         ensures { result ≡ reason_refused self.now.talk.state }
     {
@@ -252,7 +257,7 @@ impl TermTalk {
         }
     }
 
-    /// The LU that was granted; None before, and once the talk closed.
+    /// The LU that was granted. `None` before that, and after the talk closed.
     pub fn lu(&self) -> Option<Lu>
         ensures { result ≡ bound self.now.talk.state }
     {

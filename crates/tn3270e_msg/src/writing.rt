@@ -1,4 +1,4 @@
-//! Messages as bytes, added at the end of a vector.
+//! Appends messages, as bytes, to a vector.
 ghost use Rattle.std.specs.Prelude.{◌≡◌, ◌≤◌, ◌∷◌, ◌++◌};
 ghost use Rattle.std.specs.Vec.{vec_capacity};
 ghost use Rattle.telnet_wire.specs.Items.{sent_bytes};
@@ -17,11 +17,10 @@ use crate::message::{Name, SubMessage};
 use crate::reply::{After, Reply};
 use telnet_wire::{Memory, put_option, put_sub, put_sub_parts};
 
-/// Adds a message as a subnegotiation, with the texts and lists that it lends (RFC 1647, section
-/// 3).
+/// Appends a message as a subnegotiation, with the texts and lists that it borrows (RFC 1647, section 3).
 ///
-/// Its types and names must be one or more bytes from 21 to 7E. A vector that can't grow is left
-/// unchanged; one that has room takes the message.
+/// Its device types and names must be one or more bytes from X'21' to X'7E'. It succeeds if the vector has room
+/// for the message. If memory is refused, the vector is unchanged.
 pub fn put_sub_message(out: &mut Vec<u8>, message: &SubMessage) -> Result<(), Memory>
     requires { IsMessage (message_of message.now) }
     ensures put { PutsMessage out.old message.now result out.new }
@@ -47,7 +46,8 @@ pub fn put_sub_message(out: &mut Vec<u8>, message: &SubMessage) -> Result<(), Me
 }
 
 fn put_type_request(out: &mut Vec<u8>, device: &[u8], name: Option<Name<'_>>) -> Result<(), Memory>
-    ensures { Appends out.old (spelling (Sub (0x28 ∷ 2 ∷ 7 ∷ (device.now ++ name_part (name_of name.entry))))) result out.new }
+    ensures { Appends out.old (spelling (Sub (0x28 ∷ 2 ∷ 7 ∷ (device.now ++ name_part (name_of name.entry)))))
+        result out.new }
 {
     let request = [TN3270E, DEVICE_TYPE, REQUEST];
     match name {
@@ -57,12 +57,11 @@ fn put_type_request(out: &mut Vec<u8>, device: &[u8], name: Option<Name<'_>>) ->
     }
 }
 
-/// The most bytes that [`put_reply`] adds: a subnegotiation of 256 bytes, each doubled, with its
-/// begin and end.
+/// The most bytes that [`put_reply`] appends: a subnegotiation of 256 bytes, each doubled, with its begin and end.
 pub const REPLY_ROOM: usize = 2 * 256 + 4;
 
-/// Adds the item that a reply sends, if it sends one. It answers the cause by which the reply
-/// closes the connection, if it does. The vector must have room for a reply.
+/// Appends the item that a reply sends, if any. Returns the cause with which the reply
+/// closes the connection, if it does. The vector must have [`REPLY_ROOM`] bytes of room.
 pub fn put_reply(out: &mut Vec<u8>, reply: &Reply) -> Option<Cause>
     requires { HasRoomForReply out.old }
     ensures sent { out.new.items ≡ out.old.items ++ sent_bytes (items_sent reply.now) }

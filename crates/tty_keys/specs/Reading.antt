@@ -1,4 +1,4 @@
--- What bytes read as (our profile).
+-- Which keystrokes bytes are (our profile).
 use Rattle.std.specs.Prelude.{ℕ, List, [], ◌∷◌, ◌++◌, take, Option, Some, None, if◌then◌else◌}
 use Rattle.std.specs.Option.{option_to_list}
 use Rattle.tty_keys.specs.declared.keystroke.Keystroke.{Keystroke}
@@ -7,41 +7,41 @@ use Rattle.tty_keys.specs.declared.keystroke.Pushed.{Pushed}
 use Rattle.tty_keys.specs.Table.{meaning}
 use Rattle.tty_keys.specs.Forms.{goes_on, completes}
 
--- the keystrokes that bytes complete, and the bytes of the next one
+-- the keystrokes that bytes complete, and the kept bytes of the next one
 pub record Reading : Type 0 where
   pub keystrokes : List Keystroke
   pub kept : List ℕ
 
--- a byte after the bytes kept, of which there are at most 8: no sequence of the table is as long
+-- the kept bytes after one more byte: at most 8, since each sequence of the table is shorter
 abbrev pub grown : List ℕ → ℕ → List ℕ
 grown kept byte = take 8 (kept ++ byte ∷ [])
 
--- a byte that goes on with what is kept
+-- the reading of a byte that may follow the kept ones
 abbrev pub read_on : List ℕ → ℕ → Reading
 read_on kept byte =
     if completes kept byte then record { keystrokes = meaning (grown kept byte) ∷ []; kept = [] }
     else record { keystrokes = []; kept = grown kept byte }
 
--- a byte that doesn't go on begins the next keystroke, and what was kept means nothing
+-- the reading of any byte: one that may not follow the kept ones begins the next keystroke, and they are an Unknown
 abbrev pub read_byte : List ℕ → ℕ → Reading
 read_byte kept byte =
     if goes_on kept byte then read_on kept byte
     else (let next = read_on [] byte in record { keystrokes = Unknown ∷ next.keystrokes; kept = next.kept })
 
--- two readings, one after the other
+-- two readings, one after the other, as one
 abbrev pub joined : Reading → Reading → Reading
 joined first second = record { keystrokes = first.keystrokes ++ second.keystrokes; kept = second.kept }
 
--- bytes, one after another
+-- the reading of bytes, one after another
 abbrev pub read_bytes : List ℕ → List ℕ → Reading
 read_bytes kept [] = record { keystrokes = []; kept = kept }
 read_bytes kept (byte ∷ bytes) = let first = read_byte kept byte in joined first (read_bytes first.kept bytes)
 
--- what a pause ends
+-- the keystroke that a pause ends: Unknown, if one has begun
 abbrev pub after_pause : List ℕ → Option Keystroke
 after_pause [] = None
 after_pause (first ∷ rest) = Some Unknown
 
--- the keystrokes that `push` answers
+-- the keystrokes that `push` reports
 abbrev pub keystrokes_of : Pushed → List Keystroke
 keystrokes_of pushed = (if pushed.interrupted then Unknown ∷ [] else []) ++ option_to_list pushed.keystroke

@@ -1,7 +1,8 @@
--- What the bytes of each keystroke mean (our profile: c3270's default keymap where it has the key, the sequences of xterm, tmux,
--- screen, rxvt and the Linux console). Where terminals send one sequence for different keys, it has xterm's or the Linux console's
--- meaning: `CSI 23~` and `CSI 24~` are F11 and F12, which rxvt also sends for Shift-F1 and Shift-F2, and `CSI 25~` to `CSI 34~`
--- are the Linux console's Shift-F1 to Shift-F8, which rxvt sends for Shift-F3 to Shift-F10.
+-- What the bytes of each keystroke mean (our profile: c3270's default keymap where it has the key, the sequences of
+-- xterm, tmux, screen, rxvt and the Linux console). Where terminals send one sequence for different keys, it has
+-- xterm's or the Linux console's meaning: `CSI 23~` and `CSI 24~` are F11 and F12, which rxvt also sends for Shift-F1
+-- and Shift-F2, and `CSI 25~` to `CSI 34~` are the Linux console's Shift-F1 to Shift-F8, which rxvt sends for Shift-F3
+-- to Shift-F10.
 use Rattle.std.specs.Prelude.{ℕ, ◌+◌, ◌==◌, List, [], ◌∷◌, Option, Some, None, if◌then◌else◌, bytes_eq, codes, get_or}
 use Rattle.std.specs.Char.{is_ascii_control}
 use Rattle.std.specs.List.{list_any, position}
@@ -12,7 +13,7 @@ use Rattle.keyboard.specs.declared.key.Key.TheVariants.{Char, Tab, BackTab, NewL
 use Rattle.tty_keys.specs.declared.keystroke.Keystroke.{Keystroke}
 use Rattle.tty_keys.specs.declared.keystroke.Keystroke.TheVariants.{Key, Redraw, Quit, Unknown}
 
--- control characters
+-- the keystroke that a control character means
 abbrev pub control : ℕ → Keystroke
 control byte =
     if byte == 0x03 then Key Clear  -- Ctrl-C
@@ -59,11 +60,11 @@ pf_sequences =
     ∷ (codes "[24;2~" ∷ codes "+" ∷ [])
     ∷ []
 
--- those of PA1 to PA3: most terminals send ESC and the digit for Alt-1 to Alt-3
+-- the sequences of PA1 to PA3: most terminals send ESC and the digit for Alt-1 to Alt-3
 abbrev pub pa_sequences : List (List (List ℕ))
 pa_sequences = (codes "1" ∷ []) ∷ (codes "2" ∷ []) ∷ (codes "3" ∷ []) ∷ []
 
--- those of the cursor keys up, down, right and left, of Home, Insert, Delete and Back Tab
+-- the sequences of the cursor keys up, down, right and left, of Home, Insert, Delete and Back Tab
 abbrev pub other_sequences : List (List (List ℕ))
 other_sequences =
     (codes "[A" ∷ codes "OA" ∷ [])
@@ -76,15 +77,15 @@ other_sequences =
     ∷ (codes "[Z" ∷ (9 ∷ []) ∷ [])
     ∷ []
 
--- these keys, in the same order
+-- the keys of `other_sequences`, in the same order
 abbrev pub other_keys : List BoardKey
 other_keys = CursorUp ∷ CursorDown ∷ CursorRight ∷ CursorLeft ∷ Home ∷ Insert ∷ Delete ∷ BackTab ∷ []
 
--- the index of the key with a sequence
+-- the index of the key that has this sequence
 abbrev pub place_of : List (List (List ℕ)) → List ℕ → Option ℕ
 place_of keys sequence = position (λ texts. list_any (λ text. bytes_eq text sequence) texts) keys
 
--- the key with a sequence
+-- the key that has this sequence
 abbrev pub pf_key : List ℕ → Option BoardKey
 pf_key sequence = option_map (λ place. Pf (place + 1)) (place_of pf_sequences sequence)
 
@@ -98,11 +99,11 @@ abbrev pub key_or_unknown : Option BoardKey → Keystroke
 key_or_unknown None = Unknown
 key_or_unknown (Some key) = Key key
 
--- the bytes after ESC
+-- the keystroke that the bytes after ESC mean
 unfoldable pub escaped : List ℕ → Keystroke
 escaped sequence = key_or_unknown (option_or (option_or (pf_key sequence) (pa_key sequence)) (other_key sequence))
 
--- the character that bytes spell in UTF-8 (RFC 3629)
+-- the keystroke for the first character of a text, and for the character that bytes encode in UTF-8 (RFC 3629)
 abbrev pub first_of : List ℕ → Keystroke
 first_of [] = Unknown
 first_of (letter ∷ letters) = Key (Char letter)
@@ -110,7 +111,7 @@ first_of (letter ∷ letters) = Key (Char letter)
 abbrev pub character : List ℕ → Keystroke
 character bytes = if is_utf8 bytes then first_of (chars bytes) else Unknown
 
--- the bytes of a whole keystroke
+-- the keystroke that the bytes of a complete one mean
 abbrev pub meaning : List ℕ → Keystroke
 meaning [] = Unknown
 meaning (first ∷ rest) =

@@ -1,14 +1,14 @@
-//! Where a keystroke's bytes end.
+//! Which bytes belong to a keystroke, and which is its last.
 ghost use Rattle.std.specs.Prelude.{◌≡◌};
 ghost use Rattle.tty_keys.specs.Forms.{completes, completes_escaped, completes_csi, goes_on, goes_on_escaped, is_continuation, is_final, utf8_length};
 
 /// The byte that begins an escape sequence.
 pub(crate) const ESC: u8 = 0x1B;
 
-/// TAB, which may follow ESC.
+/// TAB; ESC and TAB are the Linux console's Shift-Tab.
 const TAB: u8 = 0x09;
 
-/// How many bytes a character has in UTF-8, by its first byte (RFC 3629); 1 if no character begins so.
+/// The number of bytes of a character in UTF-8, by its first byte (RFC 3629); 1 if no character begins with it.
 fn utf8_length(first: u8) -> usize
     ensures { result ≡ utf8_length first }
 {
@@ -20,7 +20,7 @@ fn utf8_length(first: u8) -> usize
     }
 }
 
-/// Whether a byte is one of a character after its first (RFC 3629).
+/// Whether a byte is one after the first of a character in UTF-8 (RFC 3629).
 fn is_continuation(byte: u8) -> bool
     ensures { result ≡ is_continuation byte }
 {
@@ -34,7 +34,7 @@ fn is_final(byte: u8) -> bool
     matches!(byte, 0x40..=0x7E)
 }
 
-/// Whether a byte may follow the first bytes of a keystroke.
+/// Whether a byte may follow the bytes `kept` of a keystroke.
 pub(crate) fn goes_on(kept: &[u8], byte: u8) -> bool
     ensures { result ≡ goes_on kept.now byte }
 {
@@ -45,7 +45,7 @@ pub(crate) fn goes_on(kept: &[u8], byte: u8) -> bool
     }
 }
 
-/// The same after ESC.
+/// Whether a byte may follow ESC and the bytes `kept`.
 fn goes_on_escaped(kept: &[u8], byte: u8) -> bool
     ensures { result ≡ goes_on_escaped kept.now byte }
 {
@@ -56,7 +56,7 @@ fn goes_on_escaped(kept: &[u8], byte: u8) -> bool
     }
 }
 
-/// Whether a keystroke ends at a byte that follows its first ones.
+/// Whether a byte is the last of a keystroke, after the bytes `kept`.
 pub(crate) fn completes(kept: &[u8], byte: u8) -> bool
     ensures { result ≡ completes kept.now byte }
 {
@@ -67,7 +67,7 @@ pub(crate) fn completes(kept: &[u8], byte: u8) -> bool
     }
 }
 
-/// The same after ESC.
+/// Whether a byte is the last of a keystroke, after ESC and the bytes `kept`.
 fn completes_escaped(kept: &[u8], byte: u8) -> bool
     ensures { result ≡ completes_escaped kept.now byte }
 {
@@ -79,7 +79,7 @@ fn completes_escaped(kept: &[u8], byte: u8) -> bool
     }
 }
 
-/// The same after ESC and `[`.
+/// Whether a byte is the last of a control sequence, after ESC, `[` and the bytes `kept`.
 fn completes_csi(kept: &[u8], byte: u8) -> bool
     ensures { result ≡ completes_csi kept.now byte }
 {

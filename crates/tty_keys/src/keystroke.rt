@@ -4,21 +4,21 @@ use keyboard::Key;
 /// What an operator's keystroke means (our profile).
 #[derive(Clone, Copy, Debug, PartialEq, Eq)]
 pub enum Keystroke {
-    /// A key of the 3278. A character outside code page 037 is one too: the keyboard refuses it.
+    /// A key of the 3278. A character outside of code page 037 is one, too: the keyboard refuses it.
     Key(Key),
-    /// Ctrl-L: the whole screen is to be drawn again.
+    /// Ctrl-L: the program must draw the whole screen again.
     Redraw,
-    /// Ctrl-]: the program is to end.
+    /// Ctrl-]: the program must end.
     Quit,
-    /// A byte, a sequence or an ill-formed character that means nothing.
+    /// A byte, an escape sequence or an ill-formed character that has no meaning.
     Unknown,
 }
 
-/// What a byte completes.
+/// What a byte does: the keystroke that it completes, and whether it breaks off another.
 #[derive(Clone, Copy, Debug, PartialEq, Eq)]
 pub struct Pushed {
     /// Whether the byte broke off a sequence or a character before its end. That counts as a
-    /// [`Keystroke::Unknown`] in front of `keystroke`.
+    /// [`Keystroke::Unknown`] before `keystroke`.
     pub interrupted: bool,
     /// The keystroke that ends at the byte, if one does.
     pub keystroke: Option<Keystroke>,

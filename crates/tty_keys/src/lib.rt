@@ -1,4 +1,5 @@
-//! An operator's keystrokes, from the bytes that a tty in raw mode gives.
+//! Reads an operator's keystrokes from the bytes of a tty in raw mode. What a key does is up to `keyboard`; the
+//! screen is drawn by `tty_screen`.
 //!
 //! A [`KeyReader`] takes the bytes one by one, cut anywhere. Most keys are one byte, or the bytes of
 //! one character in UTF-8; the others are escape sequences. Only a pause distinguishes a lone ESC
@@ -18,10 +19,10 @@
 //! }
 //! ```
 //!
-//! `specs/` has the definitions: `Table` says what each sequence means, `Forms` where a keystroke's
-//! bytes end, and `Reading` what a list of bytes reads as. [`laws::cut_anywhere`] has the law that it
-//! makes no difference how the bytes are cut, and [`laws::keys_are_read`] laws about `Forms`: it lets
-//! each sequence of the table and each character through, and no unknown sequence types a character.
+//! `specs/` has the definitions: `Table` says what each sequence means, `Forms` which byte ends a
+//! keystroke, and `Reading` which keystrokes a list of bytes is. [`laws::cut_anywhere`] has the law
+//! that it makes no difference how the bytes are cut, and [`laws::keys_are_read`] laws about `Forms`: it
+//! lets each sequence of the table and each character through, and no unknown sequence types a character.
 #![tactic(auto)]
 
 mod forms;

@@ -1,4 +1,4 @@
-//! The reader: bytes in, keystrokes out.
+//! The reader: bytes go in, keystrokes come out.
 ghost use Rattle.std.specs.Prelude.{◌≡◌, ◌==◌, ◌≤◌, [], length};
 ghost use Rattle.tty_keys.specs.Table.{meaning};
 ghost use Rattle.tty_keys.specs.Reading.{grown, read_byte, after_pause, keystrokes_of};
@@ -9,11 +9,11 @@ use crate::table::meaning;
 use arrayvec::ArrayVec;
 use std::marker::Model;
 
-/// The bytes that are kept of a sequence that isn't complete. Each sequence of the table is shorter.
+/// The most bytes that are kept of an incomplete sequence. Each sequence of the table is shorter.
 const MOST_KEPT: usize = 8;
 
 /// Reads keystrokes from bytes, cut anywhere. Contracts see it as the bytes since the last complete
-/// keystroke, the first 8 of them.
+/// keystroke, of which it keeps the first 8.
 #[derive(Debug, Drop)]
 pub struct KeyReader {
     kept: ArrayVec<u8, MOST_KEPT>,
@@ -28,7 +28,7 @@ impl Model for KeyReader {
 }
 
 impl KeyReader {
-    /// A reader before the first byte.
+    /// A reader that has taken no byte.
     pub fn new() -> KeyReader
         ensures { result ≡ [] }
     {
@@ -37,14 +37,14 @@ impl KeyReader {
         }
     }
 
-    /// Whether no keystroke has begun: a pause means nothing then.
+    /// Whether no keystroke has begun; then a pause has no meaning.
     pub fn is_empty(&self) -> bool
         ensures { result ≡ (length self.now == 0) }
     {
         self.kept.is_empty()
     }
 
-    /// Takes the next byte, and says which keystroke ends at it, if one does.
+    /// Takes the next byte, and returns the keystroke that it completes, if it completes one.
     pub fn push(&mut self, byte: u8) -> Pushed
         ensures keystrokes { keystrokes_of result ≡ (read_byte self.old byte).keystrokes }
         ensures kept { self.new ≡ (read_byte self.old byte).kept }
@@ -71,7 +71,7 @@ impl KeyReader {
         }
     }
 
-    /// The keystroke of the bytes, which then are gone.
+    /// Returns the keystroke that the kept bytes mean, and drops the bytes.
     fn take(&mut self) -> Keystroke
         ensures keystroke { result ≡ meaning self.old }
         ensures kept { self.new ≡ [] }
@@ -81,8 +81,8 @@ impl KeyReader {
         keystroke
     }
 
-    /// No byte arrived for a while: this ends a lone ESC, and any sequence or character that isn't
-    /// complete, by a [`Keystroke::Unknown`]. `None` if no keystroke has begun.
+    /// Reports that no byte arrived for a while. This ends a lone ESC, and any incomplete sequence or
+    /// character, as a [`Keystroke::Unknown`]. Returns `None` if no keystroke has begun.
     ///
     /// The caller decides how long a pause is. A slow line may deliver a sequence in pieces, so a
     /// long one is safer; since a lone ESC means nothing, nobody waits for its end.

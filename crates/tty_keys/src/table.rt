@@ -1,4 +1,4 @@
-//! What the bytes of a whole keystroke mean.
+//! What the bytes of a complete keystroke mean.
 ghost use Rattle.std.specs.Prelude.{◌≡◌, ◌<◌, IfSome, bytes_eq, length, position};
 ghost use Rattle.std.specs.List.{list_any};
 ghost use Rattle.std.specs.Str.{chars};
@@ -52,7 +52,7 @@ static OTHER_SEQUENCES: [&[&str]; 8] = [
     &["[Z", "\t"],
 ];
 
-/// The keys of `OTHER_SEQUENCES`.
+/// The keys of `OTHER_SEQUENCES`, in the same order.
 const OTHER_KEYS: [Key; 8] = [
     Key::CursorUp,
     Key::CursorDown,
@@ -71,7 +71,7 @@ fn is_among(texts: &[&str], sequence: &[u8]) -> bool
     texts.iter().any(|text| text.as_bytes() == sequence)
 }
 
-/// The index of the key with a sequence.
+/// The index of the key that has this sequence.
 fn place_of(keys: &[&[&str]], sequence: &[u8]) -> Option<usize>
     ensures place { result ≡ position (λ texts. list_any (λ text. bytes_eq text.now sequence.now) texts.now) keys.now }
     ensures in_range { IfSome result (λ place. place < length keys.now) }
@@ -79,7 +79,7 @@ fn place_of(keys: &[&[&str]], sequence: &[u8]) -> Option<usize>
     keys.iter().position(|texts| is_among(texts, sequence))
 }
 
-/// The program function key with a sequence.
+/// The PF key that has this sequence.
 fn pf_key(sequence: &[u8]) -> Option<Key>
     ensures { result ≡ pf_key sequence.now }
 {
@@ -88,7 +88,7 @@ fn pf_key(sequence: &[u8]) -> Option<Key>
     Some(Key::Pf(number))
 }
 
-/// The program attention key with a sequence.
+/// The PA key that has this sequence.
 fn pa_key(sequence: &[u8]) -> Option<Key>
     ensures { result ≡ pa_key sequence.now }
 {
@@ -97,7 +97,7 @@ fn pa_key(sequence: &[u8]) -> Option<Key>
     Some(Key::Pa(number))
 }
 
-/// The key of `OTHER_KEYS` with a sequence.
+/// The key of `OTHER_KEYS` that has this sequence.
 fn other_key(sequence: &[u8]) -> Option<Key>
     ensures { result ≡ other_key sequence.now }
 {
@@ -105,7 +105,7 @@ fn other_key(sequence: &[u8]) -> Option<Key>
     Some(OTHER_KEYS[place])
 }
 
-/// The keystroke of the bytes after ESC.
+/// The keystroke that the bytes after ESC mean.
 #[tactic(auto, unfolding(crate::specs::Table::escaped))]
 fn escaped(sequence: &[u8]) -> Keystroke
     ensures { result ≡ escaped sequence.now }
@@ -119,7 +119,7 @@ fn escaped(sequence: &[u8]) -> Keystroke
     Keystroke::Key(key)
 }
 
-/// The keystroke of a control character.
+/// The keystroke that a control character means.
 fn control(byte: u8) -> Keystroke
     ensures { result ≡ control byte }
 {
@@ -138,7 +138,7 @@ fn control(byte: u8) -> Keystroke
     }
 }
 
-/// The first character of a text.
+/// The keystroke for the first character of a text.
 fn first_of(text: &str) -> Keystroke
     ensures { result ≡ first_of (chars text.now) }
 {
@@ -148,7 +148,7 @@ fn first_of(text: &str) -> Keystroke
     }
 }
 
-/// The character that bytes spell in UTF-8.
+/// The keystroke for the character that bytes encode in UTF-8.
 #[tactic(auto, using(crate::proofs::Characters::well_formed, crate::proofs::Characters::ill_formed))]
 fn character(bytes: &[u8]) -> Keystroke
     ensures { result ≡ character bytes.now }
@@ -159,7 +159,7 @@ fn character(bytes: &[u8]) -> Keystroke
     }
 }
 
-/// The keystroke of the bytes of a whole one.
+/// The keystroke that the bytes of a complete one mean.
 pub(crate) fn meaning(bytes: &[u8]) -> Keystroke
     ensures { result ≡ meaning bytes.now }
 {

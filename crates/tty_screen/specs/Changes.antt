@@ -1,5 +1,5 @@
--- What is written to turn one picture into another (our profile): the cells that changed, in runs within a row. A run begins
--- with its place and its look.
+-- What is written to turn one picture into another (our profile): the cells that changed, in runs within a row. A run
+-- begins with its place and its look.
 use Rattle.std.specs.Prelude.{ℕ, ◌+◌, ◌==◌, Bool, ◌&&◌, List, [], ◌∷◌, ◌++◌, drop, Option, Some, None, if◌then◌else◌, slice_index_or}
 use Rattle.tty_screen.specs.declared.place.Place.{Place}
 use Rattle.tty_screen.specs.declared.look.Look.{Look}
@@ -9,39 +9,42 @@ use Rattle.tty_screen.specs.Pictures.{PictureParts, blank_cell, same_cell, origi
 use Rattle.tty_screen.specs.Spelling.{selection}
 use Rattle.tty_screen.specs.Tty.{Control}
 
--- A cell is written: in a run with this look, or, if there is none, as the first of one.
+-- what writes a cell: in a run whose last cell has this look, or, if there is no run, as the first of one
 abbrev pub written : Place → Option Look → PictureCell → List Control
 written place None cell = Control.CursorTo place ∷ selection cell.look ∷ Control.Graphic cell.glyph ∷ []
 written place (Some look) cell =
-    if same_look look cell.look then Control.Graphic cell.glyph ∷ [] else selection cell.look ∷ Control.Graphic cell.glyph ∷ []
+    if same_look look cell.look then Control.Graphic cell.glyph ∷ []
+    else selection cell.look ∷ Control.Graphic cell.glyph ∷ []
 
--- nothing is written of a cell that is as it was
+-- what writes a cell if it changed; nothing if it didn't
 abbrev pub change : Place → Option Look → PictureCell → PictureCell → List Control
 change place run old new = if same_cell old new then [] else written place run new
 
--- the run that goes on behind a cell; none behind one that isn't written, and behind the last of a row
+-- the look of the run that goes on after a cell; none after a cell that didn't change, and after the last of a row
 abbrev pub run_after : ℕ → Place → PictureCell → PictureCell → Option Look
-run_after columns place old new = if same_cell old new then None else if place.column + 1 == columns then None else Some new.look
+run_after columns place old new = if same_cell old new then None else if place.column + 1 == columns then None
+    else Some new.look
 
--- cells from a place on, that were `olds`; cells beyond the end of these were blank
+-- what changes the cells `olds` into these, from a place on; a cell beyond the end of `olds` was blank
 abbrev pub changes : ℕ → Place → Option Look → List PictureCell → List PictureCell → List Control
 changes columns place run olds [] = []
 changes columns place run olds (new ∷ news) =
     let old : PictureCell = slice_index_or olds 0 blank_cell in
-    change place run old new ++ changes columns (next_place columns place) (run_after columns place old new) (drop 1 olds) news
+    change place run old new
+    ++ changes columns (next_place columns place) (run_after columns place old new) (drop 1 olds) news
 
--- the cells that changed, and the cursor
+-- what writes the cells that changed, and then the cursor's place
 abbrev pub update : List PictureCell → PictureParts → List Control
 update olds picture = changes picture.columns origin None olds picture.cells ++ Control.CursorTo picture.cursor ∷ []
 
--- all of a picture, on an erased tty
+-- what erases the tty and writes the whole picture
 abbrev pub redrawing : PictureParts → List Control
 redrawing picture = Control.SelectRendition 0 [] ∷ Control.EraseAll ∷ update [] picture
 
 abbrev pub same_size : PictureParts → PictureParts → Bool
 same_size one other = one.rows == other.rows && one.columns == other.columns
 
--- what is written where a tty shows a picture, or something unknown
+-- what draws a picture on a tty that shows another one, or is unknown
 abbrev pub drawing_of : Option PictureParts → PictureParts → List Control
 drawing_of None picture = redrawing picture
 drawing_of (Some shown) picture = if same_size shown picture then update shown.cells picture else redrawing picture

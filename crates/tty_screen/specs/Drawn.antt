@@ -10,7 +10,7 @@ use Rattle.tty_screen.specs.Changes.{drawing_of}
 use Rattle.tty_screen.specs.Reading.{read}
 use Rattle.tty_screen.specs.Tty.{Tty, TtyCell, Rendition, Colour, default_rendition, after_all}
 
--- the graphic rendition of a look
+-- the graphic rendition that a look has
 abbrev pub rendition_of : Look → Rendition
 rendition_of Plain = default_rendition
 rendition_of UnprotectedNormal = record { colour = Colour.Green; bold = false; underlined = true }
@@ -18,11 +18,11 @@ rendition_of UnprotectedBright = record { colour = Colour.Red; bold = false; und
 rendition_of ProtectedNormal = record { colour = Colour.Blue; bold = false; underlined = false }
 rendition_of ProtectedBright = record { colour = Colour.White; bold = true; underlined = false }
 
--- a cell as the tty shows it
+-- the character of a tty that shows a cell
 abbrev pub tty_cell : PictureCell → TtyCell
 tty_cell cell = record { glyph = cell.glyph; rendition = rendition_of cell.look }
 
--- the characters of a tty from a place on, row by row, are these cells
+-- holds if the tty's characters from a place on, row by row, show these cells
 abbrev pub ShowsFrom : ℕ → Place → List PictureCell → (ℕ → ℕ → TtyCell) → Type 0
 ShowsFrom columns place [] grid = Unit {0}
 ShowsFrom columns place (cell ∷ cells) grid =
@@ -33,21 +33,23 @@ pub record HasRoom (picture : PictureParts) (tty : Tty) : Type 0 where
   pub rows : picture.rows ≤ tty.rows
   pub columns : picture.columns ≤ tty.columns
 
+-- the tty shows the picture
 pub record Shows (picture : PictureParts) (tty : Tty) : Type 0 where
   pub cells : ShowsFrom picture.columns origin picture.cells tty.grid
   pub cursor : tty.cursor ≡ picture.cursor
   pub sound : tty.garbled ≡ false
 
--- the tty shows the picture that is remembered; if there is none, it may show anything
+-- holds if the tty shows the picture that is known, or none is known
 abbrev pub ShowsKnown : Option PictureParts → Tty → Type 0
 ShowsKnown None tty = Unit {0}
 ShowsKnown (Some picture) tty = Shows picture tty
 
--- what a tty shows after it read these bytes
+-- the tty after it has read these bytes
 abbrev pub after_bytes : List ℕ → Tty → Tty
 after_bytes bytes tty = after_all (read bytes) tty
 
--- the bytes that are written have each tty that shows what is remembered, and has room, show the picture
+-- holds if each tty that has room, and shows the known picture, shows the new one after the bytes for it
 abbrev pub IsShownAfter : Option PictureParts → PictureParts → Type 0
 IsShownAfter known picture =
-    (tty : Tty) → HasRoom picture tty → ShowsKnown known tty → Shows picture (after_bytes (all_spelt (drawing_of known picture)) tty)
+    (tty : Tty) → HasRoom picture tty → ShowsKnown known tty
+    → Shows picture (after_bytes (all_spelt (drawing_of known picture)) tty)

@@ -1,4 +1,4 @@
--- What follows from the definitions (our profile).
+-- What follows from the definitions of drawing (our profile).
 use Rattle.std.specs.Prelude.{◌≡◌, ℕ, true, false, List, map, Option, IfSome, slice_index_or}
 use Rattle.codes3270.specs.declared.attribute.Cell.{Cell}
 use Rattle.codes3270.specs.declared.attribute.Cell.TheVariants.{Char}
@@ -8,19 +8,22 @@ use Rattle.tty_screen.specs.Pictures.{PictureParts, IsSized}
 use Rattle.tty_screen.specs.Painting.{painted_at, screen_cells}
 use Rattle.tty_screen.specs.Drawn.{IsShownAfter}
 
--- what is written over any picture, or over something unknown, has the tty show the picture
+-- What is written over any known picture, or on an unknown tty, makes the tty show the new picture.
 abbrev pub AreShown : Type 0
-AreShown = (known : Option PictureParts) (picture : PictureParts) → IfSome known IsSized → IsSized picture → IsShownAfter known picture
+AreShown = (known : Option PictureParts) (picture : PictureParts) → IfSome known IsSized → IsSized picture
+    → IsShownAfter known picture
 
--- each cell of a hidden field is a blank
+-- Each cell of a hidden field is a blank.
 abbrev pub AreBlank : Type 0
-AreBlank = (cells : List Cell) (at : ℕ) → is_hidden (attribute_over cells at) ≡ true → (painted_at cells at).glyph ≡ blank
+AreBlank = (cells : List Cell) (at : ℕ) → is_hidden (attribute_over cells at) ≡ true
+    → (painted_at cells at).glyph ≡ blank
 
 -- two screens with the same attributes, and with the same characters but for those of hidden fields
 pub record DifferInHidden (one other : List Cell) : Type 0 where
   pub attributes : map attribute_in one ≡ map attribute_in other
-  pub shown : (at : ℕ) → is_hidden (attribute_over one at) ≡ false → slice_index_or one at (Char 0) ≡ slice_index_or other at (Char 0)
+  pub shown : (at : ℕ) → is_hidden (attribute_over one at) ≡ false
+      → slice_index_or one at (Char 0) ≡ slice_index_or other at (Char 0)
 
--- the picture says nothing of the characters of hidden fields
+-- Two screens that differ only in the characters of hidden fields have the same cells in their pictures.
 abbrev pub AreUntold : Type 0
 AreUntold = (one other : List Cell) → DifferInHidden one other → screen_cells one ≡ screen_cells other

@@ -8,32 +8,32 @@ use Rattle.codes3270.specs.declared.attribute.Display.TheVariants.{Normal, Detec
 use Rattle.tty_screen.specs.declared.look.Look.{Look}
 use Rattle.tty_screen.specs.declared.look.Look.TheVariants.{Plain, UnprotectedNormal, UnprotectedBright, ProtectedNormal, ProtectedBright}
 
--- of the characters of a protected field
+-- the look of the characters of a protected field
 abbrev pub protected_look : Display → Look
 protected_look Normal = ProtectedNormal
 protected_look Detectable = ProtectedNormal
 protected_look Bright = ProtectedBright
 protected_look Hidden = ProtectedNormal
 
--- and of an unprotected one
+-- the look of the characters of an unprotected field
 abbrev pub unprotected_look : Display → Look
 unprotected_look Normal = UnprotectedNormal
 unprotected_look Detectable = UnprotectedNormal
 unprotected_look Bright = UnprotectedBright
 unprotected_look Hidden = UnprotectedNormal
 
--- of the characters under an attribute; those of no field are plain
+-- the look of the characters that an attribute governs; plain if there is none
 abbrev pub look_under : Option Attribute → Look
 look_under None = Plain
 look_under (Some attribute) =
     if attribute.protected then protected_look attribute.display else unprotected_look attribute.display
 
--- of a cell under an attribute; a cell that holds an attribute is plain
+-- the look of a cell that an attribute governs; plain if the cell is an attribute
 abbrev pub look_of : Cell → Option Attribute → Look
 look_of (Char code) over = look_under over
 look_of (Attr attribute) over = Plain
 
--- the looks' numbers, by which two are compared
+-- the number of a look, by which two are compared
 abbrev pub number_of : Look → ℕ
 number_of Plain = 0
 number_of UnprotectedNormal = 1

@@ -14,7 +14,7 @@ use Rattle.tty_screen.specs.Looks.{look_of}
 use Rattle.tty_screen.specs.Pictures.{PictureParts}
 use Rattle.tty_screen.specs.StatusRow.{status_cells}
 
--- the cell at an address: the character that is printed for it, which in a hidden field is a blank, and its look
+-- the picture's cell for an address: the character that is printed for it, in a hidden field a blank, and its look
 abbrev pub painted_at : List Cell → ℕ → PictureCell
 painted_at cells at = record {
   glyph = glyph_at cells at;
@@ -24,11 +24,11 @@ painted_at cells at = record {
 abbrev pub screen_cells : List Cell → List PictureCell
 screen_cells cells = map (painted_at cells) (range_with_len 0 (length cells))
 
--- where an address is in rows of this many columns
+-- the place of an address in rows of this many columns
 abbrev pub place_of : ℕ → ℕ → Place
 place_of columns at = record { row = at / columns; column = at % columns }
 
--- the rows of the screen, and a status row below them
+-- the picture: the rows of the screen, and the status row below them
 abbrev pub picture_of : SizedScreen → Keyboard → Bool → Option Refusal → List ℕ → PictureParts
 picture_of sized keyboard connected refusal lu =
     let cursor : Place = place_of sized.size.columns sized.screen.cursor in

@@ -1,4 +1,4 @@
--- Pictures: what an operator is shown (our profile).
+-- Pictures: what an operator sees (our profile).
 use Rattle.std.specs.Prelude.{◌≡◌, ℕ, ◌+◌, ◌*◌, ◌<◌, ◌==◌, ◌&&◌, ◌||◌, Bool, true, List, length, if◌then◌else◌, nat_lt, nat_le}
 use Rattle.std.specs.List.{list_all}
 use Rattle.tty_screen.specs.declared.place.Place.{Place}
@@ -6,22 +6,22 @@ use Rattle.tty_screen.specs.declared.look.Look.TheVariants.{Plain}
 use Rattle.tty_screen.specs.declared.picture.PictureCell.{PictureCell}
 use Rattle.tty_screen.specs.Looks.{same_look}
 
--- the cells, row by row, and where the cursor is
+-- a picture: its size, its cells, row by row, and the cursor's place
 pub record PictureParts : Type 0 where
   pub rows : ℕ
   pub columns : ℕ
   pub cells : List PictureCell
   pub cursor : Place
 
--- the graphic characters of ISO 8859-1
+-- whether a character is one of the graphic characters of ISO 8859-1
 abbrev pub is_graphic : ℕ → Bool
 is_graphic glyph = nat_lt glyph 256 && (nat_le 0x20 glyph && nat_lt glyph 0x7F || nat_le 0xA0 glyph)
 
 abbrev pub has_graphic : PictureCell → Bool
 has_graphic cell = is_graphic cell.glyph
 
--- There is a cell for each place, with a graphic character, and the cursor is at one of them. Rows and columns, from 1 on, have
--- three digits at most.
+-- there is a cell for each place, with a graphic character, and the cursor is at one of them; row and column numbers
+-- have three digits at most
 pub record IsSized (picture : PictureParts) : Type 0 where
   pub cells : length picture.cells ≡ picture.rows * picture.columns
   pub row : picture.cursor.row < picture.rows
@@ -30,7 +30,7 @@ pub record IsSized (picture : PictureParts) : Type 0 where
   pub few_columns : picture.columns < 1000
   pub graphic : list_all has_graphic picture.cells ≡ true
 
--- a character in the tty's own colour
+-- a cell with a character in the tty's own colour
 abbrev pub plain : ℕ → PictureCell
 plain glyph = record { glyph = glyph; look = Plain }
 
@@ -40,11 +40,11 @@ blank_cell = plain 0x20
 abbrev pub same_cell : PictureCell → PictureCell → Bool
 same_cell one other = one.glyph == other.glyph && same_look one.look other.look
 
--- the first place of all
+-- the place in the upper left corner
 abbrev pub origin : Place
 origin = record { row = 0; column = 0 }
 
--- the place after this one in rows of this many columns
+-- the place after this one, in rows of this many columns
 abbrev pub next_place : ℕ → Place → Place
 next_place columns place =
     if place.column + 1 == columns

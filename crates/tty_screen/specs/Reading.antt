@@ -1,10 +1,10 @@
--- How a tty reads bytes as control functions, one byte after another, wherever they are cut (ECMA-48, 5.4; characters in UTF-8
--- of at most two bytes; our profile says nothing of other bytes).
+-- How a tty reads bytes as control functions, one byte after another, however they are cut (ECMA-48, 5.4; characters in
+-- UTF-8 of at most two bytes; our profile says nothing of other bytes).
 use Rattle.std.specs.Prelude.{ℕ, ◌+◌, ◌*◌, ◌-◌, ◌==◌, ◌&&◌, ◌||◌, Bool, List, [], ◌∷◌, ◌++◌, if◌then◌else◌, nat_lt, nat_le}
 use Rattle.tty_screen.specs.Tty.{Control}
 
--- what the next byte is: the first of something; the last of a character with this first one; the one behind ESC; or one of a
--- control sequence with these parameters, and this one so far
+-- what the tty expects next: the first byte of a character or a control function; the last byte of a character with
+-- this first one; the byte after ESC; or a byte of a control sequence with these parameters, and this one up to here
 pub data Awaits : Type 0 where
   First : Awaits
   Last : ℕ → Awaits
@@ -18,7 +18,8 @@ abbrev pub escape : ℕ
 escape = 0x1B
 
 abbrev pub awaits_next : Awaits → ℕ → Awaits
-awaits_next Awaits.First byte = if byte == escape then Awaits.Escaped else if nat_lt byte 0xC0 then Awaits.First else Awaits.Last byte
+awaits_next Awaits.First byte = if byte == escape then Awaits.Escaped else if nat_lt byte 0xC0 then Awaits.First
+    else Awaits.Last byte
 awaits_next (Awaits.Last lead) byte = Awaits.First
 awaits_next Awaits.Escaped byte = if byte == 0x5B then Awaits.Parameter [] 0 else Awaits.First
 awaits_next (Awaits.Parameter before value) byte =
@@ -37,7 +38,7 @@ abbrev pub erase : List ℕ → List Control
 erase (what ∷ []) = if what == 2 then Control.EraseAll ∷ [] else []
 erase _ = []
 
--- a control sequence with this final byte: `H`, `m` or `J`
+-- the control function of a sequence with this final byte, `H`, `m` or `J`, and these parameters
 abbrev pub sequence : ℕ → List ℕ → List Control
 sequence final parameters =
     if final == 0x48 then cursor_to parameters else if final == 0x6D then select parameters
@@ -45,16 +46,18 @@ sequence final parameters =
 
 abbrev pub first_said : ℕ → List Control
 first_said byte =
-    if byte == 0x07 then Control.Bell ∷ [] else if nat_le 0x20 byte && nat_lt byte 0x7F then Control.Graphic byte ∷ [] else []
+    if byte == 0x07 then Control.Bell ∷ [] else if nat_le 0x20 byte && nat_lt byte 0x7F then Control.Graphic byte ∷ []
+    else []
 
--- what is complete with a byte
+-- the control functions that a byte completes
 abbrev pub said_by : Awaits → ℕ → List Control
 said_by Awaits.First byte = first_said byte
 said_by (Awaits.Last lead) byte = Control.Graphic ((lead - 0xC0) * 64 + (byte - 0x80)) ∷ []
 said_by Awaits.Escaped byte = []
-said_by (Awaits.Parameter before value) byte = if is_digit byte || byte == 0x3B then [] else sequence byte (before ++ value ∷ [])
+said_by (Awaits.Parameter before value) byte = if is_digit byte || byte == 0x3B then []
+    else sequence byte (before ++ value ∷ [])
 
--- what bytes say
+-- the control functions that the bytes encode, if the tty expects this next
 abbrev pub read_from : Awaits → List ℕ → List Control
 read_from awaits [] = []
 read_from awaits (byte ∷ bytes) = said_by awaits byte ++ read_from (awaits_next awaits byte) bytes

@@ -1,4 +1,4 @@
--- How control functions are spelt as bytes (ECMA-48, 5.4, in a 7-bit code; characters in UTF-8).
+-- How control functions are encoded as bytes (ECMA-48, 5.4, in a 7-bit code; characters in UTF-8).
 use Rattle.std.specs.Prelude.{ℕ, ◌+◌, ◌/◌, ◌%◌, List, [], ◌∷◌, ◌++◌, if◌then◌else◌, nat_lt}
 use Rattle.std.specs.List.{flat_map}
 use Rattle.std.specs.Char.{encode_utf8}
@@ -11,7 +11,7 @@ use Rattle.tty_screen.specs.Tty.{Control}
 abbrev pub introducer : List ℕ
 introducer = 0x1B ∷ 0x5B ∷ []
 
--- a parameter below 100
+-- a parameter below 100 in decimal
 abbrev pub parameter_text : ℕ → List ℕ
 parameter_text parameter =
     if nat_lt parameter 10 then (48 + parameter) ∷ [] else (48 + parameter / 10) ∷ (48 + parameter % 10) ∷ []
@@ -20,11 +20,12 @@ parameter_text parameter =
 abbrev pub further : ℕ → List ℕ
 further parameter = 0x3B ∷ parameter_text parameter
 
--- CUP ends with `H`; its parameters are row and column from 1 on, each below 1000, with zeros before them. SGR ends with `m`,
--- ED with `J`.
+-- The bytes of a control function. CUP ends with `H`; its parameters are row and column from 1 on, with three digits
+-- each. SGR ends with `m`, ED with `J`.
 abbrev pub spelt : Control → List ℕ
 spelt (Control.Graphic glyph) = encode_utf8 glyph
-spelt (Control.CursorTo place) = introducer ++ (three_digits (place.row + 1) ++ 0x3B ∷ three_digits (place.column + 1) ++ 0x48 ∷ [])
+spelt (Control.CursorTo place) =
+    introducer ++ (three_digits (place.row + 1) ++ 0x3B ∷ three_digits (place.column + 1) ++ 0x48 ∷ [])
 spelt (Control.SelectRendition first more) = introducer ++ (parameter_text first ++ flat_map further more ++ 0x6D ∷ [])
 spelt Control.EraseAll = introducer ++ 0x32 ∷ 0x4A ∷ []
 spelt Control.Bell = 0x07 ∷ []

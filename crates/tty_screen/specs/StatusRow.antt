@@ -1,5 +1,5 @@
--- The status row (our profile). Its columns, from 0 on: the connection from 0, the reason from 16, insert mode from 32, the LU
--- from 40, row and column of the cursor, each from 1 on, from 72 to 78.
+-- The status row (our profile). From column 0 on it has the connection, from 16 the reason, from 32 insert mode, from
+-- 40 the LU, and from 72 to 78 row and column of the cursor, each from 1 on.
 use Rattle.std.specs.Prelude.{ℕ, ◌+◌, ◌/◌, ◌%◌, ◌-◌, Bool, true, false, List, [], ◌∷◌, ◌++◌, map, Option, Some, None, if◌then◌else◌, codes, slice_index_or, nat_lt, ◌&&◌}
 use Rattle.std.specs.List.{range_with_len}
 use Rattle.keyboard.specs.declared.key.Lock.{Lock}
@@ -15,7 +15,7 @@ abbrev pub connection_word : Bool → List ℕ
 connection_word true = codes "connected"
 connection_word false = codes "not connected"
 
--- by the refusal that set the lock to Error
+-- the reason that is shown while the lock is Error, by the refusal that set it
 abbrev pub refusal_reason : Option Refusal → List ℕ
 refusal_reason None = codes "X"
 refusal_reason (Some Locked) = codes "X"
@@ -24,7 +24,7 @@ refusal_reason (Some NotNumeric) = codes "X NUMERIC"
 refusal_reason (Some NoRoom) = codes "X NO ROOM"
 refusal_reason (Some NoCode) = codes "X NO CODE"
 
--- NoCode leaves the lock free
+-- the reason that is shown while the lock is free: only NoCode leaves it free
 abbrev pub free_reason : Option Refusal → List ℕ
 free_reason None = []
 free_reason (Some Locked) = []
@@ -42,11 +42,11 @@ abbrev pub insert_word : Bool → List ℕ
 insert_word true = codes "^"
 insert_word false = []
 
--- ASCII's graphic characters, and a blank for all else
+-- a graphic character of ASCII as it is, and a blank for any other byte
 abbrev pub graphic_or_blank : ℕ → ℕ
 graphic_or_blank byte = if nat_lt 0x20 byte && nat_lt byte 0x7F then byte else 0x20
 
--- a number below 1000
+-- the last three decimal digits of a number
 abbrev pub three_digits : ℕ → List ℕ
 three_digits number = (48 + number / 100 % 10) ∷ (48 + number / 10 % 10) ∷ (48 + number % 10) ∷ []
 
@@ -54,15 +54,15 @@ three_digits number = (48 + number / 100 % 10) ∷ (48 + number / 10 % 10) ∷ (
 abbrev pub position_text : Place → List ℕ
 position_text place = three_digits (place.row + 1) ++ 47 ∷ three_digits (place.column + 1)
 
--- the character in a column of a text, which is a blank beyond its end
+-- the character in a column of a text; a blank beyond its end
 abbrev pub letter_at : List ℕ → ℕ → ℕ
 letter_at text column = graphic_or_blank (slice_index_or text column 0x20)
 
--- a text in `count` columns
+-- the first `count` columns of a text
 abbrev pub in_columns : ℕ → List ℕ → List PictureCell
 in_columns count text = map (λ column. plain (letter_at text column)) (range_with_len 0 count)
 
--- a row of 72 columns or more
+-- the cells of a status row of 72 columns or more
 abbrev pub status_cells : ℕ → Keyboard → Bool → Option Refusal → List ℕ → Place → List PictureCell
 status_cells columns keyboard connected refusal lu cursor =
     in_columns 16 (connection_word connected)

@@ -1,4 +1,4 @@
--- A tty, and what the control functions that we use do to it (ECMA-48; our profile).
+-- A tty, and what the control functions that are used here do to it (ECMA-48; our profile).
 use Rattle.std.specs.Prelude.{ℕ, ◌+◌, ◌==◌, ◌&&◌, ◌||◌, not, Bool, true, false, List, [], ◌∷◌, if◌then◌else◌, nat_lt}
 use Rattle.tty_screen.specs.declared.place.Place.{Place}
 
@@ -20,8 +20,8 @@ pub record TtyCell : Type 0 where
   pub glyph : ℕ
   pub rendition : Rendition
 
--- its size; the character at each row and column; the place and the rendition of the next character; and whether some effect
--- is none of those that our profile says, so that the tty may show anything
+-- A tty: its size; the character at each row and column; the place and the rendition of the next character; and whether
+-- an effect was outside of our profile, so that the tty may show anything.
 pub record Tty : Type 0 where
   pub rows : ℕ
   pub columns : ℕ
@@ -30,8 +30,8 @@ pub record Tty : Type 0 where
   pub rendition : Rendition
   pub garbled : Bool
 
--- the control functions: a graphic character, CUP (ECMA-48, 8.3.21) to a place, SGR (8.3.117) with one parameter or more,
--- ED (8.3.39) with parameter 2, and BEL (8.3.3)
+-- the control functions: a graphic character, CUP (ECMA-48, 8.3.21) to a place, SGR (8.3.117) with one parameter or
+-- more, ED (8.3.39) with parameter 2, and BEL (8.3.3)
 pub data Control : Type 0 where
   Graphic : ℕ → Control
   CursorTo : Place → Control
@@ -54,7 +54,7 @@ selected_by parameter now =
     else if parameter == 37 then record now { colour = Colour.White }
     else now
 
--- the parameters of SGR act one after another
+-- the rendition after the parameters of an SGR, which act one after another
 abbrev pub selected : List ℕ → Rendition → Rendition
 selected [] now = now
 selected (parameter ∷ more) now = selected more (selected_by parameter now)
@@ -62,7 +62,7 @@ selected (parameter ∷ more) now = selected more (selected_by parameter now)
 abbrev pub is_inside : Tty → Place → Bool
 is_inside tty place = nat_lt place.row tty.rows && nat_lt place.column tty.columns
 
--- a graphic character at the cursor, which moves a column on. Beyond the last column our profile says nothing.
+-- the tty after a graphic character at the cursor, which moves a column on; our profile excludes places off the tty
 abbrev pub with_graphic : ℕ → Tty → Tty
 with_graphic glyph tty = record tty {
   grid = λ row column.
@@ -73,15 +73,16 @@ with_graphic glyph tty = record tty {
   garbled = tty.garbled || not (is_inside tty tty.cursor);
 }
 
--- what a control function does
+-- the tty after a control function
 abbrev pub after : Control → Tty → Tty
 after (Graphic glyph) tty = with_graphic glyph tty
 after (CursorTo place) tty = record tty { cursor = place; garbled = tty.garbled || not (is_inside tty place) }
 after (SelectRendition first more) tty = record tty { rendition = selected (first ∷ more) tty.rendition }
-after EraseAll tty = record tty { grid = λ row column. record { glyph = 0x20; rendition = default_rendition }; garbled = false }
+after EraseAll tty =
+    record tty { grid = λ row column. record { glyph = 0x20; rendition = default_rendition }; garbled = false }
 after Bell tty = tty
 
--- what several do, one after another
+-- the tty after several control functions
 abbrev pub after_all : List Control → Tty → Tty
 after_all [] tty = tty
 after_all (control ∷ controls) tty = after_all controls (after control tty)

@@ -1,4 +1,4 @@
-//! What a tty shows, and how it is changed.
+//! What a tty shows, and the bytes that change it.
 ghost use Rattle.std.specs.Prelude.{◌≡◌, ◌≤◌, ◌<◌, [], None, Some, IfSome, OnOk, OnErr, take, vec_len, vec_capacity};
 ghost use Rattle.codes3270.specs.Appending.{Appends, AppendsSome};
 ghost use Rattle.tty_screen.specs.Spelling.{all_spelt};
@@ -11,7 +11,7 @@ use crate::picture::{Picture, PictureCell};
 use std::alloc::AllocError;
 use std::marker::Model;
 
-/// What is known of a tty: the picture that it shows, if any is known. Contracts see that picture.
+/// The picture that a tty shows, if it is known. Contracts see this picture.
 #[derive(Drop)]
 pub struct Drawing {
     shown: Option<Picture>,
@@ -26,7 +26,7 @@ impl Model for Drawing {
     ghost view = { λ drawing. drawing.shown };
 }
 
-/// The cells of a picture that differ from these, and the cursor.
+/// Appends what changes the cells `olds` into the picture's, and the cursor's place.
 fn put_update(out: &mut Vec<u8>, olds: &[PictureCell], picture: &Picture) -> Result<(), AllocError>
     ensures appends { AppendsSome out.old out.new result (all_spelt (update olds.now picture.now)) }
     ensures sized { IsSized picture.now }
@@ -35,7 +35,7 @@ fn put_update(out: &mut Vec<u8>, olds: &[PictureCell], picture: &Picture) -> Res
     put_place(out, picture.cursor())
 }
 
-/// All of a picture, on an erased tty.
+/// Appends what erases the tty and draws the whole picture.
 fn put_all(out: &mut Vec<u8>, picture: &Picture) -> Result<(), AllocError>
     ensures appends { AppendsSome out.old out.new result (all_spelt (redrawing picture.now)) }
     ensures sized { IsSized picture.now }
@@ -46,7 +46,7 @@ fn put_all(out: &mut Vec<u8>, picture: &Picture) -> Result<(), AllocError>
     put_update(out, &[], picture)
 }
 
-/// A picture over another.
+/// Appends what turns one picture into another.
 fn put_over(out: &mut Vec<u8>, shown: &Picture, picture: &Picture) -> Result<(), AllocError>
     ensures appends { AppendsSome out.old out.new result (all_spelt (drawing_of (Some shown.now) picture.now)) }
     ensures known { IsSized shown.now }
@@ -59,7 +59,7 @@ fn put_over(out: &mut Vec<u8>, shown: &Picture, picture: &Picture) -> Result<(),
     }
 }
 
-/// A picture over what is known.
+/// Appends what draws a picture on a tty that shows this one, or is unknown.
 fn put_drawing(
     out: &mut Vec<u8>,
     shown: &Option<Picture>,
@@ -75,7 +75,7 @@ fn put_drawing(
     }
 }
 
-/// Takes back what was appended since `start`, if the appending failed.
+/// Removes the bytes from `start` on, if appending them failed.
 fn taken_back(
     out: &mut Vec<u8>,
     start: usize,
@@ -94,7 +94,7 @@ fn taken_back(
 }
 
 impl Drawing {
-    /// Nothing is known of the tty.
+    /// A tty of which nothing is known.
     pub fn new() -> Drawing
         ensures { result ≡ None }
     {
@@ -108,16 +108,17 @@ impl Drawing {
         self.shown = None;
     }
 
-    /// Appends the bytes that have the tty show a picture, whatever was drawn before.
+    /// Appends the bytes that make the tty show a picture, whatever was drawn before.
     ///
-    /// If a picture of the same size is known, only the cells that differ are written, and then the cursor's place; if none is
-    /// known, or the size changes, the tty is erased first. The tty must have a place for each cell (`check_room`), and must
-    /// have been given all bytes of the earlier calls and nothing else; after other bytes call `forget`.
+    /// If a picture of the same size is known, only the cells that differ are written, and then the cursor's place; if
+    /// none is known, or the size changes, the tty is erased first. The tty must have a place for each cell
+    /// (`check_room`), and must have been given all bytes of the earlier calls and nothing else; after other bytes call
+    /// `forget`.
     ///
-    /// It succeeds where `out` has room; where memory is refused nothing is appended, and what is known stays.
+    /// Err only if memory is refused; then nothing is appended, and the known picture stays.
     pub fn draw(&mut self, picture: Picture, out: &mut Vec<u8>) -> Result<(), AllocError>
         ensures bytes { Appends out.old out.new result (all_spelt (drawing_of self.old picture)) }
-        // A tty that shows what was known shows the picture afterwards.
+        // A tty that shows the picture that was known shows the new one afterwards.
         ensures shown { IsShownAfter self.old picture }
         ensures known { OnOk result (self.new ≡ Some picture) }
         ensures kept { OnErr result (self.new ≡ self.old) }

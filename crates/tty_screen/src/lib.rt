@@ -1,4 +1,5 @@
-//! Draws a 3270 screen and a status row on an ANSI tty (xterm, tmux, the Linux console), as bytes.
+//! Draws a 3270 screen and a status row on an ANSI tty (xterm, tmux, the Linux console). It appends bytes and writes to
+//! no tty; an operator's keystrokes are read by `tty_keys`.
 //!
 //! ```text
 //! let mut drawing = Drawing::new();
@@ -7,13 +8,14 @@
 //! drawing.draw(picture, &mut out)?;
 //! ```
 //!
-//! A [`Picture`] is what an operator is shown of a screen, a keyboard and a [`Status`]: a list of cells, each a character and a
-//! [`Look`]. A [`Drawing`] remembers the picture that the tty shows, and [`Drawing::draw`] appends the bytes that turn it into
-//! the next picture: of each row only the cells that changed are written. [`Drawing::forget`] has the next call draw all.
+//! A [`Picture`] is what an operator sees of a screen, a keyboard and a [`Status`]: a list of cells, each a character
+//! and a [`Look`]. A [`Drawing`] remembers the picture that the tty shows, and [`Drawing::draw`] appends the bytes that
+//! turn it into the next picture: in each row only the cells that changed are written. [`Drawing::forget`] makes the
+//! next call draw all.
 //!
-//! `specs/` has the definitions: `Tty` says what a tty does with the control functions that are used here (ECMA-48), `Spelling`
-//! how they are spelt, `Painting` what a picture shows, `StatusRow` its last row, and `Drawn` when a tty shows a
-//! picture. `Changes` is the list of what is written.
+//! `specs/` has the definitions: `Tty` says what a tty does with the control functions that are used here (ECMA-48),
+//! `Spelling` how they are encoded, `Painting` what a picture shows, `StatusRow` its last row, and `Drawn` when a tty
+//! shows a picture. `Changes` is the list of what is written.
 #![tactic(auto)]
 
 mod drawing;

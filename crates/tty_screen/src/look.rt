@@ -1,15 +1,15 @@
-//! How the cells of a screen look.
+//! The colours and renditions of a screen's cells.
 ghost use Rattle.std.specs.Prelude.{◌≡◌};
 ghost use Rattle.tty_screen.specs.Looks.{number_of, look_under, look_of, protected_look, unprotected_look};
 ghost use Rattle.tty_screen.specs.Spelling.{spelt_look};
 
 use codes3270::{Attr, Cell, Display};
 
-/// How a cell looks on the tty (our profile): the colours in which c3270 shows a host that names none. Unprotected cells are
-/// underlined, so that an empty field can be seen.
+/// How a cell looks on the tty (our profile): the colours in which c3270 shows a host that names none. Unprotected
+/// cells are underlined, so that an empty field can be seen.
 #[derive(Clone, Copy, Debug, PartialEq, Eq)]
 pub enum Look {
-    /// The tty's own colour: attributes, cells of no field, and the status row.
+    /// The tty's own colour: for attributes, cells outside of any field, and the status row.
     Plain,
     /// Unprotected at normal intensity, or hidden: green, underlined.
     UnprotectedNormal,
@@ -22,7 +22,7 @@ pub enum Look {
 }
 
 impl Look {
-    /// Its number, from 0 on, in the order in which the looks are declared.
+    /// Its number, from 0 on in the order of the declaration.
     pub(crate) fn number(self) -> u8
         ensures { result ≡ number_of self }
     {
@@ -35,7 +35,7 @@ impl Look {
         }
     }
 
-    /// The bytes that have the characters behind them look like this: SGR (ECMA-48, 8.3.117).
+    /// The SGR that makes the characters after it look like this (ECMA-48, 8.3.117).
     pub(crate) fn sgr(self) -> &'static [u8]
         ensures { result.now ≡ spelt_look self }
     {
@@ -49,7 +49,7 @@ impl Look {
     }
 }
 
-/// The look of a protected field's characters.
+/// The look of the characters of a protected field.
 fn protected_look(display: Display) -> Look
     ensures { result ≡ protected_look display }
 {
@@ -59,7 +59,7 @@ fn protected_look(display: Display) -> Look
     }
 }
 
-/// The look of an unprotected field's characters.
+/// The look of the characters of an unprotected field.
 fn unprotected_look(display: Display) -> Look
     ensures { result ≡ unprotected_look display }
 {
@@ -69,7 +69,7 @@ fn unprotected_look(display: Display) -> Look
     }
 }
 
-/// The look of the characters under an attribute.
+/// The look of the characters that an attribute governs; plain if there is none.
 fn look_under(over: Option<Attr>) -> Look
     ensures { result ≡ look_under over }
 {
@@ -85,7 +85,7 @@ fn look_under(over: Option<Attr>) -> Look
     }
 }
 
-/// The look of a cell under an attribute.
+/// The look of a cell that an attribute governs; plain if the cell is an attribute.
 pub(crate) fn look_of(cell: Cell, over: Option<Attr>) -> Look
     ensures { result ≡ look_of cell over }
 {

@@ -1,4 +1,4 @@
-//! Control functions as bytes.
+//! Appends control functions as bytes.
 ghost use Rattle.std.specs.Prelude.{◌≡◌, ◌<◌, ◌++◌, [], None, Some};
 ghost use Rattle.codes3270.specs.Appending.{Appends, AppendsSome};
 ghost use Rattle.tty_screen.specs.Tty.{Control};
@@ -11,22 +11,22 @@ use crate::picture::{PictureCell, three_digits};
 use crate::place::{Place, next_place};
 use std::alloc::AllocError;
 
-/// Appends BEL, which sounds the alarm of the tty and changes nothing that it shows (ECMA-48, 8.3.3). It succeeds where `out`
-/// has room; where memory is refused nothing is appended.
+/// Appends BEL, which sounds the alarm of the tty and changes nothing that it shows (ECMA-48, 8.3.3). Err only if
+/// memory is refused; then nothing is appended.
 pub fn put_bell(out: &mut Vec<u8>) -> Result<(), AllocError>
     ensures { Appends out.old out.new result (spelt Control.Bell) }
 {
     out.extend_from_slice(b"\x07")
 }
 
-/// SGR with parameter 0, and ED with parameter 2.
+/// Appends SGR with parameter 0 (default rendition), and ED with parameter 2 (erase all).
 pub(crate) fn put_erase(out: &mut Vec<u8>) -> Result<(), AllocError>
     ensures { AppendsSome out.old out.new result (spelt (Control.SelectRendition 0 []) ++ spelt Control.EraseAll) }
 {
     out.extend_from_slice(b"\x1b[0m\x1b[2J")
 }
 
-/// CUP.
+/// Appends CUP: the cursor goes to a place.
 pub(crate) fn put_place(out: &mut Vec<u8>, place: Place) -> Result<(), AllocError>
     requires row { place.row < usize.MAX }
     requires column { place.column < usize.MAX }
@@ -37,14 +37,14 @@ pub(crate) fn put_place(out: &mut Vec<u8>, place: Place) -> Result<(), AllocErro
     out.extend_from_slice(&[0x1B, b'[', a, b, c, b';', d, e, f, b'H'])
 }
 
-/// SGR.
+/// Appends the SGR that selects a look.
 fn put_look(out: &mut Vec<u8>, look: Look) -> Result<(), AllocError>
     ensures { AppendsSome out.old out.new result (spelt_look look) }
 {
     out.extend_from_slice(look.sgr())
 }
 
-/// A graphic character.
+/// Appends a graphic character in UTF-8.
 fn put_glyph(out: &mut Vec<u8>, glyph: char) -> Result<(), AllocError>
     ensures { AppendsSome out.old out.new result (spelt (Control.Graphic glyph)) }
 {
@@ -52,7 +52,7 @@ fn put_glyph(out: &mut Vec<u8>, glyph: char) -> Result<(), AllocError>
     out.extend_from_slice(glyph.encode_utf8(&mut room).as_bytes())
 }
 
-/// A cell with its look.
+/// Appends a cell's look and its character.
 fn put_looking(out: &mut Vec<u8>, cell: PictureCell) -> Result<(), AllocError>
     ensures { AppendsSome out.old out.new result (spelt_look cell.look ++ spelt (Control.Graphic cell.glyph)) }
 {
@@ -60,7 +60,7 @@ fn put_looking(out: &mut Vec<u8>, cell: PictureCell) -> Result<(), AllocError>
     put_glyph(out, cell.glyph)
 }
 
-/// The first cell of a run.
+/// Appends the first cell of a run: its place, its look and its character.
 fn put_first(out: &mut Vec<u8>, place: Place, cell: PictureCell) -> Result<(), AllocError>
     requires row { place.row < usize.MAX }
     requires column { place.column < usize.MAX }
@@ -70,7 +70,7 @@ fn put_first(out: &mut Vec<u8>, place: Place, cell: PictureCell) -> Result<(), A
     put_looking(out, cell)
 }
 
-/// A further cell of a run with this look.
+/// Appends a further cell of a run whose last cell has this look.
 fn put_further(
     out: &mut Vec<u8>,
     place: Place,
@@ -86,7 +86,7 @@ fn put_further(
     }
 }
 
-/// A cell, if it changed.
+/// Appends a cell, if it changed: to the run with the look `run`, or, if there is none, as the first of one.
 fn put_change(
     out: &mut Vec<u8>,
     place: Place,
@@ -107,7 +107,7 @@ fn put_change(
     }
 }
 
-/// The run that goes on behind a cell.
+/// The look of the run that goes on after a cell; `None` if the cell didn't change or is the last of its row.
 fn run_after(columns: usize, place: Place, old: PictureCell, new: PictureCell) -> Option<Look>
     requires { place.column < usize.MAX }
     ensures { result ≡ run_after columns place old new }
@@ -121,7 +121,7 @@ fn run_after(columns: usize, place: Place, old: PictureCell, new: PictureCell) -
     }
 }
 
-/// The cells that changed. Cells beyond the end of the old ones were blank.
+/// Appends the cells that changed. A cell beyond the end of `olds` was blank.
 pub(crate) fn put_changes(
     out: &mut Vec<u8>,
     columns: usize,

@@ -1,4 +1,4 @@
-//! What an operator is shown.
+//! Pictures: what an operator sees.
 ghost use Rattle.std.specs.Prelude.{◌≡◌, ◌<◌, ◌≤◌, ◌*◌, ◌+◌, ◌++◌, [], map, length, Bool, IfOk, OnOk, slice_index_or};
 ghost use Rattle.codes3270.specs.Size.{cells_in};
 ghost use Rattle.tty_screen.specs.Pictures.{IsSized, blank_cell, same_cell, plain};
@@ -24,7 +24,7 @@ pub struct PictureCell {
     pub look: Look,
 }
 
-/// What an operator is shown of a screen, a keyboard and a status: the rows of the screen, a status row below them, and a
+/// What an operator sees of a screen, a keyboard and a status: the rows of the screen, a status row below them, and a
 /// cursor. Contracts see the number of rows and of columns, the list of the cells, row by row, and the cursor's place.
 #[derive(Drop)]
 pub struct Picture {
@@ -41,10 +41,11 @@ impl Model for Picture {
 
     ghost view = { λ p. record { rows = p.rows; columns = p.columns; cells = p.cells.items; cursor = p.cursor } };
 
-    ghost invariant = { λ p. IsSized (record { rows = p.rows; columns = p.columns; cells = p.cells.items; cursor = p.cursor }) };
+    ghost invariant = { λ p. IsSized
+        (record { rows = p.rows; columns = p.columns; cells = p.cells.items; cursor = p.cursor }) };
 }
 
-/// A character in the tty's own colour.
+/// A cell with a character in the tty's own colour.
 fn plain(glyph: char) -> PictureCell
     ensures { result ≡ plain glyph }
 {
@@ -55,21 +56,21 @@ fn plain(glyph: char) -> PictureCell
 }
 
 impl PictureCell {
-    /// What an erased tty shows.
+    /// The cell that an erased tty shows.
     pub(crate) fn blank() -> PictureCell
         ensures { result ≡ blank_cell }
     {
         plain(' ')
     }
 
-    /// The cell with an index; blank beyond the end.
+    /// The cell at an index; blank beyond the end.
     pub(crate) fn of(cells: &[PictureCell], index: usize) -> PictureCell
         ensures { result ≡ slice_index_or cells.now index blank_cell }
     {
         cells.get(index).copied().unwrap_or(PictureCell::blank())
     }
 
-    /// Whether character and look are the same.
+    /// Whether both cells have the same character and the same look.
     pub(crate) fn is_same(self, other: PictureCell) -> bool
         ensures { result ≡ same_cell self other }
     {
@@ -77,7 +78,7 @@ impl PictureCell {
     }
 }
 
-/// The address with a number.
+/// The buffer address with a number.
 fn address(index: u16, size: Size) -> Addr
     requires { index < cells_in size }
     ensures value { result ≡ index }
@@ -86,7 +87,7 @@ fn address(index: u16, size: Size) -> Addr
     Addr::new(index, size).unwrap_or(Addr::first())
 }
 
-/// The cell of a picture for a cell of the screen.
+/// The cell of a picture for the screen's cell at an address.
 fn painted_at(screen: &Screen, at: Addr) -> PictureCell
     requires { at < cells_in screen.now.size }
     ensures { result ≡ painted_at screen.now.screen.cells at }
@@ -108,14 +109,14 @@ fn put_screen(cells: &mut Vec<PictureCell>, screen: &Screen) -> Result<(), Alloc
     Ok(())
 }
 
-/// The character in a column of a text: a blank beyond its end, and for a byte that isn't graphic.
+/// The character in a column of a text, from 0 on: a blank beyond its end, and for a byte that isn't graphic ASCII.
 fn letter_at(text: &[u8], column: usize) -> char
     ensures { result ≡ letter_at text.now column }
 {
     char::from(graphic_or_blank(text.get(column).copied().unwrap_or(b' ')))
 }
 
-/// Adds a text in `count` columns, and blanks beyond its end.
+/// Adds the first `count` columns of a text, with blanks beyond its end.
 fn put_text(cells: &mut Vec<PictureCell>, count: usize, text: &[u8]) -> Result<(), AllocError>
     ensures { OnOk result (cells.new.items ≡ cells.old.items ++ in_columns count text.now) }
 {
@@ -125,7 +126,7 @@ fn put_text(cells: &mut Vec<PictureCell>, count: usize, text: &[u8]) -> Result<(
     Ok(())
 }
 
-/// A number below 1000 in decimal.
+/// The last three decimal digits of a number.
 pub(crate) fn three_digits(number: usize) -> [u8; 3]
     ensures { result ≡ three_digits number }
 {
@@ -136,7 +137,7 @@ pub(crate) fn three_digits(number: usize) -> [u8; 3]
     ]
 }
 
-/// Row and column, from 1 on.
+/// Row and column, both from 1 on, as `RRR/CCC`.
 fn position_text(place: Place) -> [u8; 7]
     requires row { place.row < usize.MAX }
     requires column { place.column < usize.MAX }
@@ -159,7 +160,8 @@ fn put_status(
     requires row { cursor.row < usize.MAX }
     requires column { cursor.column < usize.MAX }
     ensures { let status = status.now in
-        OnOk result (cells.new.items ≡ cells.old.items ++ status_cells columns keyboard status.connected status.refusal status.lu.now cursor) }
+        OnOk result (cells.new.items ≡ cells.old.items
+        ++ status_cells columns keyboard status.connected status.refusal status.lu.now cursor) }
 {
     put_text(cells, 16, connection_word(status.connected))?;
     put_text(cells, 16, reason(keyboard.lock(), status.refusal))?;
@@ -168,7 +170,7 @@ fn put_status(
     put_text(cells, columns - 72, &position_text(cursor))
 }
 
-/// The number of cells of a row of a screen.
+/// The number of columns of a screen.
 fn columns_of(screen: &Screen) -> usize
     ensures value { result ≡ screen.now.size.columns }
     ensures wide { 72 ≤ result }
@@ -178,7 +180,7 @@ fn columns_of(screen: &Screen) -> usize
     usize::from(screen.size().cols())
 }
 
-/// The number of rows of a picture of a screen.
+/// The number of rows of a screen's picture: those of the screen, and the status row.
 fn rows_of(screen: &Screen) -> usize
     ensures value { result ≡ screen.now.size.rows + 1 }
     ensures few { result < 1000 }
@@ -186,7 +188,7 @@ fn rows_of(screen: &Screen) -> usize
     usize::from(screen.size().rows()) + 1
 }
 
-/// Where the cursor of a screen is.
+/// The place of a screen's cursor.
 fn cursor_of(screen: &Screen) -> Place
     ensures value { result ≡ place_of screen.now.size.columns screen.now.screen.cursor }
     ensures row { result.row < screen.now.size.rows }
@@ -202,12 +204,13 @@ fn cursor_of(screen: &Screen) -> Place
 }
 
 impl Picture {
-    /// What an operator is shown of a screen, a keyboard and a status (our profile).
+    /// What an operator sees of a screen, a keyboard and a status (our profile). Err only if memory is refused.
     ///
-    /// The rows of the screen show what `Screen::glyph_at` gives, a hidden field as blanks, each cell in its [`Look`]. The
-    /// status row below them shows `connected` or `not connected`; why the keyboard takes no keys, as `X SYSTEM` where it waits
-    /// for the host, or `X PROTECTED`, `X NUMERIC` or `X NO ROOM` for the refusal that locked it, and `X NO CODE` for a
-    /// character that has no code; `^` in insert mode; the name of the LU; and row and column of the cursor, each from 1 on.
+    /// The rows of the screen show what `Screen::glyph_at` returns, a hidden field as blanks, each cell in its
+    /// [`Look`]. The status row below them shows `connected` or `not connected`; why the keyboard accepts no keys:
+    /// `X SYSTEM` while it waits for the host, `X PROTECTED`, `X NUMERIC` or `X NO ROOM` for the refusal that locked
+    /// it, and `X NO CODE` for a character that has no code; `^` in insert mode; the name of the LU; and row and column
+    /// of the cursor, each from 1 on.
     pub fn new(
         alloc: Global,
         screen: &Screen,
@@ -215,7 +218,8 @@ impl Picture {
         status: &Status<'_>,
     ) -> Result<Picture, AllocError>
         ensures { let status = status.now in
-            IfOk result (λ picture. picture ≡ picture_of screen.now keyboard status.connected status.refusal status.lu.now) }
+            IfOk result (λ picture. picture
+            ≡ picture_of screen.now keyboard status.connected status.refusal status.lu.now) }
     {
         let columns = columns_of(screen);
         let cursor = cursor_of(screen);
@@ -230,14 +234,14 @@ impl Picture {
         })
     }
 
-    /// The number of cells of a row.
+    /// The number of columns, below 1000.
     pub fn columns(&self) -> usize
         ensures { result ≡ self.now.columns }
     {
         self.columns
     }
 
-    /// Its cells, row by row.
+    /// Its cells, row by row, with the status row last.
     pub fn cells(&self) -> &[PictureCell]
         ensures value { result.now ≡ self.now.cells }
         ensures sized { IsSized self.now }
@@ -245,7 +249,7 @@ impl Picture {
         self.cells.as_slice()
     }
 
-    /// Where the cursor is.
+    /// The place of the cursor.
     pub fn cursor(&self) -> Place
         ensures value { result ≡ self.now.cursor }
         ensures row { result.row < self.now.rows }

@@ -11,7 +11,7 @@ pub struct Place {
     pub column: usize,
 }
 
-/// The place after this one in rows of `columns` columns: the next column, or the next row's first.
+/// The place after this one in rows of `columns` columns: the next column, or the first of the next row.
 pub(crate) fn next_place(columns: usize, place: Place) -> Place
     requires row { place.row < usize.MAX }
     requires column { place.column < usize.MAX }

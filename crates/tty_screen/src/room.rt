@@ -40,12 +40,13 @@ impl fmt::Display for TooSmall {
 
 impl Error for TooSmall {}
 
-/// Whether a tty of this many rows and columns has a place for each cell of a screen of this size and of the status row. A larger
-/// one does, too. For all screens of a terminal ask with its model's alternate size.
+/// Checks that a tty of this many rows and columns has a place for each cell of a screen of this size and of the status
+/// row below it; it may be larger. To check for all screens of a terminal, pass its model's alternate size.
 pub fn check_room(size: Size, rows: u16, columns: u16) -> Result<(), TooSmall>
     ensures { MatchResult result
         (λ _. (size.rows + 1 ≤ rows) × (size.columns ≤ columns))
-        (λ fault. (fault ≡ record { rows = rows; columns = columns; needed_rows = size.rows + 1; needed_columns = size.columns })
+        (λ fault. (fault
+        ≡ record { rows = rows; columns = columns; needed_rows = size.rows + 1; needed_columns = size.columns })
         × (size.rows + 1 ≤ rows → size.columns ≤ columns → ⊥)) }
 {
     let needed_rows = size.rows() + 1;

@@ -1,21 +1,21 @@
-//! The words of the status row.
+//! The words in the status row.
 ghost use Rattle.std.specs.Prelude.{◌≡◌};
 ghost use Rattle.tty_screen.specs.StatusRow.{connection_word, reason, refusal_reason, free_reason, insert_word, graphic_or_blank};
 
 use keyboard::{Lock, Refusal};
 
-/// What the status row shows beside screen and keyboard.
+/// What the status row shows in addition to the state of screen and keyboard.
 #[derive(Clone, Copy, Debug)]
 pub struct Status<'a> {
     /// Whether the terminal is connected to a host.
     pub connected: bool,
-    /// The refusal that set the lock to `Error`; at a free lock `NoCode`, if that is the answer to the last key.
+    /// The refusal that set the lock to `Error`; while the lock is free, `NoCode` if the last key was refused for it.
     pub refusal: Option<Refusal>,
     /// The name of the LU in ASCII, of which the first 32 bytes are shown; empty if there is none.
     pub lu: &'a [u8],
 }
 
-/// Whether there is a host.
+/// The word for whether the terminal is connected.
 pub(crate) fn connection_word(connected: bool) -> &'static [u8]
     ensures { result.now ≡ connection_word connected }
 {
@@ -26,7 +26,7 @@ pub(crate) fn connection_word(connected: bool) -> &'static [u8]
     }
 }
 
-/// Why the lock is `Error`.
+/// The reason that is shown while the lock is `Error`.
 fn refusal_reason(refusal: Option<Refusal>) -> &'static [u8]
     ensures { result.now ≡ refusal_reason refusal }
 {
@@ -39,7 +39,7 @@ fn refusal_reason(refusal: Option<Refusal>) -> &'static [u8]
     }
 }
 
-/// Why a key was refused that left the lock free.
+/// The reason that is shown while the lock is free; empty unless the last key was refused for its code.
 fn free_reason(refusal: Option<Refusal>) -> &'static [u8]
     ensures { result.now ≡ free_reason refusal }
 {
@@ -50,7 +50,7 @@ fn free_reason(refusal: Option<Refusal>) -> &'static [u8]
     }
 }
 
-/// Why the keyboard takes no keys, or took the last one not.
+/// Why the keyboard accepts no keys, or refused the last one.
 pub(crate) fn reason(lock: Lock, refusal: Option<Refusal>) -> &'static [u8]
     ensures { result.now ≡ reason lock refusal }
 {
@@ -61,14 +61,14 @@ pub(crate) fn reason(lock: Lock, refusal: Option<Refusal>) -> &'static [u8]
     }
 }
 
-/// The sign of insert mode.
+/// The sign of insert mode: `^`, or nothing.
 pub(crate) fn insert_word(inserting: bool) -> &'static [u8]
     ensures { result.now ≡ insert_word inserting }
 {
     if inserting { b"^" } else { b"" }
 }
 
-/// A byte of a text in ASCII; a blank if it isn't graphic.
+/// A byte of a text in ASCII; a blank if it isn't a graphic character.
 pub(crate) fn graphic_or_blank(byte: u8) -> u8
     ensures { result ≡ graphic_or_blank byte }
 {

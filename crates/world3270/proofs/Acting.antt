@@ -14,12 +14,12 @@ use Rattle.panels.specs.declared.message.Message.TheVariants.{Fresh, Told}
 use Rattle.panels.specs.Screen.{Values}
 use Rattle.shadow.specs.Belief.{Shadow}
 use Rattle.shadow.specs.Meets.{Meets}
-use Rattle.shadow.specs.Openness.{NothingIsOpen}
+use Rattle.shadow.specs.TextUnknown.{NothingIsOpen}
 use Rattle.shadow.specs.Fits.{fits}
 use Rattle.shadow.specs.Paint.{paint}
 use Rattle.tn3270e_msg.specs.Talk.{Talk}
 use Rattle.tn3270e_msg.specs.declared.host_talk.HostState.{HostState}
-use Rattle.host_core.specs.Acts.{Act, Decision, Sent as Sending, after_key, decided, decision_on, wanted_by, done, may_act, acted, painted, known_despite, unheard_next, when_shown}
+use Rattle.host_core.specs.Acts.{Act, Decision, Sent as SentValue, after_key, decided, decision_on, wanted_by, done, may_act, acted, painted, known_despite, unheard_next, when_shown}
 use Rattle.host_core.specs.Application.{Application, IsApplication, IsSizeOf}
 use Rattle.host_core.specs.Laws.{IsPaintable}
 use Rattle.host_core.specs.Takes.{may_have_changed}
@@ -27,26 +27,26 @@ use Rattle.host_core.specs.declared.turn.Turn.{Turn}
 use Rattle.host_core.specs.declared.turn.Turn.TheVariants as whose
 use Rattle.host_core.specs.declared.turn_reason.TurnReason.{TurnReason}
 use Rattle.host_core.specs.declared.turn_reason.TurnReason.TheVariants as turn_reasons
-use Rattle.host_core.specs.Session.{Conn, Pending, is_agreed, model_in}
+use Rattle.host_core.specs.Session.{Session, Pending, is_agreed, model_in}
 use Rattle.host_core.specs.Questions.{act_by, answered_on, has_its_panel, has_value_of, is_ask, is_asking, values_for}
-use Rattle.host_core.specs.declared.question.Answer.{Answer as Said}
+use Rattle.host_core.specs.declared.question.Answer.{Answer as ApplicationAnswer}
 use Rattle.std.specs.Prelude.{◌&&◌, not}
 use Rattle.std.specs.Option.{option_and_then, option_map_or}
-use Rattle.world3270.specs.Given.{Given}
-use Rattle.world3270.specs.Link.{Link, sent, host_sent}
-use Rattle.world3270.specs.Moments.{UnderWay, Talking, Serving, Moment, IsAgreed, IsAt, IsHostTalk, IsTermTalk, turn_at, pending_at, down_at, up_at}
-use Rattle.world3270.specs.TurnReasons.{IsOccasion, IsOpenBy, IsOpenFor}
+use Rattle.world3270.specs.refinement.LowerLaws.{LowerLaws}
+use Rattle.world3270.specs.model.Link.{Link, sent, host_sent}
+use Rattle.world3270.specs.refinement.Phases.{UnderWay, Talking, Serving, LinkPhase, IsAgreed, IsAt, IsHostTalk, IsTermTalk, turn_at, pending_at, down_at, up_at}
+use Rattle.world3270.specs.statement.TurnReasons.{IsOccasion, IsOpenBy, IsOpenFor}
 use Rattle.host_core.specs.declared.unheard.Unheard.{Unheard}
 use Rattle.host_core.specs.declared.unheard.Unheard.TheVariants as unheards
-use Rattle.world3270.specs.Showing.{IsDecided, KnowsItsFields, WantsItsPanelOn}
-use Rattle.world3270.specs.Stages.{scene_of, AllowsInput, FactsAreExact, IfRelies, IsNew, Decides, Fact, Kept, Sizes, may_differ_at, ShownAt, ShownIn}
-use Rattle.world3270.specs.View.{View, view_of}
+use Rattle.world3270.specs.statement.Showing.{IsDecided, KnowsItsFields, WantsItsPanelOn}
+use Rattle.world3270.specs.refinement.Invariant.{local_state_of, AllowsInput, FactsAreExact, IfRelies, IsNew, Decides, Fact, Kept, Sizes, may_differ_at, ShownAt, ShownIn}
+use Rattle.world3270.specs.refinement.View.{View, view_of}
 use Rattle.world3270.proofs.Down.{none_open}
 use Rattle.world3270.proofs.Queues.{more, still}
 use Rattle.world3270.proofs.TalkStates.{agreed_there}
 
 -- the connection once the host sent this
-abbrev pub sent_view : Sending → Link → Link
+abbrev pub sent_view : SentValue → Link → Link
 sent_view sending link = host_sent (Some sending) link
 
 -- it may act in its turn alone, once its last command is answered and both ends agree
@@ -58,7 +58,7 @@ may_act_when whose.Host (Pending.Noting number command) agreed may = absurd (cc)
 may_act_when whose.Terminal pending agreed may = absurd (cc)
 
 -- and if a question is open it may, and decides to ask
-pub asking_parts : (app : Application) (conn : Conn) → is_asking app conn ≡ true
+pub asking_parts : (app : Application) (conn : Session) → is_asking app conn ≡ true
     → (may_act conn.turn conn.pending (is_agreed conn.talk.state) ≡ true) × (is_ask (decision_on app conn conn.turn_reason) ≡ true)
 asking_parts app conn = by_may (may_act conn.turn conn.pending (is_agreed conn.talk.state)) (decision_on app conn conn.turn_reason)
   where
@@ -66,25 +66,25 @@ asking_parts app conn = by_may (may_act conn.turn conn.pending (is_agreed conn.t
     by_may true decision asks = (refl, asks)
     by_may false decision asks = absurd (cc)
 
-abbrev shown : Application → Conn → ℕ → Message → Bool → Values → Sending
+abbrev shown : Application → Session → ℕ → Message → Bool → Values → SentValue
 shown app conn panel message keep values = painted app (when_shown conn) panel message keep values
 
 -- ---- what is believed when a panel is shown
 
 -- it allows the screen,
-allows_despite : Given → (unheard : Unheard) (shadow : Shadow) (screen : Screen) → Meets shadow screen → Meets (known_despite unheard shadow) screen
+allows_despite : LowerLaws → (unheard : Unheard) (shadow : Shadow) (screen : Screen) → Meets shadow screen → Meets (known_despite unheard shadow) screen
 allows_despite given unheards.Nothing shadow screen meets = meets
 allows_despite given unheards.Input shadow screen meets = given.belief.doubt_allows shadow screen meets
 allows_despite given unheards.Clear shadow screen meets = tt
 
 -- and, where the host doesn't rely on the wait, each that differs from it in input alone,
-input_despite : Given → (unheard : Unheard) (shadow : Shadow) (screen : Screen) → Meets shadow screen → may_have_changed (unheard_next unheard) ≡ true → AllowsInput (known_despite unheard shadow) screen
+input_despite : LowerLaws → (unheard : Unheard) (shadow : Shadow) (screen : Screen) → Meets shadow screen → may_have_changed (unheard_next unheard) ≡ true → AllowsInput (known_despite unheard shadow) screen
 input_despite given unheards.Nothing shadow screen meets changed = absurd (cc)
 input_despite given unheards.Input shadow screen meets changed = λ erased now held. given.belief.doubt_input erased shadow screen now meets held
 input_despite given unheards.Clear shadow screen meets changed = λ erased now held. tt
 
 -- its facts are exact,
-exact_despite : Given → (unheard : Unheard) (shadow : Shadow) → FactsAreExact shadow → FactsAreExact (known_despite unheard shadow)
+exact_despite : LowerLaws → (unheard : Unheard) (shadow : Shadow) → FactsAreExact shadow → FactsAreExact (known_despite unheard shadow)
 exact_despite given unheards.Nothing shadow exact = exact
 exact_despite given unheards.Input shadow exact = record { known = given.belief.doubt_exact shadow exact.known; protected = given.belief.doubt_protected shadow exact.protected }
 exact_despite given unheards.Clear shadow exact = record { known = given.belief.nothing_exact.0; protected = given.belief.nothing_exact.1 }
@@ -96,12 +96,12 @@ closed_despite unheards.Input shadow closed = λ relies. absurd (cc)
 closed_despite unheards.Clear shadow closed = λ relies. absurd (cc)
 
 -- what a sending leaves of the host's end
-pub record Sends (link : Link) (sending : Sending) : Type 0 where
+pub record Sends (link : Link) (sending : SentValue) : Type 0 where
   pub talk : sending.conn.talk ≡ link.host.talk
   pub exact : FactsAreExact sending.conn.shadow
 
 -- what is under way then
-pub sent_at : (link : Link) (sending : Sending) (wanted : Option (List ℕ)) (from to : Moment) → Sends link sending → IsAt (view_of link) wanted from
+pub sent_at : (link : Link) (sending : SentValue) (wanted : Option (List ℕ)) (from to : LinkPhase) → Sends link sending → IsAt (view_of link) wanted from
     → ((talk : Talk HostState) → IsHostTalk link.term.display.model from talk → IsHostTalk link.term.display.model to talk) → (IsTermTalk link.term.display.model wanted from link.term.talk → IsTermTalk link.term.display.model wanted to link.term.talk) → sending.conn.turn ≡ turn_at to → sending.conn.pending ≡ pending_at to
     → down_at link.term.display.model from ++ sending.message ∷ [] ≡ down_at link.term.display.model to → up_at link.term.display.model wanted to ≡ up_at link.term.display.model wanted from → IsAt (view_of (sent_view sending link)) wanted to
 sent_at link sending wanted from to same at host term turn pending down up = record {
@@ -114,9 +114,9 @@ sent_at link sending wanted from to same at host term turn pending down up = rec
 }
 
 -- a sending that leads to a moment
-pub kept_sent : (app : Application) (link : Link) (sending : Sending) (k : Kept app (view_of link)) (to : Moment) → Sends link sending → IsSizeOf app link.term.display.model sending.conn.shape
-    → (may_differ_at to ≡ false → link.term.display.shape ≡ sending.conn.shape) → IsAt (view_of (sent_view sending link)) k.wanted to
-    → Fact k.wanted (scene_of (view_of (sent_view sending link))) to → ShownAt app link.term.waits sending.conn link.term.display.before_restored link.term.display.last_restored link.term.display.screen to
+pub kept_sent : (app : Application) (link : Link) (sending : SentValue) (k : Kept app (view_of link)) (to : LinkPhase) → Sends link sending → IsSizeOf app link.term.display.model sending.conn.size
+    → (may_differ_at to ≡ false → link.term.display.size ≡ sending.conn.size) → IsAt (view_of (sent_view sending link)) k.wanted to
+    → Fact k.wanted (local_state_of (view_of (sent_view sending link))) to → ShownAt app link.term.waits sending.conn link.term.display.before_restored link.term.display.last_restored link.term.display.screen to
     → Kept app (view_of (sent_view sending link))
 kept_sent app link sending k to same size steady at fact shown = record {
   whole = k.whole;
@@ -135,7 +135,7 @@ kept_sent app link sending k to same size steady at fact shown = record {
 -- ---- the host acts
 
 -- the screen that is asked for, of the panel that is shown to the terminal
-abbrev wants_of : Application → Conn → ℕ → Message → Bool → Values → WantedScreen
+abbrev wants_of : Application → Session → ℕ → Message → Bool → Values → WantedScreen
 wants_of app conn panel message keep values = wanted_by app conn (app.shown (model_in conn) panel) message keep values
 
 -- it is one that the panel asks for, whether or not what is believed lets it keep fields
@@ -144,20 +144,20 @@ wanted_if_fits : (fit : Bool) (app : Application) (panel : ℕ) (message : Messa
 wanted_if_fits true app panel message values = (true, refl)
 wanted_if_fits false app panel message values = (false, refl)
 
-pub wanted_in_a_way : (app : Application) (conn : Conn) (panel : ℕ) (message : Message) (keep : Bool) (values : Values)
+pub wanted_in_a_way : (app : Application) (conn : Session) (panel : ℕ) (message : Message) (keep : Bool) (values : Values)
     → (way : Bool) × (wanted_by app conn panel message keep values ≡ app.screen panel values message way)
 wanted_in_a_way app conn panel message true values = wanted_if_fits (fits conn.shadow (app.screen panel values message true)) app panel message values
 wanted_in_a_way app conn panel message false values = (false, refl)
 
 -- it is the one of the connection's panel from then on
-wants_its : (app : Application) (waits : Bool) (conn : Conn) (screen : Screen) (panel : ℕ) (message : Message) (keep : Bool) (values : Values) → IsDecided app conn (Act.Show panel message keep values) → (keep ≡ true → KnowsItsFields app conn)
+wants_its : (app : Application) (waits : Bool) (conn : Session) (screen : Screen) (panel : ℕ) (message : Message) (keep : Bool) (values : Values) → IsDecided app conn (Act.Show panel message keep values) → (keep ≡ true → KnowsItsFields app conn)
     → Meets conn.shadow screen → WantsItsPanelOn app waits (shown app conn panel message keep values).conn (when_shown conn).shadow (wants_of app (when_shown conn) panel message keep values) screen
 wants_its app waits conn screen panel message keep values choice knows told = record {
   wants = record { conn = conn; same_talk = refl; asked = panel; keep = keep; is_decided = choice; knows = knows; panel_is = refl; over_is = refl; wanted_is = refl };
   told = λ w. told;
 }
 
-paintable : Given → (app : Application) → IsApplication app → (link : Link) → (panel : ℕ) (message : Message) (keep : Bool) (values : Values)
+paintable : LowerLaws → (app : Application) → IsApplication app → (link : Link) → (panel : ℕ) (message : Message) (keep : Bool) (values : Values)
     → let wants = wants_of app (when_shown link.host) panel message keep values in IsPaintable wants.size (when_shown link.host).shadow wants
 paintable given app is link panel message keep values = (given.belief.fit app link.host (Act.Show panel message keep values) is).0
 
@@ -166,22 +166,22 @@ pub model_here : (link : Link) (lu : List ℕ) → IsAgreed link.term.display.mo
 model_here link lu talks = ap (λ (state : HostState). unwrap_or (model_asked state) M2) talks.state_is ∙ talks.model_is
 
 -- so what is shown has a size that the terminal may have
-size_shown : Given → (app : Application) → IsApplication app → (link : Link) (k : Kept app (view_of link)) (lu : List ℕ) (panel : ℕ) (message : Message) (keep : Bool) (values : Values)
+size_shown : LowerLaws → (app : Application) → IsApplication app → (link : Link) (k : Kept app (view_of link)) (lu : List ℕ) (panel : ℕ) (message : Message) (keep : Bool) (values : Values)
     → IsAgreed link.term.display.model lu link.host.talk → IsSizeOf app link.term.display.model (wants_of app (when_shown link.host) panel message keep values).size
 size_shown given app is link k lu panel message keep values talks =
     let here = model_here link lu talks in
     subst (λ (m : Model). IsSizeOf app m (wants_of app (when_shown link.host) panel message keep values).size) here
-    (given.belief.sizes app link.host (Act.Show panel message keep values) is (subst (λ (m : Model). IsSizeOf app m link.host.shape) (sym here) k.sizes.host))
+    (given.belief.sizes app link.host (Act.Show panel message keep values) is (subst (λ (m : Model). IsSizeOf app m link.host.size) (sym here) k.sizes.host))
 
 -- after Clear nothing is read
-key_uncleared : (app : Application) (conn : Conn) (pressed : Aid) (buffered : Bool) → after_key app conn pressed buffered ≡ Decision.Do Act.Read → pressed ≡ ClearAid → ⊥
+key_uncleared : (app : Application) (conn : Session) (pressed : Aid) (buffered : Bool) → after_key app conn pressed buffered ≡ Decision.Do Act.Read → pressed ≡ ClearAid → ⊥
 key_uncleared app conn ClearAid buffered e is = absurd (cc)
 key_uncleared app conn NoAid buffered e is = absurd (cc)
 key_uncleared app conn EnterAid buffered e is = absurd (cc)
 key_uncleared app conn (PfAid key) buffered e is = absurd (cc)
 key_uncleared app conn (PaAid key) buffered e is = absurd (cc)
 
-reads_uncleared : (app : Application) (conn : Conn) (turn_reason : TurnReason) (aid : Aid) → IsOccasion turn_reason aid → decision_on app conn turn_reason ≡ Decision.Do Act.Read → aid ≡ ClearAid → ⊥
+reads_uncleared : (app : Application) (conn : Session) (turn_reason : TurnReason) (aid : Aid) → IsOccasion turn_reason aid → decision_on app conn turn_reason ≡ Decision.Do Act.Read → aid ≡ ClearAid → ⊥
 reads_uncleared app conn turn_reasons.Agreement aid is e clear = absurd (cc)
 reads_uncleared app conn (turn_reasons.Key pressed buffered) aid is e clear = key_uncleared app conn pressed buffered e (is.0 ∙ clear)
 reads_uncleared app conn turn_reasons.Refusal aid is e clear = absurd is
@@ -191,7 +191,7 @@ NotRead : Decision → Type 0
 NotRead decision = decision ≡ Decision.Do Act.Read → ⊥
 
 -- nothing is open where the screen isn't read
-key_closed : (app : Application) (conn : Conn) (pressed : Aid) (buffered : Bool) (shadow : Shadow) → NotRead (after_key app conn pressed buffered) → IsOpenBy pressed buffered shadow → NothingIsOpen shadow
+key_closed : (app : Application) (conn : Session) (pressed : Aid) (buffered : Bool) (shadow : Shadow) → NotRead (after_key app conn pressed buffered) → IsOpenBy pressed buffered shadow → NothingIsOpen shadow
 unfolding NotRead
 key_closed app conn ClearAid buffered shadow unread o = o
 key_closed app conn NoAid buffered shadow unread o = o
@@ -200,7 +200,7 @@ key_closed app conn (PfAid key) buffered shadow unread o = o
 key_closed app conn (PaAid key) true shadow unread o = o
 key_closed app conn (PaAid key) false shadow unread o = absurd (unread refl)
 
-decided_closed : (app : Application) (conn : Conn) (turn_reason : TurnReason) (shadow : Shadow) → NotRead (decision_on app conn turn_reason) → IsOpenFor turn_reason shadow → NothingIsOpen shadow
+decided_closed : (app : Application) (conn : Session) (turn_reason : TurnReason) (shadow : Shadow) → NotRead (decision_on app conn turn_reason) → IsOpenFor turn_reason shadow → NothingIsOpen shadow
 decided_closed app conn turn_reasons.Agreement shadow unread o = o
 decided_closed app conn (turn_reasons.Key pressed buffered) shadow unread o = key_closed app conn pressed buffered shadow unread o
 decided_closed app conn turn_reasons.Refusal shadow unread o = absurd o
@@ -214,10 +214,10 @@ unfolding NotRead
 asks_unread decision asks = λ reads. absurd (let both = sym (ap is_ask reads) ∙ asks in cc)
 
 -- at agreement nothing is asked
-pub agreed_unasked : (app : Application) (conn : Conn) → conn.turn_reason ≡ turn_reasons.Agreement → is_ask (decision_on app conn conn.turn_reason) ≡ true → ⊥
+pub agreed_unasked : (app : Application) (conn : Session) → conn.turn_reason ≡ turn_reasons.Agreement → is_ask (decision_on app conn conn.turn_reason) ≡ true → ⊥
 agreed_unasked app conn is asks = absurd (let both = sym (ap (λ (r : TurnReason). is_ask (decision_on app conn r)) is) ∙ asks in cc)
 
-abbrev command_of : Application → Conn → ℕ → Message → Bool → Values → CommandParts
+abbrev command_of : Application → Session → ℕ → Message → Bool → Values → CommandParts
 command_of app conn panel message keep values =
     let wanted = wants_of app conn panel message keep values in paint (cells_in wanted.size) conn.shadow wanted
 
@@ -227,23 +227,23 @@ keeps_by (Decision.Do Act.Read) = false
 keeps_by (Decision.Do (Act.Show panel message keep values)) = keep
 keeps_by Decision.Asks = false
 
-module _ (given : Given) (app : Application) (is : IsApplication app) (link : Link) (k : Kept app (view_of link)) where
+module _ (given : LowerLaws) (app : Application) (is : IsApplication app) (link : Link) (k : Kept app (view_of link)) where
   -- the host's end once a panel is shown
   sends_shown : (panel : ℕ) (message : Message) (keep : Bool) (values : Values) → Sends link (shown app link.host panel message keep values)
   sends_shown panel message keep values = record { talk = refl; exact = exact_despite given link.host.unheard link.host.shadow k.exact }
 
   -- before the terminal knows that both agreed
-  paints_first : (lu : List ℕ) (panel : ℕ) (message : Message) (keep : Bool) (values : Values) → IsAt (view_of link) k.wanted (Moment.Talks (Talking.Agreeing lu)) → IsNew (scene_of (view_of link))
+  paints_first : (lu : List ℕ) (panel : ℕ) (message : Message) (keep : Bool) (values : Values) → IsAt (view_of link) k.wanted (LinkPhase.Talks (Talking.Agreeing lu)) → IsNew (local_state_of (view_of link))
       → IsDecided app link.host (Act.Show panel message keep values) → (keep ≡ true → KnowsItsFields app link.host) → Kept app (view_of (sent_view (done app link.host (Act.Show panel message keep values)) link))
   paints_first lu panel message keep values at n choice knows =
-      let sending : Sending = shown app link.host panel message keep values in
-      let conn : Conn = when_shown link.host in
+      let sending : SentValue = shown app link.host panel message keep values in
+      let conn : Session = when_shown link.host in
       let wants : WantedScreen = wants_of app conn panel message keep values in
       let same : Sends link sending = sends_shown panel message keep values in
       let meets : Meets link.host.shadow link.term.display.screen = subst (λ s. Meets s link.term.display.screen) (sym n.shadow) tt in
-      let to : Moment = Moment.Begins lu link.host.next_seq (command_of app conn panel message keep values) wants conn.shadow in
+      let to : LinkPhase = LinkPhase.Begins lu link.host.next_seq (command_of app conn panel message keep values) wants conn.shadow in
       kept_sent app link sending k to same (size_shown given app is link k lu panel message keep values at.host_talk) (λ steady. absurd (cc))
-      (sent_at link sending k.wanted (Moment.Talks (Talking.Agreeing lu)) to same at (λ talk is. is) (λ is. is) refl refl refl refl)
+      (sent_at link sending k.wanted (LinkPhase.Talks (Talking.Agreeing lu)) to same at (λ talk is. is) (λ is. is) refl refl refl refl)
       (record {
         lock = n.lock;
         over_is = refl;
@@ -273,17 +273,17 @@ module _ (given : Given) (app : Application) (is : IsApplication app) (link : Li
       let same : false ≡ keep = ap keeps_by both in
       absurd (let wrong : false ≡ true = same ∙ keeps in cc)
 
-  paints : (lu : List ℕ) (panel : ℕ) (message : Message) (keep : Bool) (values : Values) → IfRelies link.host.unheard (NothingIsOpen link.host.shadow) → IsAt (view_of link) k.wanted (Moment.Serves lu Serving.Deciding)
-      → Decides (scene_of (view_of link)) link.host.shadow
+  paints : (lu : List ℕ) (panel : ℕ) (message : Message) (keep : Bool) (values : Values) → IfRelies link.host.unheard (NothingIsOpen link.host.shadow) → IsAt (view_of link) k.wanted (LinkPhase.Serves lu Serving.Deciding)
+      → Decides (local_state_of (view_of link)) link.host.shadow
       → IsDecided app link.host (Act.Show panel message keep values) → (keep ≡ true → KnowsItsFields app link.host) → Kept app (view_of (sent_view (done app link.host (Act.Show panel message keep values)) link))
   paints lu panel message keep values closed at f choice knows =
-      let sending : Sending = shown app link.host panel message keep values in
-      let conn : Conn = when_shown link.host in
+      let sending : SentValue = shown app link.host panel message keep values in
+      let conn : Session = when_shown link.host in
       let wants : WantedScreen = wants_of app conn panel message keep values in
       let same : Sends link sending = sends_shown panel message keep values in
-      let to : Moment = Moment.Serves lu (Serving.Painting link.host.next_seq (command_of app conn panel message keep values) wants conn.shadow) in
+      let to : LinkPhase = LinkPhase.Serves lu (Serving.Painting link.host.next_seq (command_of app conn panel message keep values) wants conn.shadow) in
       kept_sent app link sending k to same (size_shown given app is link k lu panel message keep values at.host_talk) (λ steady. absurd (cc))
-      (sent_at link sending k.wanted (Moment.Serves lu Serving.Deciding) to same at (λ talk is. is) (λ is. is) refl refl refl refl)
+      (sent_at link sending k.wanted (LinkPhase.Serves lu Serving.Deciding) to same at (λ talk is. is) (λ is. is) refl refl refl refl)
       (record {
         lock = f.lock;
         over_is = refl;
@@ -295,19 +295,19 @@ module _ (given : Given) (app : Application) (is : IsApplication app) (link : Li
       })
       (wants_its app link.term.waits link.host link.term.display.screen panel message keep values choice knows f.sees.meets)
 
-  asks : (lu : List ℕ) → link.term.display.shape ≡ link.host.shape → (link.term.display.screen.aid ≡ ClearAid → ⊥) → IsAt (view_of link) k.wanted (Moment.Serves lu Serving.Deciding) → Decides (scene_of (view_of link)) link.host.shadow
+  asks : (lu : List ℕ) → link.term.display.size ≡ link.host.size → (link.term.display.screen.aid ≡ ClearAid → ⊥) → IsAt (view_of link) k.wanted (LinkPhase.Serves lu Serving.Deciding) → Decides (local_state_of (view_of link)) link.host.shadow
       → ShownIn app link.term.waits link.host link.term.display.before_restored link.term.display.last_restored link.term.display.screen Serving.Deciding → Kept app (view_of (sent_view (done app link.host Act.Read) link))
   asks lu steady not_cleared at f showing =
-      let sending : Sending = done app link.host Act.Read in
+      let sending : SentValue = done app link.host Act.Read in
       let same : Sends link sending = record { talk = refl; exact = k.exact } in
-      let to : Moment = Moment.Serves lu (Serving.Reading link.host.next_seq) in
+      let to : LinkPhase = LinkPhase.Serves lu (Serving.Reading link.host.next_seq) in
       kept_sent app link sending k to same k.sizes.host (λ s. steady)
-      (sent_at link sending k.wanted (Moment.Serves lu Serving.Deciding) to same at (λ talk is. is) (λ is. is) at.turn refl refl refl)
+      (sent_at link sending k.wanted (LinkPhase.Serves lu Serving.Deciding) to same at (λ talk is. is) (λ is. is) at.turn refl refl refl)
       (record { decides = f; not_cleared = not_cleared })
       showing.0
 
-  acts_at : (lu : List ℕ) (decision : Decision) → link.term.display.shape ≡ link.host.shape → decision_on app link.host link.host.turn_reason ≡ decision → IsAt (view_of link) k.wanted (Moment.Serves lu Serving.Deciding)
-      → Decides (scene_of (view_of link)) link.host.shadow → ShownIn app link.term.waits link.host link.term.display.before_restored link.term.display.last_restored link.term.display.screen Serving.Deciding → Kept app (view_of (host_sent (decided app link.host decision) link))
+  acts_at : (lu : List ℕ) (decision : Decision) → link.term.display.size ≡ link.host.size → decision_on app link.host link.host.turn_reason ≡ decision → IsAt (view_of link) k.wanted (LinkPhase.Serves lu Serving.Deciding)
+      → Decides (local_state_of (view_of link)) link.host.shadow → ShownIn app link.term.waits link.host link.term.display.before_restored link.term.display.last_restored link.term.display.screen Serving.Deciding → Kept app (view_of (host_sent (decided app link.host decision) link))
   acts_at lu (Decision.Do Act.Read) steady e at f showing =
       asks lu steady (reads_uncleared app link.host link.host.turn_reason link.term.display.screen.aid f.turn_reason e) at f showing
   acts_at lu (Decision.Do (Act.Show panel message keep values)) steady e at f showing =
@@ -316,15 +316,15 @@ module _ (given : Given) (app : Application) (is : IsApplication app) (link : Li
   acts_at lu Decision.Asks steady e at f showing = k
 
   -- at agreement the first panel is shown
-  acts_new : (lu : List ℕ) → IsAt (view_of link) k.wanted (Moment.Talks (Talking.Agreeing lu)) → IsNew (scene_of (view_of link))
+  acts_new : (lu : List ℕ) → IsAt (view_of link) k.wanted (LinkPhase.Talks (Talking.Agreeing lu)) → IsNew (local_state_of (view_of link))
       → Kept app (view_of (host_sent (decided app link.host (decision_on app link.host link.host.turn_reason)) link))
   acts_new lu at n =
       subst (λ o. Kept app (view_of (host_sent (decided app link.host (decision_on app link.host o)) link))) (sym n.turn_reason)
       (paints_first lu app.start Fresh false link.host.values at n (IsDecided.by_host (ap (λ (o : TurnReason). decision_on app link.host o) n.turn_reason)) (λ keeps. absurd (cc)))
 
   -- what is answered is shown
-  answers_at : (lu : List ℕ) (said : Said) (panel : Option ℕ) → said.panel ≡ panel → is_ask (decision_on app link.host link.host.turn_reason) ≡ true → IsAt (view_of link) k.wanted (Moment.Serves lu Serving.Deciding)
-      → Decides (scene_of (view_of link)) link.host.shadow → ShownIn app link.term.waits link.host link.term.display.before_restored link.term.display.last_restored link.term.display.screen Serving.Deciding
+  answers_at : (lu : List ℕ) (said : ApplicationAnswer) (panel : Option ℕ) → said.panel ≡ panel → is_ask (decision_on app link.host link.host.turn_reason) ≡ true → IsAt (view_of link) k.wanted (LinkPhase.Serves lu Serving.Deciding)
+      → Decides (local_state_of (view_of link)) link.host.shadow → ShownIn app link.term.waits link.host link.term.display.before_restored link.term.display.last_restored link.term.display.screen Serving.Deciding
       → Kept app (view_of (sent_view (done app link.host (act_by app link.host said panel)) link))
   answers_at lu said panel is_panel is_asked at f showing = by_panel panel is_panel
     where
@@ -343,19 +343,19 @@ module _ (given : Given) (app : Application) (is : IsApplication app) (link : Li
 
   -- The host may act at two moments alone: at agreement, and when it decides on a key.
   data MayAct : Type 0 where
-    agreeing : (lu : List ℕ) → IsAt (view_of link) k.wanted (Moment.Talks (Talking.Agreeing lu)) → IsNew (scene_of (view_of link)) → MayAct
-    deciding : (lu : List ℕ) → Sizes app (view_of link) (Moment.Serves lu Serving.Deciding) → IsAt (view_of link) k.wanted (Moment.Serves lu Serving.Deciding)
-        → Decides (scene_of (view_of link)) link.host.shadow → ShownIn app link.term.waits link.host link.term.display.before_restored link.term.display.last_restored link.term.display.screen Serving.Deciding → MayAct
+    agreeing : (lu : List ℕ) → IsAt (view_of link) k.wanted (LinkPhase.Talks (Talking.Agreeing lu)) → IsNew (local_state_of (view_of link)) → MayAct
+    deciding : (lu : List ℕ) → Sizes app (view_of link) (LinkPhase.Serves lu Serving.Deciding) → IsAt (view_of link) k.wanted (LinkPhase.Serves lu Serving.Deciding)
+        → Decides (local_state_of (view_of link)) link.host.shadow → ShownIn app link.term.waits link.host link.term.display.before_restored link.term.display.last_restored link.term.display.screen Serving.Deciding → MayAct
 
   may_act_at : link.host.turn ≡ whose.Host → link.host.pending ≡ Pending.Nothing → is_agreed link.host.talk.state ≡ true → MayAct
   may_act_at turns pends agrees = by_moment k.moment k.sizes k.at k.fact k.shown
     where
-      by_talk : (talking : Talking) → IsAt (view_of link) k.wanted (Moment.Talks talking) → IsNew (scene_of (view_of link)) → (lu : List ℕ) × (talking ≡ Talking.Agreeing lu) → MayAct
-      by_talk talking at n is = MayAct.agreeing is.0 (subst (λ (t : Talking). IsAt (view_of link) k.wanted (Moment.Talks t)) is.1 at) n
+      by_talk : (talking : Talking) → IsAt (view_of link) k.wanted (LinkPhase.Talks talking) → IsNew (local_state_of (view_of link)) → (lu : List ℕ) × (talking ≡ Talking.Agreeing lu) → MayAct
+      by_talk talking at n is = MayAct.agreeing is.0 (subst (λ (t : Talking). IsAt (view_of link) k.wanted (LinkPhase.Talks t)) is.1 at) n
 
-      by_serving : (lu : List ℕ) (serving : Serving) → Sizes app (view_of link) (Moment.Serves lu serving) → IsAt (view_of link) k.wanted (Moment.Serves lu serving) → Fact k.wanted (scene_of (view_of link)) (Moment.Serves lu serving)
-          → ShownIn app link.term.waits link.host link.term.display.before_restored link.term.display.last_restored link.term.display.screen serving → turn_at (Moment.Serves lu serving) ≡ whose.Host
-          → pending_at (Moment.Serves lu serving) ≡ Pending.Nothing → MayAct
+      by_serving : (lu : List ℕ) (serving : Serving) → Sizes app (view_of link) (LinkPhase.Serves lu serving) → IsAt (view_of link) k.wanted (LinkPhase.Serves lu serving) → Fact k.wanted (local_state_of (view_of link)) (LinkPhase.Serves lu serving)
+          → ShownIn app link.term.waits link.host link.term.display.before_restored link.term.display.last_restored link.term.display.screen serving → turn_at (LinkPhase.Serves lu serving) ≡ whose.Host
+          → pending_at (LinkPhase.Serves lu serving) ≡ Pending.Nothing → MayAct
       by_serving lu Serving.Deciding s at f showing t p = MayAct.deciding lu s at f showing
       by_serving lu (Serving.Reading number) s at f showing t p = absurd (cc)
       by_serving lu (Serving.Reported number parts) s at f showing t p = absurd (cc)
@@ -370,11 +370,11 @@ module _ (given : Given) (app : Application) (is : IsApplication app) (link : Li
       by_serving lu (Serving.KeyNoted number command parts) s at f showing t p = absurd (cc)
       by_serving lu (Serving.KeyBefore number command parts) s at f showing t p = absurd (cc)
 
-      by_moment : (moment : Moment) → Sizes app (view_of link) moment → IsAt (view_of link) k.wanted moment → Fact k.wanted (scene_of (view_of link)) moment
+      by_moment : (moment : LinkPhase) → Sizes app (view_of link) moment → IsAt (view_of link) k.wanted moment → Fact k.wanted (local_state_of (view_of link)) moment
           → ShownAt app link.term.waits link.host link.term.display.before_restored link.term.display.last_restored link.term.display.screen moment → MayAct
-      by_moment (Moment.Talks talking) s at f showing = by_talk talking at f.0 (agreed_there link.term.display.model talking link.host.talk at.host_talk agrees)
-      by_moment (Moment.Begins lu number command wants over) s at f showing = let t = sym at.turn ∙ turns in absurd (cc)
-      by_moment (Moment.Serves lu serving) s at f showing = by_serving lu serving s at f showing (sym at.turn ∙ turns) (sym at.pending ∙ pends)
+      by_moment (LinkPhase.Talks talking) s at f showing = by_talk talking at f.0 (agreed_there link.term.display.model talking link.host.talk at.host_talk agrees)
+      by_moment (LinkPhase.Begins lu number command wants over) s at f showing = let t = sym at.turn ∙ turns in absurd (cc)
+      by_moment (LinkPhase.Serves lu serving) s at f showing = by_serving lu serving s at f showing (sym at.turn ∙ turns) (sym at.pending ∙ pends)
 
   acts_then : MayAct → Kept app (view_of (host_sent (decided app link.host (decision_on app link.host link.host.turn_reason)) link))
   acts_then (MayAct.agreeing lu at n) = acts_new lu at n
@@ -397,7 +397,7 @@ module _ (given : Given) (app : Application) (is : IsApplication app) (link : Li
 
   -- the host decides, and asks
   abbrev pub Asks : Type 0
-  Asks = (lu : List ℕ) × IsAt (view_of link) k.wanted (Moment.Serves lu Serving.Deciding) × Decides (scene_of (view_of link)) link.host.shadow
+  Asks = (lu : List ℕ) × IsAt (view_of link) k.wanted (LinkPhase.Serves lu Serving.Deciding) × Decides (local_state_of (view_of link)) link.host.shadow
       × (is_ask (decision_on app link.host link.host.turn_reason) ≡ true) × ShownIn app link.term.waits link.host link.term.display.before_restored link.term.display.last_restored link.term.display.screen Serving.Deciding
 
   asks_then : is_ask (decision_on app link.host link.host.turn_reason) ≡ true → MayAct → Asks
@@ -412,7 +412,7 @@ module _ (given : Given) (app : Application) (is : IsApplication app) (link : Li
       asks_then asks.1 (may_act_at when.0 when.1 when.2)
 
   -- what the application answers is shown, if a question is open
-  pub answers_are_shown : (said : Said) → Kept app (view_of (host_sent (answered_on app link.host said) link))
+  pub answers_are_shown : (said : ApplicationAnswer) → Kept app (view_of (host_sent (answered_on app link.host said) link))
   answers_are_shown said = by_open (is_asking app link.host) refl (has_its_panel app said)
     where
       by_open : (asked : Bool) → is_asking app link.host ≡ asked → (has : Bool)
@@ -428,7 +428,7 @@ module _ (given : Given) (app : Application) (is : IsApplication app) (link : Li
 abbrev without : View → View
 without v = record v { lost = true }
 
-lost_at : (v : View) (wanted : Option (List ℕ)) (moment : Moment) → IsAt v wanted moment → IsAt (without v) wanted moment
+lost_at : (v : View) (wanted : Option (List ℕ)) (moment : LinkPhase) → IsAt v wanted moment → IsAt (without v) wanted moment
 lost_at v wanted moment at = record {
   host_talk = at.host_talk;
   term_talk = at.term_talk;

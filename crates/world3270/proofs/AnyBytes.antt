@@ -9,49 +9,49 @@ use Rattle.host_core.specs.Feeds.{IsOpen}
 use Rattle.host_core.specs.KeepAlive.{kept_alive}
 use Rattle.host_core.specs.Notes.{noted}
 use Rattle.host_core.specs.Questions.{answered_by, answered_in, answered_on, is_ticket, ticket_of}
-use Rattle.host_core.specs.Session.{Conn}
+use Rattle.host_core.specs.Session.{Session}
 use Rattle.host_core.specs.State.{Connection, Service, connection_at, most_connections, service_at, session_at}
 use Rattle.host_core.specs.declared.acted.Acted.{Acted}
-use Rattle.host_core.specs.declared.question.Answer.{Answer as Said}
+use Rattle.host_core.specs.declared.question.Answer.{Answer as ApplicationAnswer}
 use Rattle.host_core.specs.declared.question.Ticket.{Ticket}
-use Rattle.world3270.specs.EveryTerminal.{Move, Told, after_moves}
-use Rattle.world3270.specs.EveryTerminalBytes.{AreMoves, AreMovesOf, IsHost, LeadTo, Moves, OverBytes, Represents, if_sent, on_connection, with_host}
-use Rattle.world3270.specs.Standing.{conn_of}
+use Rattle.world3270.specs.statement.EveryTerminal.{Move, ReportedLink, after_moves}
+use Rattle.world3270.specs.statement.EveryTerminalBytes.{AreMoves, AreMovesOf, IsHost, LeadTo, Moves, OverBytes, Represents, if_sent, on_connection, with_host}
+use Rattle.world3270.specs.refinement.Representation.{conn_of}
 use Rattle.world3270.proofs.Answered.{IsDone, by_act, by_answer}
 use Rattle.world3270.proofs.AnyHost.{HearsLaws, fed_by, IsServed, conn_there, does_goes, elsewhere_goes, hands_over_goes, hears_bytes, keeps_alive_goes, unchanged}
 use Rattle.world3270.proofs.AnyTerminal.{Goes, GoesBy, IsKept, TakesLaws, commands_goes, goes_after, goes_as, operates_goes, stays, takes_goes}
 
 -- what the host does at a connection that is open
-acted_here : (app : Application) (service : Service) (conn : Conn) → IsOpen service → conn_of service ≡ conn → acted_by app service ≡ acted app conn
+acted_here : (app : Application) (service : Service) (conn : Session) → IsOpen service → conn_of service ≡ conn → acted_by app service ≡ acted app conn
 acted_here app Service.Free conn is same = absurd is
 acted_here app (Service.Open rest held) conn is same = ap (acted app) same
 acted_here app (Service.Closed cause) conn is same = absurd is
 
-noted_here : (text : List ℕ) (service : Service) (conn : Conn) → IsOpen service → conn_of service ≡ conn → noted_by text service ≡ noted text conn
+noted_here : (text : List ℕ) (service : Service) (conn : Session) → IsOpen service → conn_of service ≡ conn → noted_by text service ≡ noted text conn
 noted_here text Service.Free conn is same = absurd is
 noted_here text (Service.Open rest held) conn is same = ap (noted text) same
 noted_here text (Service.Closed cause) conn is same = absurd is
 
-answered_here : (app : Application) (session : ℕ) (ticket : Ticket) (said : Said) (service : Service) (conn : Conn) → IsOpen service → conn_of service ≡ conn
+answered_here : (app : Application) (session : ℕ) (ticket : Ticket) (said : ApplicationAnswer) (service : Service) (conn : Session) → IsOpen service → conn_of service ≡ conn
     → answered_by app session ticket said service ≡ answered_in app session ticket said conn
 answered_here app session ticket said Service.Free conn is same = absurd is
 answered_here app session ticket said (Service.Open rest held) conn is same = ap (answered_in app session ticket said) same
 answered_here app session ticket said (Service.Closed cause) conn is same = absurd is
 
 -- a move, over messages, and the pool that it leaves
-record GoesWith (app : Application) (Good : Told → Type 0) (number : ℕ) (old new : OverBytes) (t : Told) (move : Moves app number old new) : Type 0 where
+record GoesWith (app : Application) (Good : ReportedLink → Type 0) (number : ℕ) (old new : OverBytes) (t : ReportedLink) (move : Moves app number old new) : Type 0 where
   goes : Goes app Good number new t
   are : AreMovesOf move goes.moves
   pool : IsSoundPool new.host.pool
 
 -- moves, one after another
-pub record GoesThrough (app : Application) (Good : Told → Type 0) (number : ℕ) (states : List OverBytes) (old new : OverBytes) (t : Told) (lead : LeadTo app number states old new) : Type 0 where
+pub record GoesThrough (app : Application) (Good : ReportedLink → Type 0) (number : ℕ) (states : List OverBytes) (old new : OverBytes) (t : ReportedLink) (lead : LeadTo app number states old new) : Type 0 where
   pub goes : Goes app Good number new t
   pub are : AreMoves app number states old new lead goes.moves
 
-module _ (takes : TakesLaws) (hears : HearsLaws) (app : Application) (Good : Told → Type 0) (kept : IsKept app Good) (number : ℕ) where
+module _ (takes : TakesLaws) (hears : HearsLaws) (app : Application) (Good : ReportedLink → Type 0) (kept : IsKept app Good) (number : ℕ) where
   -- an answer to another question isn't taken
-  answer_goes : (old : OverBytes) (t : Told) (good : Good t) (is : Represents number old t) (served : IsServed number old.host) (said : Said) (did : Acted) (connection : Connection) (taken : Bool) → AreTexts said.values
+  answer_goes : (old : OverBytes) (t : ReportedLink) (good : Good t) (is : Represents number old t) (served : IsServed number old.host) (said : ApplicationAnswer) (did : Acted) (connection : Connection) (taken : Bool) → AreTexts said.values
       → IsDone (if taken then answered_on app t.link.host said else None) (connection_at number old.host) did connection → GoesBy app Good number (on_connection number connection old) t (if_sent did (Move.Answer said))
   answer_goes old t good is served said did connection true texts done =
       does_goes hears app Good kept number old t good is served (Move.Answer said) (answered_on app t.link.host said) did connection refl tt texts ((kept.ready t good).answers said texts) done
@@ -59,7 +59,7 @@ module _ (takes : TakesLaws) (hears : HearsLaws) (app : Application) (Good : Tol
       let none = unchanged hears app Good kept number old t good is served connection done.1 in
       record { goes = none.goes; are = none.are ∙ ap (λ (d : Acted). if_sent d (Move.Answer said)) (sym done.0) }
 
-  one_move : (old new : OverBytes) (t : Told) → Good t → Represents number old t → IsServed number old.host → (move : Moves app number old new) → GoesWith app Good number old new t move
+  one_move : (old new : OverBytes) (t : ReportedLink) → Good t → Represents number old t → IsServed number old.host → (move : Moves app number old new) → GoesWith app Good number old new t move
   one_move old new t good is served (Moves.feeds bytes behind fed counter queue feeds same) =
       let front : List ℕ = take fed.taken bytes in
       let others : List ℕ = drop fed.taken bytes ++ behind in
@@ -137,7 +137,7 @@ module _ (takes : TakesLaws) (hears : HearsLaws) (app : Application) (Good : Tol
       }
 
   -- The bytes represent the connection over messages after moves that keep the rules, whatever led to them.
-  pub all_moves : (states : List OverBytes) (old new : OverBytes) (t : Told) → number < most_connections → Good t → Represents number old t → IsServed number old.host
+  pub all_moves : (states : List OverBytes) (old new : OverBytes) (t : ReportedLink) → number < most_connections → Good t → Represents number old t → IsServed number old.host
       → (lead : LeadTo app number states old new) → GoesThrough app Good number states old new t lead
   all_moves [] old new t below good is served same =
       record { goes = stays app Good number new t good (subst (λ (b : OverBytes). Represents number b t) (sym same) is); are = refl }

@@ -4,9 +4,9 @@ use Rattle.std.proofs.Common.{false, ◌≡◌, ◌<◌, ℕ, Some, List, [], �
 use Rattle.std.specs.Prelude.{All}
 use Rattle.std.proofs.lemmas.List.Elements.{All-cons, All-nil}
 use Rattle.datastream.specs.InboundFields.{IsSendable, SentIsRead}
-use Rattle.host_core.specs.Application.{Application, AreTexts, AsksForScreens, IsApplication}
+use Rattle.host_core.specs.Application.{Application, AreTexts, WantsProperScreens, IsApplication}
 use Rattle.host_core.specs.Messages.{ToHost, ToTerminal}
-use Rattle.host_core.specs.Session.{Conn, agreed_lu, is_agreed}
+use Rattle.host_core.specs.Session.{Session, agreed_lu, is_agreed}
 use Rattle.host_core.specs.State.{Service, lu_of, service_at}
 use Rattle.host_core.specs.Feeds.{IsOpen}
 use Rattle.panels.specs.Characters.{AreCharacters}
@@ -18,49 +18,49 @@ use Rattle.tn3270e_msg.specs.Talk.{Saying}
 use Rattle.tn3270e_msg.specs.declared.host_talk.HostState.{HostState}
 use Rattle.tn3270e_msg.specs.declared.host_talk.HostState.TheVariants.{Offered, Asked, Asking, Named, Countered, Agreed, Closed}
 use Rattle.tn3270e_msg.specs.declared.reply.OwnedMessage.TheVariants.{FunIs}
-use Rattle.world3270.specs.EveryTerminal.{Begins, IsByTheRules, Move, Told, moved}
-use Rattle.world3270.specs.EveryTerminalBytes.{BeginsOverBytes, LeadTo, OverBytes, RightOverBytes}
-use Rattle.world3270.specs.Given.{Given}
-use Rattle.world3270.specs.Known.{Known}
-use Rattle.world3270.specs.Readings.{IsReadAs, MayComeUp}
-use Rattle.world3270.specs.Rules.{Binds}
-use Rattle.world3270.specs.Standing.{conn_of}
-use Rattle.world3270.specs.Stands.{StandsDown, without_commands, without_nops}
-use Rattle.world3270.specs.StandsEnds.{NopHasNoEffect, TakesKeepSendable, TermTakes, WritesAreMarked}
-use Rattle.world3270.specs.StandsLinks.{HasTheSizes, StandsCompose, StandsGoOn}
-use Rattle.world3270.specs.Terminal.{Display}
+use Rattle.world3270.specs.statement.EveryTerminal.{Begins, IsByTheRules, Move, ReportedLink, moved}
+use Rattle.world3270.specs.statement.EveryTerminalBytes.{BeginsOverBytes, LeadTo, OverBytes, RightOverBytes}
+use Rattle.world3270.specs.refinement.LowerLaws.{LowerLaws}
+use Rattle.world3270.specs.refinement.MessageLaws.{MessageLaws}
+use Rattle.world3270.specs.refinement.Readings.{IsReadAs, MayComeUp}
+use Rattle.world3270.specs.statement.Rules.{Binds}
+use Rattle.world3270.specs.refinement.Representation.{conn_of}
+use Rattle.world3270.specs.refinement.Represents.{RepresentsDown, without_commands, without_nops}
+use Rattle.world3270.specs.refinement.RepresentsEnds.{NopHasNoEffect, TakesKeepSendable, TermTakes, WritesAreMarked}
+use Rattle.world3270.specs.refinement.RepresentsLinks.{HasTheSizes, RepresentsCompose, RepresentsGoOn}
+use Rattle.world3270.specs.model.Terminal.{Display}
 use Rattle.world3270.proofs.AnyBytes.{all_moves, last_host}
 use Rattle.world3270.proofs.AnyHost.{HearsLaws}
 use Rattle.world3270.proofs.AnyReady.{all_may_now, hears_now, same_now}
 use Rattle.world3270.proofs.AnySpelt.{IsTexts, acts_spelt, answers_spelt, move_texts, notes_spelt}
-use Rattle.world3270.proofs.AnyTerminal.{IsKept, IsTypedMove, Ready, TakesLaws}
+use Rattle.world3270.proofs.AnyTerminal.{IsKept, IsWellFormedMove, Ready, TakesLaws}
 use Rattle.world3270.proofs.EveryTerminal.{begins_simulated, move_still, right_of}
 use Rattle.world3270.proofs.Numbers.{Numbered}
-use Rattle.world3270.proofs.Sendable.{IsWritten, blank_sendable}
+use Rattle.world3270.proofs.Sendable.{HasProperScreen, blank_sendable}
 use Rattle.world3270.proofs.Simulation.{Simulated, agrees_now}
-use Rattle.world3270.proofs.Stands.{commands_piecewise, stands_go_on, stands_join}
-use Rattle.world3270.proofs.StandsLinks.{host_sends, nop_stands, up_stands}
+use Rattle.world3270.proofs.Represents.{commands_piecewise, stands_go_on, stands_join}
+use Rattle.world3270.proofs.RepresentsLinks.{host_sends, nop_stands, up_stands}
 
 -- ---- what is asked of the queue
 
 -- Some property of what comes up holds at agreement; all typed moves that keep the rules keep it; and by it what comes up
 -- next may come.
-pub record QueueIsKept (app : Application) (lu : List ℕ) (Queued : Told → Type 0) : Type 0 where
-  pub begins : (t : Told) → Begins app lu t → t.link.lost ≡ false → Queued t
-  pub goes_on : (move : Move) (t : Told) → Simulated app lu t → IsTexts t → Queued t → IsByTheRules move t → IsTypedMove move → Queued (moved app move t)
-  pub comes_up : (t : Told) → Simulated app lu t → IsTexts t → Queued t → (message : ToHost) (others : List ToHost) → t.link.up ≡ message ∷ others → MayComeUp t.link.host message
+pub record QueueIsKept (app : Application) (lu : List ℕ) (Queued : ReportedLink → Type 0) : Type 0 where
+  pub begins : (t : ReportedLink) → Begins app lu t → t.link.lost ≡ false → Queued t
+  pub goes_on : (move : Move) (t : ReportedLink) → Simulated app lu t → IsTexts t → Queued t → IsByTheRules move t → IsWellFormedMove move → Queued (moved app move t)
+  pub comes_up : (t : ReportedLink) → Simulated app lu t → IsTexts t → Queued t → (message : ToHost) (others : List ToHost) → t.link.up ≡ message ∷ others → MayComeUp t.link.host message
 
 pub record AnyLaws : Type 0 where
-  pub given : Given
+  pub given : LowerLaws
   pub takes : TakesLaws
   pub hears : HearsLaws
-  pub known : Known
+  pub known : MessageLaws
   pub read : SentIsRead
   pub written : WrittenIsThere
   pub kept : KeptStaysThere
 
 -- by what is known of bytes and of what is read of them
-pub any_laws : Known → TermTakes → TakesKeepSendable → NopHasNoEffect → WritesAreMarked → StandsGoOn without_nops StandsDown → StandsCompose without_nops StandsDown → ItemsAreRead → SentIsRead
+pub any_laws : MessageLaws → TermTakes → TakesKeepSendable → NopHasNoEffect → WritesAreMarked → RepresentsGoOn without_nops RepresentsDown → RepresentsCompose without_nops RepresentsDown → ItemsAreRead → SentIsRead
     → WrittenIsThere → KeptStaysThere → AnyLaws
 any_laws known takes keeps nop marks taken compose items read written kept = record {
   given = known.worlds.given;
@@ -92,16 +92,16 @@ any_laws known takes keeps nop marks taken compose items read written kept = rec
 
 -- ---- at agreement
 
-nothing_written : (lu : List ℕ) (t : Told) → Binds lu t.link.term.talk.talk.state t.link.down → All IsWritten t.link.down
-nothing_written lu t (Binds.bound state down) = subst (All IsWritten) (sym down) (All-nil IsWritten)
+nothing_written : (lu : List ℕ) (t : ReportedLink) → Binds lu t.link.term.talk.talk.state t.link.down → All HasProperScreen t.link.down
+nothing_written lu t (Binds.bound state down) = subst (All HasProperScreen) (sym down) (All-nil HasProperScreen)
 nothing_written lu t (Binds.about_to state down) =
-    subst (All IsWritten) (sym down) (All-cons IsWritten (ToTerminal.TalksDown (Saying.Sub FunIs)) [] tt (All-nil IsWritten))
+    subst (All HasProperScreen) (sym down) (All-cons HasProperScreen (ToTerminal.TalksDown (Saying.Sub FunIs)) [] tt (All-nil HasProperScreen))
 
-begins_texts : (app : Application) → IsApplication app → (lu : List ℕ) (t : Told) → Begins app lu t → IsTexts t
+begins_texts : (app : Application) → IsApplication app → (lu : List ℕ) (t : ReportedLink) → Begins app lu t → IsTexts t
 begins_texts app is lu t b =
     let blank : IsSendable t.link.term.display.screen = subst (λ (d : Display). IsSendable d.screen) (sym b.blank) (blank_sendable (model_of b.device) app.begins is.begins) in
     record {
-      values = subst (λ (conn : Conn). AreTexts conn.values) (sym b.host) (All-nil AreCharacters);
+      values = subst (λ (conn : Session). AreTexts conn.values) (sym b.host) (All-nil AreCharacters);
       numbered = subst Numbered (sym b.host) (record { next = omega arith; pending = tt });
       writes = nothing_written lu t b.binds;
       told = subst (λ (d : Display). IsSendable d.screen) (sym b.told) blank;
@@ -110,9 +110,9 @@ begins_texts app is lu t b =
 
 -- ---- the host's connection
 
-lu_there : (service : Service) (conn : Conn) (lu : List ℕ) → IsOpen service → conn_of service ≡ conn → agreed_lu conn.talk.state ≡ Some lu → lu_of service ≡ Some lu
+lu_there : (service : Service) (conn : Session) (lu : List ℕ) → IsOpen service → conn_of service ≡ conn → agreed_lu conn.talk.state ≡ Some lu → lu_of service ≡ Some lu
 lu_there Service.Free conn lu is same agreed = absurd is
-lu_there (Service.Open rest held) conn lu is same agreed = by_state held.talk.state (ap (λ (c : Conn). agreed_lu c.talk.state) same ∙ agreed)
+lu_there (Service.Open rest held) conn lu is same agreed = by_state held.talk.state (ap (λ (c : Session). agreed_lu c.talk.state) same ∙ agreed)
   where
     by_state : (state : HostState) → agreed_lu state ≡ Some lu → granted state ≡ Some lu
     by_state (Agreed device mine) e = e
@@ -126,13 +126,13 @@ lu_there (Service.Closed cause) conn lu is same agreed = absurd is
 
 -- ---- the theorem
 
-module _ (laws : AnyLaws) (app : Application) (is : IsApplication app) (asks : AsksForScreens app) (sizes : HasTheSizes app) (lu : List ℕ) (Queued : Told → Type 0) (queue : QueueIsKept app lu Queued) where
-  record Good (t : Told) : Type 0 where
+module _ (laws : AnyLaws) (app : Application) (is : IsApplication app) (asks : WantsProperScreens app) (sizes : HasTheSizes app) (lu : List ℕ) (Queued : ReportedLink → Type 0) (queue : QueueIsKept app lu Queued) where
+  record Good (t : ReportedLink) : Type 0 where
     simulated : Simulated app lu t
     texts : IsTexts t
     queued : Queued t
 
-  ready : (t : Told) → Good t → Ready app t
+  ready : (t : ReportedLink) → Good t → Ready app t
   ready t good =
       let given = laws.given in
       let may = all_may_now given app is sizes lu t.link.down t good.simulated refl in
@@ -142,7 +142,7 @@ module _ (laws : AnyLaws) (app : Application) (is : IsApplication app) (asks : A
         may = may.0;
         none = may.1;
         same = same_now given app is sizes lu t good.simulated;
-        agreed = ap (λ (c : Conn). is_agreed c.talk.state) good.simulated.simulates.host ∙ agrees_now good.simulated;
+        agreed = ap (λ (c : Session). is_agreed c.talk.state) good.simulated.simulates.host ∙ agrees_now good.simulated;
         comes_up = queue.comes_up t good.simulated good.texts good.queued;
         hears = hears_now given app is sizes lu t good.simulated;
         acts = acts_spelt paint bounded given app is asks sizes lu t good.simulated good.texts;

@@ -21,31 +21,31 @@ use Rattle.tn3270e_msg.specs.declared.host_talk.HostState.{HostState}
 use Rattle.tn3270e_msg.specs.declared.host_talk.HostState.TheVariants.{Offered, Asked, Asking, Named, Countered, Agreed, Closed}
 use Rattle.host_core.specs.Acts.{Sent}
 use Rattle.host_core.specs.Application.{Application}
-use Rattle.host_core.specs.Bytes.{Counter, TakesByte, TakesBytes, bound_lu, service_after, stepped}
+use Rattle.host_core.specs.Bytes.{ConnectionAndPool, TakesByte, TakesBytes, bound_lu, service_after, stepped}
 use Rattle.host_core.specs.Does.{sent_on, with_conn}
-use Rattle.host_core.specs.Feeds.{IsOpen, counter_at, with_counter}
+use Rattle.host_core.specs.Feeds.{IsOpen, connection_and_pool_at, with_connection_and_pool}
 use Rattle.host_core.specs.Items.{TakesItem}
 use Rattle.host_core.specs.KeepAlive.{kept_alive, may_keep_alive, no_operation, with_nop}
 use Rattle.host_core.specs.Messages.{ToHost}
 use Rattle.host_core.specs.Says.{item_sent}
 use Rattle.host_core.specs.Reports.{Reports, newly_bound, with_bound}
-use Rattle.host_core.specs.Session.{Conn, agreed_lu, is_agreed}
+use Rattle.host_core.specs.Session.{Session, agreed_lu, is_agreed}
 use Rattle.host_core.specs.State.{Connection, Host, Service, connection_at, service_at, unused, with_connection}
 use Rattle.host_core.specs.Takes.{Answers, HostStep, freed_if, quiet, talked, talked_on, took as host_took}
 use Rattle.host_core.specs.declared.acted.Acted.{Acted}
 use Rattle.host_core.specs.declared.acted.Acted.TheVariants as acted_as
-use Rattle.world3270.specs.ByteWorld.{is_there}
-use Rattle.world3270.specs.EveryTerminal.{IsByTheRules, Move, Told, after_moves, came_up, moved}
-use Rattle.world3270.specs.EveryTerminalBytes.{IsUp, OverBytes, Represents, if_sent, link_over, on_connection}
-use Rattle.world3270.specs.Link.{Link, host_left_if, host_sent, sent}
-use Rattle.world3270.specs.Readings.{IsReadAs, MayComeUp}
-use Rattle.world3270.specs.Sendable.{CanBeSent}
-use Rattle.world3270.specs.Standing.{conn_of, rest_of}
-use Rattle.world3270.specs.Stands.{ByteLink, LinkStandsBy, is_bare_command, without_commands}
-use Rattle.world3270.specs.StandsLinks.{HostSendsBy, MayComeAll, NopStandsBy, UpStandsBy, said_down}
-use Rattle.world3270.specs.TrackedTerminals.{TrackedTerminal}
+use Rattle.world3270.specs.model.ByteWorld.{is_there}
+use Rattle.world3270.specs.statement.EveryTerminal.{IsByTheRules, Move, ReportedLink, after_moves, came_up, moved}
+use Rattle.world3270.specs.statement.EveryTerminalBytes.{IsUp, OverBytes, Represents, if_sent, link_over, on_connection}
+use Rattle.world3270.specs.model.Link.{Link, host_left_if, host_sent, sent}
+use Rattle.world3270.specs.refinement.Readings.{IsReadAs, MayComeUp}
+use Rattle.world3270.specs.refinement.Sendable.{CanBeSent}
+use Rattle.world3270.specs.refinement.Representation.{conn_of, rest_of}
+use Rattle.world3270.specs.refinement.Represents.{ByteLink, LinkRepresentsBy, is_bare_command, without_commands}
+use Rattle.world3270.specs.refinement.RepresentsLinks.{HostSendsBy, MayComeAll, NopRepresentsBy, UpRepresentsBy, said_down}
+use Rattle.world3270.specs.model.TrackedTerminals.{TrackedTerminal}
 use Rattle.world3270.proofs.Answered.{IsDone}
-use Rattle.world3270.proofs.AnyTerminal.{Goes, GoesBy, IsKept, IsTypedMove, goes_after, goes_as, moves_once, stays}
+use Rattle.world3270.proofs.AnyTerminal.{Goes, GoesBy, IsKept, IsWellFormedMove, goes_after, goes_as, moves_once, stays}
 use Rattle.world3270.proofs.Frames.{connection_same}
 use Rattle.world3270.proofs.HostItems.{host_reads}
 use Rattle.world3270.proofs.HostSteps.{just_talks}
@@ -57,7 +57,7 @@ same_lu : (lu : Option (List ℕ)) (reports : Reports) → with_bound (newly_bou
 same_lu None reports = refl
 same_lu (Some lu) reports = refl
 
-not_bound_anew : (service : Service) (rest : Rest) (conn : Conn) (reports : Reports) → service ≡ Service.Open rest conn
+not_bound_anew : (service : Service) (rest : Rest) (conn : Session) (reports : Reports) → service ≡ Service.Open rest conn
     → with_bound (newly_bound (bound_lu service) (agreed_lu conn.talk.state)) reports ≡ reports
 not_bound_anew service rest conn reports is =
     ap (λ (s : Service). with_bound (newly_bound (bound_lu s) (agreed_lu conn.talk.state)) reports) is ∙ same_lu (agreed_lu conn.talk.state) reports
@@ -69,7 +69,7 @@ kept_if item true is = ap (λ (b : Bool). cond (not b) (item ∷ []) []) is
 kept_if item false is = ap (λ (b : Bool). cond (not b) (item ∷ []) []) is
 
 -- a talk in which both agreed goes on as it was
-says_nothing : (answers : Answers) (conn : Conn) (state : HostState) → conn.talk.state ≡ state → is_agreed state ≡ true → talked answers conn conn.talk NoTalk ≡ quiet conn
+says_nothing : (answers : Answers) (conn : Session) (state : HostState) → conn.talk.state ≡ state → is_agreed state ≡ true → talked answers conn conn.talk NoTalk ≡ quiet conn
 says_nothing answers conn (Agreed device lu) same agrees =
     ap (λ (s : HostState). let next = follow Closed conn.talk (host_transition s NoTalk) in talked_on answers conn None next.0 next.1) same
 says_nothing answers conn Offered same agrees = absurd (cc)
@@ -79,7 +79,7 @@ says_nothing answers conn (Named device lu) same agrees = absurd (cc)
 says_nothing answers conn (Countered device lu) same agrees = absurd (cc)
 says_nothing answers conn (Closed cause) same agrees = absurd (cc)
 
-command_is_nothing : (answers : Answers) (conn : Conn) (item : WireItem) (step : HostStep) → is_bare_command item ≡ true → is_agreed conn.talk.state ≡ true → TakesItem answers conn item step → step ≡ quiet conn
+command_is_nothing : (answers : Answers) (conn : Session) (item : WireItem) (step : HostStep) → is_bare_command item ≡ true → is_agreed conn.talk.state ≡ true → TakesItem answers conn item step → step ≡ quiet conn
 command_is_nothing answers conn (Other code) step bare agrees taken =
     taken.2 ∙ ap (λ (comes : Comes). talked answers conn conn.talk comes) taken.1 ∙ says_nothing answers conn conn.talk.state refl agrees
 command_is_nothing answers conn (Record bytes) step bare agrees taken = absurd (cc)
@@ -104,12 +104,12 @@ abbrev with_parts : Host → List ℕ → List ℕ → OverBytes → OverBytes
 with_parts host down up old = record old { host = host; down = down; up = up }
 
 -- it represents this, whatever the host has on other connections
-represents_with : (number : ℕ) (host : Host) (connection : Connection) (down up : List ℕ) (old : OverBytes) (t : Told) → connection_at number host ≡ connection → IsOpen connection.service
-    → LinkStandsBy without_commands IsReadAs (link_by connection down up old.tracked) t.link → old.waits ≡ t.waits → t.link.term.waits ≡ false → CanBeSent t.link.term.display.shape t.link.term.display.screen
+represents_with : (number : ℕ) (host : Host) (connection : Connection) (down up : List ℕ) (old : OverBytes) (t : ReportedLink) → connection_at number host ≡ connection → IsOpen connection.service
+    → LinkRepresentsBy without_commands IsReadAs (link_by connection down up old.tracked) t.link → old.waits ≡ t.waits → t.link.term.waits ≡ false → CanBeSent t.link.term.display.size t.link.term.display.screen
     → Represents number (with_parts host down up old) t
 represents_with number host connection down up old t at is_open stands waits unnamed stored = record {
   is_open = subst (λ (c : Connection). IsOpen c.service) (sym at) is_open;
-  stands = subst (λ (c : Connection). LinkStandsBy without_commands IsReadAs (link_by c down up old.tracked) t.link) (sym at) stands;
+  stands = subst (λ (c : Connection). LinkRepresentsBy without_commands IsReadAs (link_by c down up old.tracked) t.link) (sym at) stands;
   waits = waits;
   unnamed = unnamed;
   stored = stored;
@@ -126,8 +126,8 @@ still_sound granted number (Some lu) pool sound = granted pool number lu sound
 
 pub record HearsLaws : Type 0 where
   pub sends : HostSendsBy without_commands IsReadAs
-  pub nop : NopStandsBy without_commands IsReadAs
-  pub up : UpStandsBy without_commands IsReadAs
+  pub nop : NopRepresentsBy without_commands IsReadAs
+  pub up : UpRepresentsBy without_commands IsReadAs
   pub final : WrongIsFinal
   pub one_header : OneHeader
   pub fault_or_header : FaultIsNoHeader
@@ -136,16 +136,16 @@ pub record HearsLaws : Type 0 where
 
 -- ---- the host takes a byte
 
-abbrev pub fed_by : ℕ → Counter → List ℕ → OverBytes → OverBytes
-fed_by number counter up old = record old { host = with_counter number counter old.host; up = up }
+abbrev pub fed_by : ℕ → ConnectionAndPool → List ℕ → OverBytes → OverBytes
+fed_by number counter up old = record old { host = with_connection_and_pool number counter old.host; up = up }
 
-pub record Fed (app : Application) (Good : Told → Type 0) (number : ℕ) (counter : Counter) (up : List ℕ) (old : OverBytes) (t : Told) : Type 0 where
+pub record Fed (app : Application) (Good : ReportedLink → Type 0) (number : ℕ) (counter : ConnectionAndPool) (up : List ℕ) (old : OverBytes) (t : ReportedLink) : Type 0 where
   pub goes : Goes app Good number (fed_by number counter up old) t
   pub ups : All IsUp goes.moves
   pub pool : IsSoundPool counter.pool
 
-module _ (laws : HearsLaws) (app : Application) (Good : Told → Type 0) (kept : IsKept app Good) (number : ℕ) where
-  module _ (old : OverBytes) (t : Told) (good : Good t) (is : Represents number old t) (served : IsServed number old.host) where
+module _ (laws : HearsLaws) (app : Application) (Good : ReportedLink → Type 0) (kept : IsKept app Good) (number : ℕ) where
+  module _ (old : OverBytes) (t : ReportedLink) (good : Good t) (is : Represents number old t) (served : IsServed number old.host) where
     abbrev line : Connection
     line = connection_at number old.host
 
@@ -167,32 +167,32 @@ module _ (laws : HearsLaws) (app : Application) (Good : Told → Type 0) (kept :
     at_line connection pool = connection_same number connection (record old.host { pool = pool }) served.below
 
     -- it goes on with this rest of the stream
-    opened : (rest to : Rest) (conn : Conn) (behind : List ℕ) (t' : Link) → line.service ≡ Service.Open rest conn
-        → LinkStandsBy without_commands IsReadAs (record (link_over number old) { host_rest = to; up = behind }) t'
-        → LinkStandsBy without_commands IsReadAs (link_by (record line { service = Service.Open to conn }) old.down behind old.tracked) t'
+    opened : (rest to : Rest) (conn : Session) (behind : List ℕ) (t' : Link) → line.service ≡ Service.Open rest conn
+        → LinkRepresentsBy without_commands IsReadAs (record (link_over number old) { host_rest = to; up = behind }) t'
+        → LinkRepresentsBy without_commands IsReadAs (link_by (record line { service = Service.Open to conn }) old.down behind old.tracked) t'
     opened rest to conn behind t' held stands =
-        subst (λ (s : Service). LinkStandsBy without_commands IsReadAs (record (link_by line old.down behind old.tracked) { host_here = is_there s; host = conn_of s; host_rest = to }) t') held stands
+        subst (λ (s : Service). LinkRepresentsBy without_commands IsReadAs (record (link_by line old.down behind old.tracked) { host_here = is_there s; host = conn_of s; host_rest = to }) t') held stands
 
-    hears_nothing : (byte : ℕ) (behind : List ℕ) (counter : Counter) (rest to : Rest) (conn : Conn) (items : List WireItem) → without_commands items ≡ [] → old.up ≡ byte ∷ behind → line.service ≡ Service.Open rest conn
+    hears_nothing : (byte : ℕ) (behind : List ℕ) (counter : ConnectionAndPool) (rest to : Rest) (conn : Session) (items : List WireItem) → without_commands items ≡ [] → old.up ≡ byte ∷ behind → line.service ≡ Service.Open rest conn
         → Delivers record_limit rest (byte ∷ []) items to → counter ≡ record { pool = old.host.pool; connection = record line { service = Service.Open to conn } }
         → Fed app Good number counter behind old t
     hears_nothing byte behind counter rest to conn items none queue held delivers is_counter =
         let read = subst (λ (r : Rest). Delivers record_limit r (byte ∷ []) items to) (sym (ap rest_of held)) delivers in
         let stands = opened rest to conn behind link held (none_first laws.up (link_over number old) link byte behind to is.stands host_here queue items none read) in
-        let after : Counter = record { pool = old.host.pool; connection = record line { service = Service.Open to conn } } in
-        let represents = represents_with number (with_counter number after old.host) after.connection old.down behind old t (at_line after.connection after.pool) tt stands is.waits is.unnamed is.stored in
+        let after : ConnectionAndPool = record { pool = old.host.pool; connection = record line { service = Service.Open to conn } } in
+        let represents = represents_with number (with_connection_and_pool number after old.host) after.connection old.down behind old t (at_line after.connection after.pool) tt stands is.waits is.unnamed is.stored in
         record {
-          goes = goes_as app Good number (fed_by number after behind old) (fed_by number counter behind old) t (ap (λ (c : Counter). fed_by number c behind old) is_counter)
+          goes = goes_as app Good number (fed_by number after behind old) (fed_by number counter behind old) t (ap (λ (c : ConnectionAndPool). fed_by number c behind old) is_counter)
               (stays app Good number (fed_by number after behind old) t good represents);
           ups = All-nil IsUp;
-          pool = subst (λ (c : Counter). IsSoundPool c.pool) (sym is_counter) served.pool;
+          pool = subst (λ (c : ConnectionAndPool). IsSoundPool c.pool) (sym is_counter) served.pool;
         }
 
     module _ (message : ToHost) (others : List ToHost) (e : link.up ≡ message ∷ others) where
       abbrev step : HostStep
       step = host_took (answer_to old.host.pool) link.host message
 
-      abbrev now : Told
+      abbrev now : ReportedLink
       now = moved app (Move.Up old.host.pool) t
 
       closes : step.closes ≡ None
@@ -212,45 +212,45 @@ module _ (laws : HearsLaws) (app : Application) (Good : Told → Type 0) (kept :
       may_now : MayComeAll link.term (sent link.lost link.down step.sends)
       may_now = subst (λ (l : Link). MayComeAll l.term l.down) link_now (kept.ready now good_now).may
 
-      step_is : (item : WireItem) (done : HostStep) (rest : Rest) (conn : Conn) → line.service ≡ Service.Open rest conn → IsReadAs item message → TakesItem (answer_to old.host.pool) conn item done → done ≡ step
+      step_is : (item : WireItem) (done : HostStep) (rest : Rest) (conn : Session) → line.service ≡ Service.Open rest conn → IsReadAs item message → TakesItem (answer_to old.host.pool) conn item done → done ≡ step
       step_is item done rest conn held read taken =
           let same : conn ≡ link.host = sym (ap conn_of held) ∙ conn_is in
           host_reads laws.one_header laws.fault_or_header laws.one_inbound (answer_to old.host.pool) conn item message done read
-          (subst (λ (c : Conn). MayComeUp c message) (sym same) ((kept.ready t good).comes_up message others e)) taken
-          ∙ ap (λ (c : Conn). host_took (answer_to old.host.pool) c message) same
+          (subst (λ (c : Session). MayComeUp c message) (sym same) ((kept.ready t good).comes_up message others e)) taken
+          ∙ ap (λ (c : Session). host_took (answer_to old.host.pool) c message) same
 
-      hears_one : (item : WireItem) (done : HostStep) (byte : ℕ) (behind : List ℕ) (counter : Counter) (rest to : Rest) (conn : Conn) → line.service ≡ Service.Open rest conn
+      hears_one : (item : WireItem) (done : HostStep) (byte : ℕ) (behind : List ℕ) (counter : ConnectionAndPool) (rest to : Rest) (conn : Session) → line.service ≡ Service.Open rest conn
           → IsReadAs item message → TakesItem (answer_to old.host.pool) conn item done
-          → LinkStandsBy without_commands IsReadAs (record (link_over number old) { host_rest = to; up = behind }) (record link { up = others })
-          → counter ≡ stepped number to done (counter_at number old.host) → Fed app Good number counter behind old t
+          → LinkRepresentsBy without_commands IsReadAs (record (link_over number old) { host_rest = to; up = behind }) (record link { up = others })
+          → counter ≡ stepped number to done (connection_and_pool_at number old.host) → Fed app Good number counter behind old t
       hears_one item done byte behind counter rest to conn held read taken stood is_counter =
           let just = just_talks (answer_to old.host.pool) link.host message in
           let more : List ℕ = sent_bytes (map item_sent step.sends) in
-          let after : Counter = stepped number to step (counter_at number old.host) in
-          let counter_is : counter ≡ after = is_counter ∙ ap (λ (s : HostStep). stepped number to s (counter_at number old.host)) (step_is item done rest conn held read taken) in
+          let after : ConnectionAndPool = stepped number to step (connection_and_pool_at number old.host) in
+          let counter_is : counter ≡ after = is_counter ∙ ap (λ (s : HostStep). stepped number to s (connection_and_pool_at number old.host)) (step_is item done rest conn held read taken) in
           let going : service_after to step.conn step.closes ≡ Service.Open to step.conn = ap (service_after to step.conn) closes in
           let said = sends_stand laws.sends (record (link_over number old) { host_rest = to; up = behind }) (record link { up = others }) step.conn step.sends just.talk just.says stood may_now in
           let line_now : Connection = record after.connection { service = Service.Open to step.conn } in
           let line_is : after.connection ≡ line_now = ap (λ (s : Service). record after.connection { service = s }) going in
-          let stands : LinkStandsBy without_commands IsReadAs (link_by line_now old.down behind old.tracked) (link_behind step others link) =
-          subst (λ (d : List ℕ). LinkStandsBy without_commands IsReadAs (record (link_by line_now old.down behind old.tracked) { down = d }) (link_behind step others link)) (append_assoc old.down line.out more)
-          (subst (λ (h : Bool). LinkStandsBy without_commands IsReadAs (record (link_by line_now old.down behind old.tracked) { down = (old.down ++ line.out) ++ more; host_here = h }) (link_behind step others link))
+          let stands : LinkRepresentsBy without_commands IsReadAs (link_by line_now old.down behind old.tracked) (link_behind step others link) =
+          subst (λ (d : List ℕ). LinkRepresentsBy without_commands IsReadAs (record (link_by line_now old.down behind old.tracked) { down = d }) (link_behind step others link)) (append_assoc old.down line.out more)
+          (subst (λ (h : Bool). LinkRepresentsBy without_commands IsReadAs (record (link_by line_now old.down behind old.tracked) { down = (old.down ++ line.out) ++ more; host_here = h }) (link_behind step others link))
           (here_if line.service is.is_open) said) in
           let back = sym link_now in
-          let represents = represents_with number (with_counter number after old.host) line_now old.down behind old now (at_line after.connection after.pool ∙ line_is) tt
-          (subst (λ (l : Link). LinkStandsBy without_commands IsReadAs (link_by line_now old.down behind old.tracked) l) back stands)
+          let represents = represents_with number (with_connection_and_pool number after old.host) line_now old.down behind old now (at_line after.connection after.pool ∙ line_is) tt
+          (subst (λ (l : Link). LinkRepresentsBy without_commands IsReadAs (link_by line_now old.down behind old.tracked) l) back stands)
           (is.waits ∙ sym waits_now) (ap (λ (l : Link). l.term.waits) link_now ∙ is.unnamed)
-          (subst (λ (l : Link). CanBeSent l.term.display.shape l.term.display.screen) back is.stored) in
+          (subst (λ (l : Link). CanBeSent l.term.display.size l.term.display.screen) back is.stored) in
           let sound : IsSoundPool after.pool =
           subst (λ (c : Option Cause). IsSoundPool (freed_if number c (granted_if number step.grants old.host.pool))) (sym closes) (still_sound laws.granted number step.grants old.host.pool served.pool) in
           record {
-            goes = goes_as app Good number (fed_by number after behind old) (fed_by number counter behind old) t (ap (λ (c : Counter). fed_by number c behind old) counter_is)
+            goes = goes_as app Good number (fed_by number after behind old) (fed_by number counter behind old) t (ap (λ (c : ConnectionAndPool). fed_by number c behind old) counter_is)
                 (moves_once app Good kept number (fed_by number after behind old) t (Move.Up old.host.pool) good served.pool tt represents);
             ups = All-cons IsUp (Move.Up old.host.pool) [] tt (All-nil IsUp);
-            pool = subst (λ (c : Counter). IsSoundPool c.pool) (sym counter_is) sound;
+            pool = subst (λ (c : ConnectionAndPool). IsSoundPool c.pool) (sym counter_is) sound;
           }
 
-    hears_byte : (byte : ℕ) (behind : List ℕ) (counter : Counter) → old.up ≡ byte ∷ behind → TakesByte number (counter_at number old.host) byte counter → Fed app Good number counter behind old t
+    hears_byte : (byte : ℕ) (behind : List ℕ) (counter : ConnectionAndPool) → old.up ≡ byte ∷ behind → TakesByte number (connection_and_pool_at number old.host) byte counter → Fed app Good number counter behind old t
     hears_byte byte behind counter queue (TakesByte.goes_on rest to conn held delivers is_counter) = hears_nothing byte behind counter rest to conn [] refl queue held delivers is_counter
     hears_byte byte behind counter queue (TakesByte.completes rest to conn item done held delivers taken is_counter) = by_test (is_bare_command item) refl
       where
@@ -261,8 +261,8 @@ module _ (laws : HearsLaws) (app : Application) (Good : Told → Type 0) (kept :
             hears_one first.message first.others first.whole item done byte behind counter rest to conn held first.is taken first.stands is_counter
         by_test true bare =
             let same : conn ≡ link.host = sym (ap conn_of held) ∙ conn_is in
-            let agreed = ap (λ (c : Conn). is_agreed c.talk.state) same ∙ (kept.ready t good).agreed in
-            let quietly = is_counter ∙ ap (λ (step : HostStep). stepped number to step (counter_at number old.host)) (command_is_nothing (answer_to old.host.pool) conn item done bare agreed taken) in
+            let agreed = ap (λ (c : Session). is_agreed c.talk.state) same ∙ (kept.ready t good).agreed in
+            let quietly = is_counter ∙ ap (λ (step : HostStep). stepped number to step (connection_and_pool_at number old.host)) (command_is_nothing (answer_to old.host.pool) conn item done bare agreed taken) in
             let nothing_out = ap (λ (out : List ℕ). record { pool = old.host.pool; connection = record line { service = Service.Open to conn; out = out } }) (append-nil line.out) in
             let nothing_new = ap (λ (reports : Reports). record { pool = old.host.pool; connection = record { service = Service.Open to conn; out = line.out ++ []; reports = reports } })
             (not_bound_anew line.service rest conn line.reports held) in
@@ -273,29 +273,29 @@ module _ (laws : HearsLaws) (app : Application) (Good : Told → Type 0) (kept :
 
   -- ---- bytes, one after another
 
-  pub hears_bytes : (front behind : List ℕ) (old : OverBytes) (t : Told) (counter : Counter) → Good t → Represents number old t → IsServed number old.host → old.up ≡ front ++ behind
-      → TakesBytes number (counter_at number old.host) front counter → Fed app Good number counter behind old t
+  pub hears_bytes : (front behind : List ℕ) (old : OverBytes) (t : ReportedLink) (counter : ConnectionAndPool) → Good t → Represents number old t → IsServed number old.host → old.up ≡ front ++ behind
+      → TakesBytes number (connection_and_pool_at number old.host) front counter → Fed app Good number counter behind old t
   hears_bytes [] behind old t counter good is served queue same =
-      let as_it_was : with_counter number (counter_at number old.host) old.host ≡ old.host = ap (λ connections. record old.host { connections = connections }) (set-get_or old.host.connections number unused) in
-      let stays_so : fed_by number (counter_at number old.host) behind old ≡ old =
+      let as_it_was : with_connection_and_pool number (connection_and_pool_at number old.host) old.host ≡ old.host = ap (λ connections. record old.host { connections = connections }) (set-get_or old.host.connections number unused) in
+      let stays_so : fed_by number (connection_and_pool_at number old.host) behind old ≡ old =
       ap (λ (h : Host). record old { host = h; up = behind }) as_it_was ∙ ap (λ (up : List ℕ). record old { up = up }) (sym queue) in
       record {
         goes = stays app Good number (fed_by number counter behind old) t good
-            (subst (λ (c : Counter). Represents number (fed_by number c behind old) t) (sym same) (subst (λ (b : OverBytes). Represents number b t) (sym stays_so) is));
+            (subst (λ (c : ConnectionAndPool). Represents number (fed_by number c behind old) t) (sym same) (subst (λ (b : OverBytes). Represents number b t) (sym stays_so) is));
         ups = All-nil IsUp;
-        pool = subst (λ (c : Counter). IsSoundPool c.pool) (sym same) served.pool;
+        pool = subst (λ (c : ConnectionAndPool). IsSoundPool c.pool) (sym same) served.pool;
       }
   hears_bytes (byte ∷ front) behind old t counter good is served queue taken =
-      let mid : Counter = taken.0 in
+      let mid : ConnectionAndPool = taken.0 in
       let one = hears_byte old t good is served byte (front ++ behind) mid queue taken.1 in
-      let host : Host = with_counter number mid old.host in
-      let at_mid : counter_at number host ≡ mid = ap (λ (c : Connection). record { pool = mid.pool; connection = c }) (connection_same number mid.connection (record old.host { pool = mid.pool }) served.below) in
+      let host : Host = with_connection_and_pool number mid old.host in
+      let at_mid : connection_and_pool_at number host ≡ mid = ap (λ (c : Connection). record { pool = mid.pool; connection = c }) (connection_same number mid.connection (record old.host { pool = mid.pool }) served.below) in
       let below : number < length host.connections = subst (λ (n : ℕ). number < n) (sym (length-set old.host.connections number mid.connection)) served.below in
       let next : OverBytes = fed_by number mid (front ++ behind) old in
-      let t_mid : Told = after_moves app one.goes.moves t in
+      let t_mid : ReportedLink = after_moves app one.goes.moves t in
       let more = hears_bytes front behind next t_mid counter one.goes.good one.goes.represents (record { below = below; pool = one.pool }) refl
-      (subst (λ (c : Counter). TakesBytes number c front counter) (sym at_mid) taken.2) in
-      let once : with_counter number counter host ≡ with_counter number counter old.host =
+      (subst (λ (c : ConnectionAndPool). TakesBytes number c front counter) (sym at_mid) taken.2) in
+      let once : with_connection_and_pool number counter host ≡ with_connection_and_pool number counter old.host =
       ap (λ connections. record old.host { pool = counter.pool; connections = connections }) (set-set old.host.connections number mid.connection counter.connection) in
       let last : OverBytes = fed_by number counter behind old in
       let goes = goes_as app Good number (fed_by number counter behind next) last t_mid (ap (λ (h : Host). record old { host = h; up = behind }) (sym once)) more.goes in
@@ -307,7 +307,7 @@ module _ (laws : HearsLaws) (app : Application) (Good : Told → Type 0) (kept :
 
   -- ---- the host sends
 
-  module _ (old : OverBytes) (t : Told) (good : Good t) (is : Represents number old t) (served : IsServed number old.host) where
+  module _ (old : OverBytes) (t : ReportedLink) (good : Good t) (is : Represents number old t) (served : IsServed number old.host) where
     pub conn_there : conn_of (service_at number old.host) ≡ t.link.host
     conn_there = conn_is old t good is served
 
@@ -317,7 +317,7 @@ module _ (laws : HearsLaws) (app : Application) (Good : Told → Type 0) (kept :
     same_line connection down same is_open = record {
       goes = stays app Good number (record old { host = with_connection number connection old.host; down = down }) t good
           (represents_with number (with_connection number connection old.host) connection down old.up old t (at_line old t good is served connection old.host.pool) is_open
-          (subst (λ (b : ByteLink). LinkStandsBy without_commands IsReadAs b t.link) (sym same) is.stands) is.waits is.unnamed is.stored);
+          (subst (λ (b : ByteLink). LinkRepresentsBy without_commands IsReadAs b t.link) (sym same) is.stands) is.waits is.unnamed is.stored);
       are = refl;
     }
 
@@ -326,7 +326,7 @@ module _ (laws : HearsLaws) (app : Application) (Good : Told → Type 0) (kept :
     unchanged connection same =
         same_line connection old.down (ap (λ (c : Connection). link_by c old.down old.up old.tracked) same) (subst (λ (c : Connection). IsOpen c.service) (sym same) is.is_open)
 
-    open_still : (conn : Conn) (service : Service) → IsOpen service → IsOpen (with_conn conn service)
+    open_still : (conn : Session) (service : Service) → IsOpen service → IsOpen (with_conn conn service)
     open_still conn Service.Free is = is
     open_still conn (Service.Open rest old) is = tt
     open_still conn (Service.Closed cause) is = is
@@ -341,18 +341,18 @@ module _ (laws : HearsLaws) (app : Application) (Good : Told → Type 0) (kept :
     sent_link sending (Service.Closed cause) out is = absurd is
 
     -- a message is sent, which is spelt
-    pub sends_goes : (move : Move) (sending : Sent) → moved app move t ≡ record t { link = host_sent (Some sending) t.link } → IsByTheRules move t → IsTypedMove move → Spells sending.message
+    pub sends_goes : (move : Move) (sending : Sent) → moved app move t ≡ record t { link = host_sent (Some sending) t.link } → IsByTheRules move t → IsWellFormedMove move → Spells sending.message
         → GoesBy app Good number (on_connection number (sent_on sending (connection_at number old.host)) old) t (move ∷ [])
     sends_goes move sending goes rules typed spelt =
         let connection : Connection = sent_on sending (connection_at number old.host) in
         let link : Link = host_sent (Some sending) t.link in
         let said = laws.sends (link_over number old) t.link sending.conn (item_sent sending.message ∷ []) (sending.message ∷ []) is.stands (spelt.comes, tt) (spelt.stands, tt) in
-        let stands : LinkStandsBy without_commands IsReadAs (link_by connection old.down old.up old.tracked) link =
-        subst (λ (b : ByteLink). LinkStandsBy without_commands IsReadAs b link) (sent_link sending (service_at number old.host) (connection_at number old.host).out is.is_open) said in
-        let now : Told = record t { link = link } in
+        let stands : LinkRepresentsBy without_commands IsReadAs (link_by connection old.down old.up old.tracked) link =
+        subst (λ (b : ByteLink). LinkRepresentsBy without_commands IsReadAs b link) (sent_link sending (service_at number old.host) (connection_at number old.host).out is.is_open) said in
+        let now : ReportedLink = record t { link = link } in
         record {
           goes = moves_once app Good kept number (on_connection number connection old) t move good rules typed
-              (subst (λ (u : Told). Represents number (on_connection number connection old) u) (sym goes)
+              (subst (λ (u : ReportedLink). Represents number (on_connection number connection old) u) (sym goes)
               (represents_with number (with_connection number connection old.host) connection old.down old.up old now (at_line old t good is served connection old.host.pool)
               (open_still sending.conn (service_at number old.host) is.is_open) stands is.waits is.unnamed is.stored));
           are = refl;
@@ -360,7 +360,7 @@ module _ (laws : HearsLaws) (app : Application) (Good : Told → Type 0) (kept :
 
     -- it is done, or memory is refused
     pub does_goes : (move : Move) (what : Option Sent) (did : Acted) (connection : Connection) → moved app move t ≡ record t { link = host_sent what t.link }
-        → IsByTheRules move t → IsTypedMove move → IfSome what (λ sending. Spells sending.message) → IsDone what (connection_at number old.host) did connection
+        → IsByTheRules move t → IsWellFormedMove move → IfSome what (λ sending. Spells sending.message) → IsDone what (connection_at number old.host) did connection
         → GoesBy app Good number (on_connection number connection old) t (if_sent did move)
     does_goes move None did connection goes rules typed spelt done =
         let none = unchanged connection done.1 in
@@ -396,7 +396,7 @@ module _ (laws : HearsLaws) (app : Application) (Good : Told → Type 0) (kept :
             record {
               goes = stays app Good number (on_connection number (with_nop line) old) t good
                   (represents_with number (with_connection number (with_nop line) old.host) (with_nop line) old.down old.up old t (at_line old t good is served (with_nop line) old.host.pool) is.is_open
-                  (subst (λ (d : List ℕ). LinkStandsBy without_commands IsReadAs (record (link_over number old) { down = d }) t.link) (append_assoc old.down line.out nop) (laws.nop (link_over number old) t.link is.stands))
+                  (subst (λ (d : List ℕ). LinkRepresentsBy without_commands IsReadAs (record (link_over number old) { down = d }) t.link) (append_assoc old.down line.out nop) (laws.nop (link_over number old) t.link is.stands))
                   is.waits is.unnamed is.stored);
               are = refl;
             }

@@ -19,24 +19,24 @@ use Rattle.host_core.specs.Acts.{wanted_by, when_shown, Act, Decision, Sent, dec
 use Rattle.host_core.specs.Application.{Application, IsApplication, IsShowable, message_place}
 use Rattle.host_core.specs.NoteLaws.{HasMessageRow, IsProtectedRow}
 use Rattle.host_core.specs.Messages.{ToHost, Verdict, ToTerminal}
-use Rattle.host_core.specs.Session.{Conn, Pending, is_agreed}
+use Rattle.host_core.specs.Session.{Session, Pending, is_agreed}
 use Rattle.host_core.specs.declared.turn.Turn.{Turn}
 use Rattle.host_core.specs.declared.turn.Turn.TheVariants as whose
 use Rattle.host_core.specs.Takes.{form_awaited, Answers, HostStep, took as host_took}
 use Rattle.host_core.specs.declared.turn_reason.TurnReason.TheVariants as turn_reasons
-use Rattle.world3270.specs.AsLeft.{ProtectedIsAsLeft, attribute_at}
-use Rattle.world3270.specs.Given.{Given}
+use Rattle.world3270.specs.statement.AsLeft.{ProtectedIsAsLeft, attribute_at}
+use Rattle.world3270.specs.refinement.LowerLaws.{LowerLaws}
 use Rattle.tn3270e_msg.specs.Talk.{Saying}
-use Rattle.world3270.specs.Link.{Link, sent, host_left_if, host_sent, term_left_if, term_stepped}
-use Rattle.world3270.specs.Readings.{HasNoLead}
-use Rattle.world3270.specs.Moments.{IsAt, Kind, Moment, Serving, awaiting, pending_at, up_at}
-use Rattle.world3270.specs.Showing.{ShowsItsPanel}
-use Rattle.world3270.specs.Stages.{Fact, Kept, ShownAt, scene_of}
-use Rattle.world3270.specs.View.{view_of}
+use Rattle.world3270.specs.model.Link.{Link, sent, host_left_if, host_sent, term_left_if, term_stepped}
+use Rattle.world3270.specs.refinement.Readings.{HasNoLead}
+use Rattle.world3270.specs.refinement.Phases.{IsAt, Kind, LinkPhase, Serving, awaiting, pending_at, up_at}
+use Rattle.world3270.specs.statement.Showing.{ShowsItsPanel}
+use Rattle.world3270.specs.refinement.Invariant.{Fact, Kept, ShownAt, local_state_of}
+use Rattle.world3270.specs.refinement.View.{view_of}
 use Rattle.world3270.proofs.SecondKeys.{Extras, pending_after}
 use Rattle.codes3270.specs.Size.{Shape}
 use Rattle.codes3270.specs.declared.attention.Aid.{Aid}
-use Rattle.datastream.specs.Held.{Held, hold_under}
+use Rattle.datastream.specs.KeptByKeys.{KeptByKeys, hold_under}
 use Rattle.datastream.specs.HeldLaws.{HeldIsRound}
 use Rattle.datastream.specs.Inbound.{without_nulls}
 use Rattle.datastream.specs.InboundFields.{Returned, buffer_data, lead_of, modified_data, parts_of_fields, returned_of}
@@ -52,21 +52,21 @@ use Rattle.shadow.proofs.HeardOthers.{no_field}
 use Rattle.tn3270e_msg.specs.declared.cause.Cause.{Cause}
 use Rattle.host_core.specs.Notes.{noted_as, may_note, noted}
 use Rattle.host_core.specs.Questions.{act_by, answered_on, has_its_panel, is_asking}
-use Rattle.host_core.specs.declared.question.Answer.{Answer as Said}
+use Rattle.host_core.specs.declared.question.Answer.{Answer as ApplicationAnswer}
 use Rattle.host_core.specs.declared.turn_reason.TurnReason.{TurnReason}
-use Rattle.world3270.specs.EveryTerminal.{Told, came_up, key_pressed, operated, told_if, IsByTheRules, Move, came_down, moved}
-use Rattle.world3270.specs.Placed.{is_queued}
-use Rattle.world3270.specs.Rules.{Operates, after_sending, data_by, edited, shows, with_aid}
-use Rattle.world3270.specs.StandsLinks.{HasTheSizes, NoneCloses}
-use Rattle.world3270.specs.Terminal.{Display, TermEnd, TermStep, data_of, is_bound, note_came, once_bound, paint_came, painted, read_came, talked, took}
+use Rattle.world3270.specs.statement.EveryTerminal.{ReportedLink, came_up, key_pressed, operated, told_if, IsByTheRules, Move, came_down, moved}
+use Rattle.world3270.specs.model.Enabled.{is_queued}
+use Rattle.world3270.specs.statement.Rules.{Operates, after_sending, data_by, edited, shows, with_aid}
+use Rattle.world3270.specs.refinement.RepresentsLinks.{HasTheSizes, NoneCloses}
+use Rattle.world3270.specs.model.Terminal.{Display, TermEnd, TermStep, data_of, is_bound, note_came, once_bound, paint_came, painted, read_came, talked, took}
 use Rattle.world3270.proofs.HostSteps.{just_talks, JustTalks}
 use Rattle.world3270.proofs.ReadsInput.{still_unformatted}
 use Rattle.world3270.proofs.AnyReady.{all_may_now, hears_now, same_now}
-use Rattle.world3270.proofs.AnyTerminal.{IsTypedMove, came_one}
+use Rattle.world3270.proofs.AnyTerminal.{IsWellFormedMove, came_one}
 use Rattle.lu_pool.specs.HolderLaws.{IsSound}
 use Rattle.world3270.proofs.AnyEvery.{AnyLaws}
 use Rattle.world3270.proofs.AnyQueue.{LeadsAreKept, leads_suffice}
-use Rattle.world3270.specs.EveryTerminalBytes.{EveryTerminalOverBytes}
+use Rattle.world3270.specs.statement.EveryTerminalBytes.{EveryTerminalOverBytes}
 use Rattle.world3270.proofs.Simulation.{Simulated}
 use Rattle.world3270.proofs.StillKept.{Alike, walked}
 
@@ -87,7 +87,7 @@ row_there (cell ∷ cells) (suc place) row none = row_there cells place row none
 
 -- ---- a panel has a message row
 
-wanted_showable : (app : Application) → IsApplication app → (conn : Conn) (panel : ℕ) (message : Message) (keep : Bool) (values : Values)
+wanted_showable : (app : Application) → IsApplication app → (conn : Session) (panel : ℕ) (message : Message) (keep : Bool) (values : Values)
     → let wanted = wanted_by app conn panel message keep values in IsShowable wanted.size wanted
 wanted_showable app is conn panel message false values = is.showable panel values message false
 wanted_showable app is conn panel message true values = by_fit (fits conn.shadow (app.screen panel values message true))
@@ -96,10 +96,10 @@ wanted_showable app is conn panel message true values = by_fit (fits conn.shadow
     by_fit true = is.showable panel values message true
     by_fit false = is.showable panel values message false
 
-panel_has_fields : Given → (app : Application) → IsApplication app → (waits : Bool) (host : Conn) (before left : Screen) (now : List Cell) (row : ℕ) → ShowsItsPanel app waits host before left → ProtectedIsAsLeft row left.cells now
+panel_has_fields : LowerLaws → (app : Application) → IsApplication app → (waits : Bool) (host : Session) (before left : Screen) (now : List Cell) (row : ℕ) → ShowsItsPanel app waits host before left → ProtectedIsAsLeft row left.cells now
     → fields now ≡ [] → ⊥
 panel_has_fields given app is waits host before left now row p as_left none =
-    let conn : Conn = when_shown p.wanted_for.conn in
+    let conn : Session = when_shown p.wanted_for.conn in
     let showable : IsShowable p.wanted.size p.wanted =
     subst (λ wanted. IsShowable wanted.size wanted) (sym p.wanted_for.wanted_is) (wanted_showable app is conn host.panel host.message p.wanted_for.keep host.values) in
     let place : ℕ = message_place p.wanted.size in
@@ -115,19 +115,19 @@ no_read Kind.APaint number command e = modified_only e
 no_read Kind.ANote number command e = modified_only e
 
 -- So there are fields while a read is pending, which none is at agreement.
-pub has_fields : Given → (app : Application) → IsApplication app → (link : Link) → Kept app (view_of link) → (link.host.turn_reason ≡ turn_reasons.Agreement → ⊥) → form_awaited link.host.pending ≡ Buffer
+pub has_fields : LowerLaws → (app : Application) → IsApplication app → (link : Link) → Kept app (view_of link) → (link.host.turn_reason ≡ turn_reasons.Agreement → ⊥) → form_awaited link.host.pending ≡ Buffer
     → fields link.term.display.screen.cells ≡ [] → ⊥
 has_fields given app is link k asked reads none = by_moment k.moment k.at k.fact k.shown
   where
-    reads_at : (moment : Moment) → IsAt (view_of link) k.wanted moment → form_awaited (pending_at moment) ≡ Buffer
+    reads_at : (moment : LinkPhase) → IsAt (view_of link) k.wanted moment → form_awaited (pending_at moment) ≡ Buffer
     reads_at moment at = sym (ap form_awaited at.pending) ∙ reads
 
     here : (link.term.display.screen.aid ≡ Clear → ⊥) → ShowsItsPanel app link.term.waits link.host link.term.display.before_restored link.term.display.last_restored → ⊥
-    here not_cleared shows = panel_has_fields given app is link.term.waits link.host link.term.display.before_restored link.term.display.last_restored link.term.display.screen.cells (message_place link.term.display.shape) shows
+    here not_cleared shows = panel_has_fields given app is link.term.waits link.host link.term.display.before_restored link.term.display.last_restored link.term.display.screen.cells (message_place link.term.display.size) shows
         (k.as_left not_cleared) none
 
-    by_serving : (lu : List ℕ) (serving : Serving) → form_awaited (pending_at (Moment.Serves lu serving)) ≡ Buffer → Fact k.wanted (scene_of (view_of link)) (Moment.Serves lu serving)
-        → ShownAt app link.term.waits link.host link.term.display.before_restored link.term.display.last_restored link.term.display.screen (Moment.Serves lu serving) → ⊥
+    by_serving : (lu : List ℕ) (serving : Serving) → form_awaited (pending_at (LinkPhase.Serves lu serving)) ≡ Buffer → Fact k.wanted (local_state_of (view_of link)) (LinkPhase.Serves lu serving)
+        → ShownAt app link.term.waits link.host link.term.display.before_restored link.term.display.last_restored link.term.display.screen (LinkPhase.Serves lu serving) → ⊥
     by_serving lu (Serving.Reading number) reads f shown = here f.not_cleared (shown asked)
     by_serving lu (Serving.Reported number parts) reads f shown = here f.not_cleared (shown asked)
     by_serving lu Serving.Deciding reads f shown = modified_only reads
@@ -142,11 +142,11 @@ has_fields given app is link k asked reads none = by_moment k.moment k.at k.fact
     by_serving lu (Serving.KeyNoted number command parts) reads f shown = modified_only reads
     by_serving lu (Serving.KeyBefore number command parts) reads f shown = modified_only reads
 
-    by_moment : (moment : Moment) → IsAt (view_of link) k.wanted moment → Fact k.wanted (scene_of (view_of link)) moment
+    by_moment : (moment : LinkPhase) → IsAt (view_of link) k.wanted moment → Fact k.wanted (local_state_of (view_of link)) moment
         → ShownAt app link.term.waits link.host link.term.display.before_restored link.term.display.last_restored link.term.display.screen moment → ⊥
-    by_moment (Moment.Talks talking) at f shown = modified_only (reads_at (Moment.Talks talking) at)
-    by_moment (Moment.Begins lu number command wanted over) at f shown = modified_only (reads_at (Moment.Begins lu number command wanted over) at)
-    by_moment (Moment.Serves lu serving) at f shown = by_serving lu serving (reads_at (Moment.Serves lu serving) at) f shown
+    by_moment (LinkPhase.Talks talking) at f shown = modified_only (reads_at (LinkPhase.Talks talking) at)
+    by_moment (LinkPhase.Begins lu number command wanted over) at f shown = modified_only (reads_at (LinkPhase.Begins lu number command wanted over) at)
+    by_moment (LinkPhase.Serves lu serving) at f shown = by_serving lu serving (reads_at (LinkPhase.Serves lu serving) at) f shown
 
 -- ---- what is queued
 
@@ -232,10 +232,10 @@ extras_respond turn pending told (ToHost.Response number verdict ∷ real) (inr 
 
 -- ---- a read is asked for after a key
 
-abbrev pub IsAsked : Conn → Type 0
+abbrev pub IsAsked : Session → Type 0
 IsAsked conn = form_awaited conn.pending ≡ Buffer → conn.turn_reason ≡ turn_reasons.Agreement → ⊥
 
-hears_asked : (pool : Answers) (conn : Conn) (message : ToHost) → IsAsked conn → IsAsked (host_took pool conn message).conn
+hears_asked : (pool : Answers) (conn : Session) (message : ToHost) → IsAsked conn → IsAsked (host_took pool conn message).conn
 hears_asked pool conn message asked reads = by_reason just.reason (by_pending just.pending)
   where
     just : JustTalks conn (host_took pool conn message)
@@ -251,11 +251,11 @@ hears_asked pool conn message asked reads = by_reason just.reason (by_pending ju
     by_reason (inr never) was e = never e
 
 -- an act that shows a panel writes; and at agreement the host shows one
-done_asked : (app : Application) (conn : Conn) (act : Act) → (act ≡ Act.Read → conn.turn_reason ≡ turn_reasons.Agreement → ⊥) → IsAsked (done app conn act).conn
+done_asked : (app : Application) (conn : Session) (act : Act) → (act ≡ Act.Read → conn.turn_reason ≡ turn_reasons.Agreement → ⊥) → IsAsked (done app conn act).conn
 done_asked app conn Act.Read read reads = read refl
 done_asked app conn (Act.Show panel message keep values) read reads = λ e. modified_only reads
 
-decided_asked : (app : Application) (conn : Conn) (b : Bool) (reason : TurnReason) → conn.turn_reason ≡ reason → IfSome (option_and_then (decided app conn) (if b then Some (decision_on app conn reason) else None)) (λ sending. IsAsked sending.conn)
+decided_asked : (app : Application) (conn : Session) (b : Bool) (reason : TurnReason) → conn.turn_reason ≡ reason → IfSome (option_and_then (decided app conn) (if b then Some (decision_on app conn reason) else None)) (λ sending. IsAsked sending.conn)
 decided_asked app conn false reason is = tt
 decided_asked app conn true turn_reasons.Agreement is = λ reads e. modified_only reads
 decided_asked app conn true turn_reasons.Refusal is = λ reads e. modified_only reads
@@ -265,30 +265,30 @@ decided_asked app conn true (turn_reasons.Key aid buffered) is = by_decision (de
     by_decision (Decision.Do act) = done_asked app conn act (λ read e. let both = sym is ∙ e in absurd (cc))
     by_decision Decision.Asks = tt
 
-answered_asked : (app : Application) (conn : Conn) (said : Said) (b : Bool) (panel : Option ℕ) → IfSome (if b then Some (done app conn (act_by app conn said panel)) else None) (λ sending. IsAsked sending.conn)
+answered_asked : (app : Application) (conn : Session) (said : ApplicationAnswer) (b : Bool) (panel : Option ℕ) → IfSome (if b then Some (done app conn (act_by app conn said panel)) else None) (λ sending. IsAsked sending.conn)
 answered_asked app conn said false panel = tt
 answered_asked app conn said true None = λ reads e. modified_only reads
 answered_asked app conn said true (Some panel) = λ reads e. modified_only reads
 
-noted_asked : (text : List ℕ) (conn : Conn) (b : Bool) → IfSome (if b then Some (noted_as text conn) else None) (λ sending. IsAsked sending.conn)
+noted_asked : (text : List ℕ) (conn : Session) (b : Bool) → IfSome (if b then Some (noted_as text conn) else None) (λ sending. IsAsked sending.conn)
 noted_asked text conn false = tt
 noted_asked text conn true = λ reads e. modified_only reads
 
 -- ---- what holds
 
-pub record Leads (t : Told) : Type 0 where
+pub record Leads (t : ReportedLink) : Type 0 where
   pub asked : IsAsked t.link.host
   pub queue : AreLeads (fields t.told.screen.cells ≡ []) t.link.up
 
-sent_leads : (what : Option Sent) (t : Told) → Leads t → IfSome what (λ sending. IsAsked sending.conn) → Leads (record t { link = host_sent what t.link })
+sent_leads : (what : Option Sent) (t : ReportedLink) → Leads t → IfSome what (λ sending. IsAsked sending.conn) → Leads (record t { link = host_sent what t.link })
 sent_leads None t l asked = l
 sent_leads (Some sending) t l asked = record { asked = asked; queue = l.queue }
 
-host_left : (cause : Option Cause) (link : Link) (t : Told) → Leads (record t { link = link }) → Leads (record t { link = host_left_if cause link })
+host_left : (cause : Option Cause) (link : Link) (t : ReportedLink) → Leads (record t { link = link }) → Leads (record t { link = host_left_if cause link })
 host_left None link t l = l
 host_left (Some cause) link t l = record { asked = l.asked; queue = l.queue }
 
-up_leads : (t : Told) → Leads t → (pool : List Entry) (up : List ToHost) → t.link.up ≡ up → Leads (came_up pool up t)
+up_leads : (t : ReportedLink) → Leads t → (pool : List Entry) (up : List ToHost) → t.link.up ≡ up → Leads (came_up pool up t)
 up_leads t l pool [] e = l
 up_leads t l pool (message ∷ rest) e =
     let step : HostStep = host_took (answer_to pool) t.link.host message in
@@ -334,7 +334,7 @@ bare_back more (Attr left ∷ lefts) (Char now ∷ nows) alike bare = absurd ali
 bare_back more (Attr left ∷ lefts) (Attr now ∷ nows) alike bare = absurd (cc)
 
 -- one that input left so was so
-once_unformatted : HeldIsRound → (erased : Bool) (left now : List Cell) → Held erased left now → fields now ≡ [] → fields left ≡ []
+once_unformatted : HeldIsRound → (erased : Bool) (left now : List Cell) → KeptByKeys erased left now → fields now ≡ [] → fields left ≡ []
 once_unformatted round erased left now held none =
     none_listed left 0 left (bare_back erased left now (walked erased (hold_under erased (last_attribute now)) left now ((round erased left now).0 held)) (no_attribute now 0 now none))
 
@@ -352,27 +352,27 @@ same_but_clear Enter screen unclear = refl
 same_but_clear (Pf key) screen unclear = refl
 same_but_clear (Pa key) screen unclear = refl
 
-operated_leads : (waits : Bool) (step : TermStep) (t : Told) → step.closes ≡ None → IsAsked t.link.host → AreLeads (fields (if waits then t.told else step.end.display).screen.cells ≡ []) (sent t.link.lost t.link.up step.sends)
+operated_leads : (waits : Bool) (step : TermStep) (t : ReportedLink) → step.closes ≡ None → IsAsked t.link.host → AreLeads (fields (if waits then t.told else step.end.display).screen.cells ≡ []) (sent t.link.lost t.link.up step.sends)
     → Leads (record { link = term_stepped step t.link.down t.link; told = if waits then t.told else step.end.display; waits = t.waits || is_queued step.sends })
 operated_leads waits step t closes asked queue =
     let stays : Link = record t.link { term = step.end; up = sent t.link.lost t.link.up step.sends } in
     let told : Display = if waits then t.told else step.end.display in
     subst (λ (c : Option Cause). Leads (record { link = term_left_if c stays; told = told; waits = t.waits || is_queued step.sends })) (sym closes) (record { asked = asked; queue = queue })
 
-module _ (given : Given) (app : Application) (is : IsApplication app) (sizes : HasTheSizes app) (lu : List ℕ) where
+module _ (given : LowerLaws) (app : Application) (is : IsApplication app) (sizes : HasTheSizes app) (lu : List ℕ) where
   -- what was told has no fields where what is displayed has none, and the other way round
-  told_bare : (t : Told) (s : Simulated app lu t) → fields t.link.term.display.screen.cells ≡ [] → fields t.told.screen.cells ≡ []
+  told_bare : (t : ReportedLink) (s : Simulated app lu t) → fields t.link.term.display.screen.cells ≡ [] → fields t.told.screen.cells ≡ []
   told_bare t s none =
       subst (λ (d : Display). fields d.screen.cells ≡ []) s.display
       (once_unformatted given.keys.round s.simulates.since.erased s.told.term.display.screen.cells t.link.term.display.screen.cells s.simulates.since.held none)
 
-  now_bare : (t : Told) (s : Simulated app lu t) → fields t.told.screen.cells ≡ [] → fields t.link.term.display.screen.cells ≡ []
+  now_bare : (t : ReportedLink) (s : Simulated app lu t) → fields t.told.screen.cells ≡ [] → fields t.link.term.display.screen.cells ≡ []
   now_bare t s none =
       still_unformatted given.keys.round s.simulates.since.erased s.told.term.display.screen.cells t.link.term.display.screen.cells s.simulates.since.held
       (subst (λ (d : Display). fields d.screen.cells ≡ []) (sym s.display) none)
 
   -- a message came down
-  taken_leads : (t : Told) → Simulated app lu t → Leads t → t.link.lost ≡ false → (message : ToTerminal) (rest : List ToTerminal) → (took t.link.term message).closes ≡ None
+  taken_leads : (t : ReportedLink) → Simulated app lu t → Leads t → t.link.lost ≡ false → (message : ToTerminal) (rest : List ToTerminal) → (took t.link.term message).closes ≡ None
       → Leads (told_if (is_bound t.link.term) message t (term_stepped (took t.link.term message) rest t.link))
   taken_leads t s l alive message rest closes = by_message message closes
     where
@@ -411,8 +411,8 @@ module _ (given : Given) (app : Application) (is : IsApplication app) (sizes : H
           let was = weaker Bare Now (now_bare t s) t.link.up l.queue in
           record {
             asked = l.asked;
-            queue = if_sent Now t.link.lost t.link.up (ToHost.Data (buffer_data end.display.shape end.display.screen) ∷ []) was
-                (more_data Now t.link.up (buffer_data end.display.shape end.display.screen) was (inl (λ form. absurd (modified_only (sym form)))));
+            queue = if_sent Now t.link.lost t.link.up (ToHost.Data (buffer_data end.display.size end.display.screen) ∷ []) was
+                (more_data Now t.link.up (buffer_data end.display.size end.display.screen) was (inl (λ form. absurd (modified_only (sym form)))));
           }
 
       by_talk : (saying : Saying) → (talked end end.talk saying).closes ≡ None → (b : Bool) → Leads (told_if b (ToTerminal.TalksDown saying) t (term_stepped (talked end end.talk saying) rest t.link))
@@ -435,7 +435,7 @@ module _ (given : Given) (app : Application) (is : IsApplication app) (sizes : H
       by_message (ToTerminal.TalksDown saying) closes = by_talk saying closes (is_bound end)
 
   -- the operator did something
-  edits_leads : (t : Told) (s : Simulated app lu t) → Leads t → (step : TermStep) (keyboard : Keyboard) (cells : List Cell) (cursor : ℕ) (erases : Bool) → Held erases t.link.term.display.screen.cells cells
+  edits_leads : (t : ReportedLink) (s : Simulated app lu t) → Leads t → (step : TermStep) (keyboard : Keyboard) (cells : List Cell) (cursor : ℕ) (erases : Bool) → KeptByKeys erases t.link.term.display.screen.cells cells
       → step ≡ shows keyboard (edited cells cursor erases t.link.term.display) [] t.link.term → Leads (operated step t)
   edits_leads t s l step keyboard cells cursor erases held is =
       subst (λ (did : TermStep). Leads (operated did t)) (sym is)
@@ -446,7 +446,7 @@ module _ (given : Given) (app : Application) (is : IsApplication app) (sizes : H
       by_wait true = l.queue
       by_wait false = weaker (fields t.told.screen.cells ≡ []) (fields cells ≡ []) (λ none. still_unformatted given.keys.round erases t.link.term.display.screen.cells cells held (now_bare t s none)) t.link.up l.queue
 
-  sends_leads : (t : Told) (s : Simulated app lu t) → Leads t → (step : TermStep) (keyboard : Keyboard) (aid : Aid) → (t.waits ≡ true → aid ≡ Clear → ⊥)
+  sends_leads : (t : ReportedLink) (s : Simulated app lu t) → Leads t → (step : TermStep) (keyboard : Keyboard) (aid : Aid) → (t.waits ≡ true → aid ≡ Clear → ⊥)
       → step ≡ shows keyboard (after_sending aid t.link.term.display) (data_by aid t.link.term) t.link.term → Leads (operated step t)
   sends_leads t s l step keyboard aid unclear is =
       subst (λ (did : TermStep). Leads (operated did t)) (sym is)
@@ -458,8 +458,8 @@ module _ (given : Given) (app : Application) (is : IsApplication app) (sizes : H
       sent_screen : Screen
       sent_screen = with_aid aid now
 
-      queued : (Bare : Type 0) (b : Bool) → AreLeads Bare t.link.up → (HasNoLeadUp (ToHost.Data (modified_data Modified t.link.term.display.shape sent_screen)) ⊎ Bare)
-          → AreLeads Bare (sent t.link.lost t.link.up (data_of b (Send aid) t.link.term.display.shape sent_screen))
+      queued : (Bare : Type 0) (b : Bool) → AreLeads Bare t.link.up → (HasNoLeadUp (ToHost.Data (modified_data Modified t.link.term.display.size sent_screen)) ⊎ Bare)
+          → AreLeads Bare (sent t.link.lost t.link.up (data_of b (Send aid) t.link.term.display.size sent_screen))
       queued Bare true was last = if_sent Bare t.link.lost t.link.up _ was (more_data Bare t.link.up _ was last)
       queued Bare false was last = if_sent Bare t.link.lost t.link.up [] was (subst (AreLeads Bare) (sym (append-nil t.link.up)) was)
 
@@ -468,20 +468,20 @@ module _ (given : Given) (app : Application) (is : IsApplication app) (sizes : H
       one_way goes (inr x) = inr (goes x)
 
       by_wait : (b : Bool) → t.waits ≡ b
-          → AreLeads (fields (if b then t.told else record (after_sending aid t.link.term.display) { keyboard = keyboard }).screen.cells ≡ []) (sent t.link.lost t.link.up (data_of (is_bound t.link.term) (Send aid) t.link.term.display.shape sent_screen))
+          → AreLeads (fields (if b then t.told else record (after_sending aid t.link.term.display) { keyboard = keyboard }).screen.cells ≡ []) (sent t.link.lost t.link.up (data_of (is_bound t.link.term) (Send aid) t.link.term.display.size sent_screen))
       by_wait true e =
           queued (fields t.told.screen.cells ≡ []) (is_bound t.link.term) l.queue
-          (one_way (λ none. told_bare t s (sym (ap fields (same_but_clear aid now (unclear e))) ∙ none)) (own_lead t.link.term.display.shape sent_screen))
+          (one_way (λ none. told_bare t s (sym (ap fields (same_but_clear aid now (unclear e))) ∙ none)) (own_lead t.link.term.display.size sent_screen))
       by_wait false e =
           queued (fields sent_screen.cells ≡ []) (is_bound t.link.term)
           (weaker (fields t.told.screen.cells ≡ []) (fields sent_screen.cells ≡ []) (λ none. aid_bare aid now (now_bare t s none)) t.link.up l.queue)
-          (own_lead t.link.term.display.shape sent_screen)
+          (own_lead t.link.term.display.size sent_screen)
 
-  operates_leads : (t : Told) (s : Simulated app lu t) → Leads t → (step : TermStep) (does : Operates t.link.term step) → (t.waits ≡ true → key_pressed does ≡ Clear → ⊥) → Leads (operated step t)
+  operates_leads : (t : ReportedLink) (s : Simulated app lu t) → Leads t → (step : TermStep) (does : Operates t.link.term step) → (t.waits ≡ true → key_pressed does ≡ Clear → ⊥) → Leads (operated step t)
   operates_leads t s l step (Operates.edits keyboard cells cursor erases held on is) unclear = edits_leads t s l step keyboard cells cursor erases held is
   operates_leads t s l step (Operates.sends keyboard aid some is) unclear = sends_leads t s l step keyboard aid unclear is
 
-  down_leads : (t : Told) → Simulated app lu t → Leads t → t.link.lost ≡ false → (down : List ToTerminal) → t.link.down ≡ down → Leads (came_down down t)
+  down_leads : (t : ReportedLink) → Simulated app lu t → Leads t → t.link.lost ≡ false → (down : List ToTerminal) → t.link.down ≡ down → Leads (came_down down t)
   down_leads t s l alive [] e = l
   down_leads t s l alive (message ∷ rest) e =
       subst (λ (did : TermStep). Leads (told_if (is_bound t.link.term) message t (term_stepped did rest t.link))) (sym (same_now given app is sizes lu t s message rest e))
@@ -493,14 +493,14 @@ module _ (given : Given) (app : Application) (is : IsApplication app) (sizes : H
   sent_alive None link alive = alive
   sent_alive (Some sending) link alive = alive
 
-  up_alive : (t : Told) → Simulated app lu t → t.link.lost ≡ false → (pool : List Entry) → IsSound pool → (up : List ToHost) → t.link.up ≡ up → (came_up pool up t).link.lost ≡ false
+  up_alive : (t : ReportedLink) → Simulated app lu t → t.link.lost ≡ false → (pool : List Entry) → IsSound pool → (up : List ToHost) → t.link.up ≡ up → (came_up pool up t).link.lost ≡ false
   up_alive t s alive pool sound [] e = alive
   up_alive t s alive pool sound (message ∷ rest) e =
       let step : HostStep = host_took (answer_to pool) t.link.host message in
       ap (λ (c : Option Cause). (host_left_if c (record t.link { up = rest; host = step.conn; down = sent t.link.lost t.link.down step.sends })).lost)
       (hears_now given app is sizes lu t s pool sound message rest e) ∙ alive
 
-  down_alive : (t : Told) → Simulated app lu t → t.link.lost ≡ false → (down : List ToTerminal) → t.link.down ≡ down → (moved app Move.Down t).link.lost ≡ false
+  down_alive : (t : ReportedLink) → Simulated app lu t → t.link.lost ≡ false → (down : List ToTerminal) → t.link.down ≡ down → (moved app Move.Down t).link.lost ≡ false
   down_alive t s alive [] e = ap (λ (d : List ToTerminal). (came_down d t).link.lost) e ∙ alive
   down_alive t s alive (message ∷ rest) e =
       let step : TermStep = took t.link.term message in
@@ -513,7 +513,7 @@ module _ (given : Given) (app : Application) (is : IsApplication app) (sizes : H
   operated_closes end step (Operates.edits keyboard cells cursor erases held on is) = ap (λ (s : TermStep). s.closes) is
   operated_closes end step (Operates.sends keyboard aid some is) = ap (λ (s : TermStep). s.closes) is
 
-  alive_still : (move : Move) (t : Told) → Simulated app lu t → t.link.lost ≡ false → IsByTheRules move t → IsTypedMove move → (moved app move t).link.lost ≡ false
+  alive_still : (move : Move) (t : ReportedLink) → Simulated app lu t → t.link.lost ≡ false → IsByTheRules move t → IsWellFormedMove move → (moved app move t).link.lost ≡ false
   alive_still (Move.Up pool) t s alive rules typed = up_alive t s alive pool rules t.link.up refl
   alive_still Move.Down t s alive rules typed = down_alive t s alive t.link.down refl
   alive_still Move.Act t s alive rules typed = sent_alive (acted app t.link.host) t.link alive
@@ -525,7 +525,7 @@ module _ (given : Given) (app : Application) (is : IsApplication app) (sizes : H
 
   -- ---- each move
 
-  move_leads : (move : Move) (t : Told) → Simulated app lu t → Leads t → t.link.lost ≡ false → IsByTheRules move t → IsTypedMove move → Leads (moved app move t)
+  move_leads : (move : Move) (t : ReportedLink) → Simulated app lu t → Leads t → t.link.lost ≡ false → IsByTheRules move t → IsWellFormedMove move → Leads (moved app move t)
   move_leads (Move.Up pool) t s l alive rules typed = up_leads t l pool t.link.up refl
   move_leads Move.Down t s l alive rules typed = down_leads t s l alive t.link.down refl
   move_leads Move.Act t s l alive rules typed =
@@ -549,7 +549,7 @@ prefix_none (ToHost.Response number verdict ∷ queue) vanished none = none
 none_responds : (app : Application) (link : Link) → Kept app (view_of link) → form_awaited link.host.pending ≡ Buffer → has_response link.up ≡ false
 none_responds app link k reads = prefix_none link.up k.at.goes_up.vanished (ap has_response k.at.goes_up.whole ∙ by_moment k.moment (sym (ap form_awaited k.at.pending) ∙ reads))
   where
-    by_serving : (lu : List ℕ) (serving : Serving) → form_awaited (pending_at (Moment.Serves lu serving)) ≡ Buffer → has_response (up_at link.term.display.model k.wanted (Moment.Serves lu serving)) ≡ false
+    by_serving : (lu : List ℕ) (serving : Serving) → form_awaited (pending_at (LinkPhase.Serves lu serving)) ≡ Buffer → has_response (up_at link.term.display.model k.wanted (LinkPhase.Serves lu serving)) ≡ false
     by_serving lu (Serving.Reading number) reads = refl
     by_serving lu (Serving.Reported number parts) reads = refl
     by_serving lu Serving.Deciding reads = refl
@@ -564,33 +564,33 @@ none_responds app link k reads = prefix_none link.up k.at.goes_up.vanished (ap h
     by_serving lu (Serving.KeyNoted number command parts) reads = refl
     by_serving lu (Serving.KeyBefore number command parts) reads = absurd (modified_only reads)
 
-    by_moment : (moment : Moment) → form_awaited (pending_at moment) ≡ Buffer → has_response (up_at link.term.display.model k.wanted moment) ≡ false
-    by_moment (Moment.Talks talking) reads = absurd (modified_only reads)
-    by_moment (Moment.Begins lu number command wanted over) reads = refl
-    by_moment (Moment.Serves lu serving) reads = by_serving lu serving reads
+    by_moment : (moment : LinkPhase) → form_awaited (pending_at moment) ≡ Buffer → has_response (up_at link.term.display.model k.wanted moment) ≡ false
+    by_moment (LinkPhase.Talks talking) reads = absurd (modified_only reads)
+    by_moment (LinkPhase.Begins lu number command wanted over) reads = refl
+    by_moment (LinkPhase.Serves lu serving) reads = by_serving lu serving reads
 
-pub record IsLed (t : Told) : Type 0 where
+pub record IsLed (t : ReportedLink) : Type 0 where
   pub leads : Leads t
   pub alive : t.link.lost ≡ false
 
-module _ (given : Given) (app : Application) (is : IsApplication app) (sizes : HasTheSizes app) (lu : List ℕ) where
-  no_lead_now : (t : Told) (s : Simulated app lu t) → IsLed t → (parts : InboundParts) (others : List ToHost) → t.link.up ≡ ToHost.Data parts ∷ others → parts.form ≡ Modified
+module _ (given : LowerLaws) (app : Application) (is : IsApplication app) (sizes : HasTheSizes app) (lu : List ℕ) where
+  no_lead_now : (t : ReportedLink) (s : Simulated app lu t) → IsLed t → (parts : InboundParts) (others : List ToHost) → t.link.up ≡ ToHost.Data parts ∷ others → parts.form ≡ Modified
       → form_awaited t.link.host.pending ≡ Buffer → HasNoLead parts.parts
   no_lead_now t s q parts others e form reads =
       let Bare : Type 0 = fields t.told.screen.cells ≡ [] in
-      let reads_told : form_awaited s.told.host.pending ≡ Buffer = sym (ap (λ (c : Conn). form_awaited c.pending) s.simulates.host) ∙ reads in
+      let reads_told : form_awaited s.told.host.pending ≡ Buffer = sym (ap (λ (c : Session). form_awaited c.pending) s.simulates.host) ∙ reads in
       let none : has_response others ≡ false =
       extras_respond s.told.host.turn s.told.host.pending s.told.up (ToHost.Data parts ∷ others)
       (subst (λ (up : List ToHost). Extras s.told.host.turn s.told.host.pending s.told.up up) e s.simulates.up) (none_responds app s.told s.kept reads_told) in
       first_lead Bare (ToHost.Data parts) others (subst (AreLeads Bare) e q.leads.queue) none
-      (λ bare. has_fields given app is s.told s.kept (λ agreement. q.leads.asked reads (ap (λ (c : Conn). c.turn_reason) s.simulates.host ∙ agreement)) reads_told
+      (λ bare. has_fields given app is s.told s.kept (λ agreement. q.leads.asked reads (ap (λ (c : Session). c.turn_reason) s.simulates.host ∙ agreement)) reads_told
       (subst (λ (d : Display). fields d.screen.cells ≡ []) (sym s.display) bare)) form
 
   pub leads_are_kept : LeadsAreKept app lu IsLed
   leads_are_kept = record {
     begins = λ t b alive. record {
       leads = record {
-        asked = λ reads e. modified_only (sym (ap (λ (c : Conn). form_awaited c.pending) b.host) ∙ reads);
+        asked = λ reads e. modified_only (sym (ap (λ (c : Session). form_awaited c.pending) b.host) ∙ reads);
         queue = subst (AreLeads (fields t.told.screen.cells ≡ [])) (sym b.nothing_up) tt;
       };
       alive = alive;

@@ -24,29 +24,29 @@ use Rattle.host_core.specs.Items.{is_paint_or_read, second_key_size}
 use Rattle.host_core.specs.Messages.{ToHost, ToTerminal, Verdict}
 use Rattle.host_core.specs.Notes.{may_note, noted, noted_as}
 use Rattle.host_core.specs.Questions.{act_by, answered_on, has_its_panel, is_asking}
-use Rattle.host_core.specs.Session.{Conn, Pending, is_agreed, model_in}
+use Rattle.host_core.specs.Session.{Session, Pending, is_agreed, model_in}
 use Rattle.host_core.specs.Takes.{Answers, HostStep, dropping, form_awaited, may_have_changed, took as host_took}
-use Rattle.host_core.specs.declared.question.Answer.{Answer as Said}
+use Rattle.host_core.specs.declared.question.Answer.{Answer as ApplicationAnswer}
 use Rattle.host_core.specs.declared.turn.Turn.{Turn}
 use Rattle.host_core.specs.declared.turn.Turn.TheVariants as whose
-use Rattle.world3270.specs.EveryTerminal.{Begins, IsByTheRules, Move, Told, came_down, came_up, moved}
-use Rattle.world3270.specs.EveryTerminalBytes.{EveryTerminalOverBytes}
-use Rattle.world3270.specs.Forms.{IsAwaitedBy}
-use Rattle.world3270.specs.Given.{Given}
-use Rattle.world3270.specs.Link.{Link, host_left_if, host_sent, sent, term_left_if}
-use Rattle.world3270.specs.Moments.{IsAt, IsHostIn, Moment, Serving, Talking, UnderWay, pending_at, served_up, talk_up, up_at}
-use Rattle.world3270.specs.Readings.{HasNoLead, IsSecondKeyIn, MayComeUp}
-use Rattle.world3270.specs.Rules.{Operates, with_aid}
-use Rattle.world3270.specs.Sizes.{is_painting}
-use Rattle.world3270.specs.Stages.{Kept, may_differ_at}
-use Rattle.world3270.specs.StandsLinks.{HasTheSizes, NoneCloses}
-use Rattle.world3270.specs.Terminal.{Display, TermEnd, TermStep, data_of, is_bound, once_bound, took}
-use Rattle.world3270.specs.View.{view_of}
+use Rattle.world3270.specs.statement.EveryTerminal.{Begins, IsByTheRules, Move, ReportedLink, came_down, came_up, moved}
+use Rattle.world3270.specs.statement.EveryTerminalBytes.{EveryTerminalOverBytes}
+use Rattle.world3270.specs.statement.Forms.{IsAwaitedBy}
+use Rattle.world3270.specs.refinement.LowerLaws.{LowerLaws}
+use Rattle.world3270.specs.model.Link.{Link, host_left_if, host_sent, sent, term_left_if}
+use Rattle.world3270.specs.refinement.Phases.{IsAt, IsHostIn, LinkPhase, Serving, Talking, UnderWay, pending_at, served_up, talk_up, up_at}
+use Rattle.world3270.specs.refinement.Readings.{HasNoLead, IsSecondKeyIn, MayComeUp}
+use Rattle.world3270.specs.statement.Rules.{Operates, with_aid}
+use Rattle.world3270.specs.refinement.Sizes.{is_painting}
+use Rattle.world3270.specs.refinement.Invariant.{Kept, may_differ_at}
+use Rattle.world3270.specs.refinement.RepresentsLinks.{HasTheSizes, NoneCloses}
+use Rattle.world3270.specs.model.Terminal.{Display, TermEnd, TermStep, data_of, is_bound, once_bound, took}
+use Rattle.world3270.specs.refinement.View.{view_of}
 use Rattle.world3270.proofs.Acting.{asking_parts, may_act_when, model_here}
 use Rattle.world3270.proofs.AnyEvery.{AnyLaws, QueueIsKept, over_bytes}
 use Rattle.world3270.proofs.AnyReady.{all_may_now, same_now}
 use Rattle.world3270.proofs.AnySpelt.{IsTexts}
-use Rattle.world3270.proofs.AnyTerminal.{IsTypedMove, came_one}
+use Rattle.world3270.proofs.AnyTerminal.{IsWellFormedMove, came_one}
 use Rattle.world3270.proofs.Down.{shape_of_model}
 use Rattle.world3270.proofs.Forms.{awaited}
 use Rattle.world3270.proofs.HeardTurns.{goes_on as heard_goes_on}
@@ -87,17 +87,17 @@ not_first lost queue [] saying rest e under none = nothing lost queue (ToHost.Ta
 not_first lost queue (message ∷ messages) saying rest e under none =
     subst (λ (m : ToHost). NoTalkFirst (m ∷ messages)) (sym (front lost queue (ToHost.TalksUp saying) rest message messages e under).0) none
 
-no_talk : (app : Application) (lu : List ℕ) (t : Told) (s : Simulated app lu t) (saying : Saying) (rest : List ToHost) → s.told.up ≡ ToHost.TalksUp saying ∷ rest → ⊥
+no_talk : (app : Application) (lu : List ℕ) (t : ReportedLink) (s : Simulated app lu t) (saying : Saying) (rest : List ToHost) → s.told.up ≡ ToHost.TalksUp saying ∷ rest → ⊥
 no_talk app lu t s saying rest e = not_first s.told.lost s.told.up (up_at model s.kept.wanted s.kept.moment) saying rest e s.kept.at.goes_up (by_moment s.kept.moment s.kept.at)
   where
     model : Model
     model = s.told.term.display.model
 
-    by_moment : (moment : Moment) → IsAt (view_of s.told) s.kept.wanted moment → NoTalkFirst (up_at model s.kept.wanted moment)
-    by_moment (Moment.Talks talking) at =
+    by_moment : (moment : LinkPhase) → IsAt (view_of s.told) s.kept.wanted moment → NoTalkFirst (up_at model s.kept.wanted moment)
+    by_moment (LinkPhase.Talks talking) at =
         subst (λ (now : Talking). NoTalkFirst (talk_up model s.kept.wanted now)) (sym (agreed_there model talking s.told.host.talk at.host_talk (agrees_now s)).1) tt
-    by_moment (Moment.Begins lu number command wanted over) at = tt
-    by_moment (Moment.Serves lu serving) at = served_first serving
+    by_moment (LinkPhase.Begins lu number command wanted over) at = tt
+    by_moment (LinkPhase.Serves lu serving) at = served_first serving
 
 -- ---- the size of what is queued
 
@@ -122,7 +122,7 @@ AreSized app model painting now (ToHost.TalksUp saying ∷ up) = AreSized app mo
 pub record IsSized (app : Application) (link : Link) : Type 0 where
   pub model : Model
   pub model_is : link.term.display.model ≡ model
-  pub up : AreSized app model (is_painting link.host.pending) link.host.shape link.up
+  pub up : AreSized app model (is_painting link.host.pending) link.host.size link.up
 
 -- nothing but data
 abbrev IsDataOnly : List ToHost → Type 0
@@ -221,10 +221,10 @@ module _ (app : Application) (model : Model) (now size : Shape) (is : IsSizeOf a
   bound_sized true end step sized = sized
   bound_sized false end step sized = nothing_sized
 
-  took_sized : (end : TermEnd) (message : ToTerminal) → end.display.shape ≡ size → SendsSized app model now size (took end message).sends
+  took_sized : (end : TermEnd) (message : ToTerminal) → end.display.size ≡ size → SendsSized app model now size (took end message).sends
   took_sized end (ToTerminal.TalksDown saying) same = talk_sized _
   took_sized end (ToTerminal.Paint number wanted over) same = bound_sized (is_bound end) end _ (response_sized number)
-  took_sized end (ToTerminal.ReadBuffer number) same = bound_sized (is_bound end) end _ (data_sized (buffer_data end.display.shape end.display.screen) same)
+  took_sized end (ToTerminal.ReadBuffer number) same = bound_sized (is_bound end) end _ (data_sized (buffer_data end.display.size end.display.screen) same)
   took_sized end (ToTerminal.Note number command) same = bound_sized (is_bound end) end _ (response_sized number)
 
   key_sized : (bound : Bool) (aid : Aid) (screen : Screen) → SendsSized app model now size (data_of bound (Send aid) size screen)
@@ -238,7 +238,7 @@ module _ (app : Application) (model : Model) (now size : Shape) (is : IsSizeOf a
       by_test false = data_sized long refl
   key_sized false aid screen = nothing_sized
 
-  operates_sized : (end : TermEnd) (step : TermStep) → Operates end step → end.display.shape ≡ size
+  operates_sized : (end : TermEnd) (step : TermStep) → Operates end step → end.display.size ≡ size
       → SendsSized app model now size step.sends × (step.end.display.model ≡ end.display.model)
   operates_sized end step (Operates.edits keyboard cells cursor erases held on is) same =
       (subst (λ (s : TermStep). SendsSized app model now size s.sends) (sym is) nothing_sized, ap (λ (s : TermStep). s.end.display.model) is)
@@ -270,69 +270,69 @@ term_left_sized app (Some cause) link z = record { model = z.model; model_is = z
 
 -- ---- while the sizes of the ends may differ, a paint is under way, and nothing before it
 
-record Differs (model : Model) (wanted : Option (List ℕ)) (moment : Moment) : Type 0 where
+record Differs (model : Model) (wanted : Option (List ℕ)) (moment : LinkPhase) : Type 0 where
   paints : is_painting (pending_at moment) ≡ true
   none : up_at model wanted moment ≡ []
 
-differs_at : (model : Model) (wanted : Option (List ℕ)) (moment : Moment) → may_differ_at moment ≡ true → Differs model wanted moment
-differs_at model wanted (Moment.Talks talking) is = absurd (cc)
-differs_at model wanted (Moment.Begins lu number command paints over) is = record { paints = refl; none = refl }
-differs_at model wanted (Moment.Serves lu Serving.Deciding) is = absurd (cc)
-differs_at model wanted (Moment.Serves lu (Serving.Reading number)) is = absurd (cc)
-differs_at model wanted (Moment.Serves lu (Serving.Reported number parts)) is = absurd (cc)
-differs_at model wanted (Moment.Serves lu (Serving.NotedLate number command)) is = absurd (cc)
-differs_at model wanted (Moment.Serves lu (Serving.AnsweredLate number command)) is = absurd (cc)
-differs_at model wanted (Moment.Serves lu (Serving.Painting number command paints over)) is = record { paints = refl; none = refl }
-differs_at model wanted (Moment.Serves lu (Serving.Answering kind number command)) is = absurd (cc)
-differs_at model wanted (Moment.Serves lu Serving.Operating) is = absurd (cc)
-differs_at model wanted (Moment.Serves lu (Serving.Noting number command)) is = absurd (cc)
-differs_at model wanted (Moment.Serves lu (Serving.KeyAlone parts)) is = absurd (cc)
-differs_at model wanted (Moment.Serves lu (Serving.KeyBehind kind number command parts)) is = absurd (cc)
-differs_at model wanted (Moment.Serves lu (Serving.KeyNoted number command parts)) is = absurd (cc)
-differs_at model wanted (Moment.Serves lu (Serving.KeyBefore number command parts)) is = absurd (cc)
+differs_at : (model : Model) (wanted : Option (List ℕ)) (moment : LinkPhase) → may_differ_at moment ≡ true → Differs model wanted moment
+differs_at model wanted (LinkPhase.Talks talking) is = absurd (cc)
+differs_at model wanted (LinkPhase.Begins lu number command paints over) is = record { paints = refl; none = refl }
+differs_at model wanted (LinkPhase.Serves lu Serving.Deciding) is = absurd (cc)
+differs_at model wanted (LinkPhase.Serves lu (Serving.Reading number)) is = absurd (cc)
+differs_at model wanted (LinkPhase.Serves lu (Serving.Reported number parts)) is = absurd (cc)
+differs_at model wanted (LinkPhase.Serves lu (Serving.NotedLate number command)) is = absurd (cc)
+differs_at model wanted (LinkPhase.Serves lu (Serving.AnsweredLate number command)) is = absurd (cc)
+differs_at model wanted (LinkPhase.Serves lu (Serving.Painting number command paints over)) is = record { paints = refl; none = refl }
+differs_at model wanted (LinkPhase.Serves lu (Serving.Answering kind number command)) is = absurd (cc)
+differs_at model wanted (LinkPhase.Serves lu Serving.Operating) is = absurd (cc)
+differs_at model wanted (LinkPhase.Serves lu (Serving.Noting number command)) is = absurd (cc)
+differs_at model wanted (LinkPhase.Serves lu (Serving.KeyAlone parts)) is = absurd (cc)
+differs_at model wanted (LinkPhase.Serves lu (Serving.KeyBehind kind number command parts)) is = absurd (cc)
+differs_at model wanted (LinkPhase.Serves lu (Serving.KeyNoted number command parts)) is = absurd (cc)
+differs_at model wanted (LinkPhase.Serves lu (Serving.KeyBefore number command parts)) is = absurd (cc)
 
 -- ---- moves keep it
 
-module _ (given : Given) (app : Application) (is : IsApplication app) (sizes : HasTheSizes app) (lu : List ℕ) (t : Told) (s : Simulated app lu t) (z : IsSized app t.link) where
+module _ (given : LowerLaws) (app : Application) (is : IsApplication app) (sizes : HasTheSizes app) (lu : List ℕ) (t : ReportedLink) (s : Simulated app lu t) (z : IsSized app t.link) where
   -- both screens are sizes of the model
   same_model : s.told.term.display.model ≡ z.model
   same_model = sym (ap (λ (d : Display). d.model) s.simulates.since.rest) ∙ z.model_is
 
-  term_size : IsSizeOf app z.model t.link.term.display.shape
+  term_size : IsSizeOf app z.model t.link.term.display.size
   term_size =
-      subst (IsSizeOf app z.model) (sym (ap (λ (d : Display). d.shape) s.simulates.since.rest))
-      (subst (λ (m : Model). IsSizeOf app m s.told.term.display.shape) same_model s.kept.sizes.screen)
+      subst (IsSizeOf app z.model) (sym (ap (λ (d : Display). d.size) s.simulates.since.rest))
+      (subst (λ (m : Model). IsSizeOf app m s.told.term.display.size) same_model s.kept.sizes.screen)
 
-  host_size : IsSizeOf app z.model t.link.host.shape
+  host_size : IsSizeOf app z.model t.link.host.size
   host_size =
-      subst (IsSizeOf app z.model) (sym (ap (λ (c : Conn). c.shape) s.simulates.host))
-      (subst (λ (m : Model). IsSizeOf app m s.told.host.shape) same_model s.kept.sizes.host)
+      subst (IsSizeOf app z.model) (sym (ap (λ (c : Session). c.size) s.simulates.host))
+      (subst (λ (m : Model). IsSizeOf app m s.told.host.size) same_model s.kept.sizes.host)
 
   -- where a paint is under way, second keys alone are queued
   only_data : s.told.up ≡ [] → IsDataOnly t.link.up
   only_data none = data_only s.told.host.turn s.told.host.pending t.link.up (subst (λ (told : List ToHost). Extras s.told.host.turn s.told.host.pending told t.link.up) none s.simulates.up)
 
   paints_now : Differs s.told.term.display.model s.kept.wanted s.kept.moment → is_painting t.link.host.pending ≡ true
-  paints_now differs = ap (λ (c : Conn). is_painting c.pending) s.simulates.host ∙ ap is_painting s.kept.at.pending ∙ differs.paints
+  paints_now differs = ap (λ (c : Session). is_painting c.pending) s.simulates.host ∙ ap is_painting s.kept.at.pending ∙ differs.paints
 
   -- what the terminal sends is queued behind
-  queued_sized : (lost : Bool) (sends : List ToHost) → SendsSized app z.model t.link.host.shape t.link.term.display.shape sends
-      → AreSized app z.model (is_painting t.link.host.pending) t.link.host.shape (sent lost t.link.up sends)
+  queued_sized : (lost : Bool) (sends : List ToHost) → SendsSized app z.model t.link.host.size t.link.term.display.size sends
+      → AreSized app z.model (is_painting t.link.host.pending) t.link.host.size (sent lost t.link.up sends)
   queued_sized true sends sized = z.up
   queued_sized false sends sized = by_moment (may_differ_at s.kept.moment) refl
     where
-      by_moment : (differ : Bool) → may_differ_at s.kept.moment ≡ differ → AreSized app z.model (is_painting t.link.host.pending) t.link.host.shape (t.link.up ++ sends)
+      by_moment : (differ : Bool) → may_differ_at s.kept.moment ≡ differ → AreSized app z.model (is_painting t.link.host.pending) t.link.host.size (t.link.up ++ sends)
       by_moment false same =
-          let one : t.link.term.display.shape ≡ t.link.host.shape =
-          ap (λ (d : Display). d.shape) s.simulates.since.rest ∙ s.kept.sizes.same same ∙ sym (ap (λ (c : Conn). c.shape) s.simulates.host) in
-          more_sized app z.model t.link.host.shape (is_painting t.link.host.pending) t.link.up sends host_size z.up (subst (λ (size : Shape). All (HasThatSize size) sends) one sized.all)
+          let one : t.link.term.display.size ≡ t.link.host.size =
+          ap (λ (d : Display). d.size) s.simulates.since.rest ∙ s.kept.sizes.same same ∙ sym (ap (λ (c : Session). c.size) s.simulates.host) in
+          more_sized app z.model t.link.host.size (is_painting t.link.host.pending) t.link.up sends host_size z.up (subst (λ (size : Shape). All (HasThatSize size) sends) one sized.all)
       by_moment true differ =
           let differs = differs_at s.told.term.display.model s.kept.wanted s.kept.moment differ in
           let way = s.kept.at.goes_up in
           let only = only_data (none_queued s.told.up way.vanished (way.whole ∙ differs.none)) in
           let paints = paints_now differs in
-          subst (λ (painting : Bool). AreSized app z.model painting t.link.host.shape (t.link.up ++ sends)) (sym paints)
-          (more_before app z.model t.link.host.shape t.link.up sends only (subst (λ (painting : Bool). AreSized app z.model painting t.link.host.shape t.link.up) paints z.up) sized.before)
+          subst (λ (painting : Bool). AreSized app z.model painting t.link.host.size (t.link.up ++ sends)) (sym paints)
+          (more_before app z.model t.link.host.size t.link.up sends only (subst (λ (painting : Bool). AreSized app z.model painting t.link.host.size t.link.up) paints z.up) sized.before)
 
   down_sized : (down : List ToTerminal) → t.link.down ≡ down → IsSized app (moved app Move.Down t).link
   down_sized [] e = subst (λ (d : List ToTerminal). IsSized app (came_down d t).link) (sym e) z
@@ -344,12 +344,12 @@ module _ (given : Given) (app : Application) (is : IsApplication app) (sizes : H
       (term_left_sized app step.closes (record t.link { down = rest; term = step.end; up = sent t.link.lost t.link.up step.sends }) (record {
         model = z.model;
         model_is = took_model t.link.term message ∙ z.model_is;
-        up = queued_sized t.link.lost step.sends (took_sized app z.model t.link.host.shape t.link.term.display.shape term_size t.link.term message refl);
+        up = queued_sized t.link.lost step.sends (took_sized app z.model t.link.host.size t.link.term.display.size term_size t.link.term message refl);
       }))
 
   operated_sized : (step : TermStep) → Operates t.link.term step → IsSized app (moved app (Move.Operate step) t).link
   operated_sized step does =
-      let operates = operates_sized app z.model t.link.host.shape t.link.term.display.shape term_size t.link.term step does refl in
+      let operates = operates_sized app z.model t.link.host.size t.link.term.display.size term_size t.link.term step does refl in
       term_left_sized app step.closes (record t.link { term = step.end; up = sent t.link.lost t.link.up step.sends }) (record {
         model = z.model;
         model_is = operates.1 ∙ z.model_is;
@@ -362,39 +362,39 @@ module _ (given : Given) (app : Application) (is : IsApplication app) (sizes : H
   heard step rest = host_left_if step.closes (record t.link { up = rest; host = step.conn; down = sent t.link.lost t.link.down step.sends })
 
   drops_sized : (pool : Answers) (message : ToHost) (rest : List ToHost) → is_dropping s.told.host.turn s.told.host.pending ≡ true → IsSecondKey message
-      → AreSized app z.model (is_painting t.link.host.pending) t.link.host.shape (message ∷ rest) → IsSized app (heard (host_took pool t.link.host message) rest)
+      → AreSized app z.model (is_painting t.link.host.pending) t.link.host.size (message ∷ rest) → IsSized app (heard (host_took pool t.link.host message) rest)
   drops_sized pool message rest drops second sized =
       let host : t.link.host ≡ s.told.host = s.simulates.host in
       let dropped : host_took pool t.link.host message ≡ dropping second.parts.aid t.link.host =
-      second_key_dropped pool t.link.host message second (ap (λ (c : Conn). is_agreed c.talk.state) host ∙ agrees_now s)
-      (ap (λ (c : Conn). may_have_changed c.unheard) host ∙ s.any) (ap (λ (c : Conn). is_dropping c.turn c.pending) host ∙ drops) in
+      second_key_dropped pool t.link.host message second (ap (λ (c : Session). is_agreed c.talk.state) host ∙ agrees_now s)
+      (ap (λ (c : Session). may_have_changed c.unheard) host ∙ s.any) (ap (λ (c : Session). is_dropping c.turn c.pending) host ∙ drops) in
       subst (λ (step : HostStep). IsSized app (heard step rest)) (sym dropped) (record {
         model = z.model;
         model_is = z.model_is;
-        up = dropped_sized app z.model t.link.host.shape (is_painting t.link.host.pending) message rest second sized;
+        up = dropped_sized app z.model t.link.host.size (is_painting t.link.host.pending) message rest second sized;
       })
 
   hears_sized : (pool : Answers) (message : ToHost) (rest others : List ToHost) → s.told.up ≡ message ∷ others
-      → AreSized app z.model (is_painting t.link.host.pending) t.link.host.shape (message ∷ rest) → IsSized app (heard (host_took pool t.link.host message) rest)
+      → AreSized app z.model (is_painting t.link.host.pending) t.link.host.size (message ∷ rest) → IsSized app (heard (host_took pool t.link.host message) rest)
   hears_sized pool message rest others first sized =
       let step : HostStep = host_took pool s.told.host message in
       let goes = heard_goes_on given app pool s.told message others first s.kept (agrees_now s) in
-      let shape : step.conn.shape ≡ t.link.host.shape = (just_talks pool s.told.host message).shape ∙ sym (ap (λ (c : Conn). c.shape) s.simulates.host) in
-      let pending : step.conn.pending ≡ pending_after message t.link.host.pending = goes.pending ∙ ap (λ (c : Conn). pending_after message c.pending) (sym s.simulates.host) in
-      subst (λ (host : Conn). IsSized app (heard (host_took pool host message) rest)) (sym s.simulates.host)
+      let shape : step.conn.size ≡ t.link.host.size = (just_talks pool s.told.host message).size ∙ sym (ap (λ (c : Session). c.size) s.simulates.host) in
+      let pending : step.conn.pending ≡ pending_after message t.link.host.pending = goes.pending ∙ ap (λ (c : Session). pending_after message c.pending) (sym s.simulates.host) in
+      subst (λ (host : Session). IsSized app (heard (host_took pool host message) rest)) (sym s.simulates.host)
       (host_left_sized app step.closes (record t.link { up = rest; host = step.conn; down = sent t.link.lost t.link.down step.sends }) (record {
         model = z.model;
         model_is = z.model_is;
         up = subst (λ (size : Shape). AreSized app z.model (is_painting step.conn.pending) size rest) (sym shape)
-            (subst (λ (p : Pending). AreSized app z.model (is_painting p) t.link.host.shape rest) (sym pending) (heard_sized app z.model t.link.host.shape message t.link.host.pending rest sized));
+            (subst (λ (p : Pending). AreSized app z.model (is_painting p) t.link.host.size rest) (sym pending) (heard_sized app z.model t.link.host.size message t.link.host.pending rest sized));
       }))
 
   up_sized : (pool : List Entry) (up : List ToHost) → t.link.up ≡ up → IsSized app (came_up pool up t).link
   up_sized pool [] e = z
   up_sized pool (message ∷ rest) e = by_extra (subst (Extras s.told.host.turn s.told.host.pending s.told.up) e s.simulates.up)
     where
-      sized : AreSized app z.model (is_painting t.link.host.pending) t.link.host.shape (message ∷ rest)
-      sized = subst (AreSized app z.model (is_painting t.link.host.pending) t.link.host.shape) e z.up
+      sized : AreSized app z.model (is_painting t.link.host.pending) t.link.host.size (message ∷ rest)
+      sized = subst (AreSized app z.model (is_painting t.link.host.pending) t.link.host.size) e z.up
 
       by_extra : Extras s.told.host.turn s.told.host.pending s.told.up (message ∷ rest) → IsSized app (came_up pool (message ∷ rest) t).link
       by_extra (inl x) = drops_sized (answer_to pool) message rest x.0 x.1 sized
@@ -407,8 +407,8 @@ module _ (given : Given) (app : Application) (is : IsApplication app) (sizes : H
   may_act_now = may_act t.link.host.turn t.link.host.pending (is_agreed t.link.host.talk.state)
 
   -- in its turn nothing is pending
-  unpainted : t.link.host.pending ≡ Pending.Nothing → AreSized app z.model false t.link.host.shape t.link.up
-  unpainted pends = subst (λ (p : Pending). AreSized app z.model (is_painting p) t.link.host.shape t.link.up) pends z.up
+  unpainted : t.link.host.pending ≡ Pending.Nothing → AreSized app z.model false t.link.host.size t.link.up
+  unpainted pends = subst (λ (p : Pending). AreSized app z.model (is_painting p) t.link.host.size t.link.up) pends z.up
 
   act_sized : (act : Act) → may_act_now ≡ true → sends_so (Some (done app t.link.host act))
   act_sized act may = by_act act (may_act_when t.link.host.turn t.link.host.pending (is_agreed t.link.host.talk.state) may)
@@ -417,11 +417,11 @@ module _ (given : Given) (app : Application) (is : IsApplication app) (sizes : H
       by_act Act.Read when = record { model = z.model; model_is = z.model_is; up = unpainted when.1 }
       by_act (Act.Show panel message keep values) when =
           let host = sym s.simulates.host in
-          let none = nothing_up app s.told s.kept (agrees_now s) (ap (λ (c : Conn). c.turn) host ∙ when.0) (ap (λ (c : Conn). c.pending) host ∙ when.1) in
+          let none = nothing_up app s.told s.kept (agrees_now s) (ap (λ (c : Session). c.turn) host ∙ when.0) (ap (λ (c : Session). c.pending) host ∙ when.1) in
           record {
             model = z.model;
             model_is = z.model_is;
-            up = once_painting app z.model t.link.host.shape (done app t.link.host (Act.Show panel message keep values)).conn.shape t.link.up (only_data none) host_size (unpainted when.1);
+            up = once_painting app z.model t.link.host.size (done app t.link.host (Act.Show panel message keep values)).conn.size t.link.up (only_data none) host_size (unpainted when.1);
           }
 
   acts_sized : sends_so (acted app t.link.host)
@@ -432,7 +432,7 @@ module _ (given : Given) (app : Application) (is : IsApplication app) (sizes : H
       by_may true may Decision.Asks = z
       by_may false may decision = z
 
-  answers_sized : (said : Said) → sends_so (answered_on app t.link.host said)
+  answers_sized : (said : ApplicationAnswer) → sends_so (answered_on app t.link.host said)
   answers_sized said = by_open (is_asking app t.link.host) refl (has_its_panel app said)
     where
       act : Act
@@ -481,40 +481,40 @@ at_most_alternate app sizes model size (inr alternate) =
 knows_the_model : (app : Application) (link : Link) → Kept app (view_of link) → is_agreed link.host.talk.state ≡ true → model_in link.host ≡ link.term.display.model
 knows_the_model app link k agrees = by_moment k.moment k.at
   where
-    by_moment : (moment : Moment) → IsAt (view_of link) k.wanted moment → model_in link.host ≡ link.term.display.model
-    by_moment (Moment.Talks talking) at =
+    by_moment : (moment : LinkPhase) → IsAt (view_of link) k.wanted moment → model_in link.host ≡ link.term.display.model
+    by_moment (LinkPhase.Talks talking) at =
         let lu = agreed_there link.term.display.model talking link.host.talk at.host_talk agrees in
         model_here link lu.0 (subst (λ (now : Talking). IsHostIn link.term.display.model now link.host.talk) lu.1 at.host_talk)
-    by_moment (Moment.Begins lu number command wanted over) at = model_here link lu at.host_talk
-    by_moment (Moment.Serves lu serving) at = model_here link lu at.host_talk
+    by_moment (LinkPhase.Begins lu number command wanted over) at = model_here link lu at.host_talk
+    by_moment (LinkPhase.Serves lu serving) at = model_here link lu at.host_talk
 
 -- ---- what is asked of second keys
 
 -- Some property of what comes up holds at agreement, and all typed moves that keep the rules keep it; and by it a key's data that comes while a read
 -- is pending has no characters before the first address.
-pub record LeadsAreKept (app : Application) (lu : List ℕ) (Queued : Told → Type 0) : Type 0 where
-  pub begins : (t : Told) → Begins app lu t → t.link.lost ≡ false → Queued t
-  pub goes_on : (move : Move) (t : Told) → Simulated app lu t → IsTexts t → Queued t → IsByTheRules move t → IsTypedMove move → Queued (moved app move t)
-  pub no_lead : (t : Told) → Simulated app lu t → Queued t → (parts : InboundParts) (others : List ToHost) → t.link.up ≡ ToHost.Data parts ∷ others → parts.form ≡ Modified
+pub record LeadsAreKept (app : Application) (lu : List ℕ) (Queued : ReportedLink → Type 0) : Type 0 where
+  pub begins : (t : ReportedLink) → Begins app lu t → t.link.lost ≡ false → Queued t
+  pub goes_on : (move : Move) (t : ReportedLink) → Simulated app lu t → IsTexts t → Queued t → IsByTheRules move t → IsWellFormedMove move → Queued (moved app move t)
+  pub no_lead : (t : ReportedLink) → Simulated app lu t → Queued t → (parts : InboundParts) (others : List ToHost) → t.link.up ≡ ToHost.Data parts ∷ others → parts.form ≡ Modified
       → form_awaited t.link.host.pending ≡ Buffer → HasNoLead parts.parts
 
-module _ (given : Given) (app : Application) (is : IsApplication app) (sizes : HasTheSizes app) (lu : List ℕ) (Queued : Told → Type 0) (leads : LeadsAreKept app lu Queued) where
-  pub record IsQueued (t : Told) : Type 0 where
+module _ (given : LowerLaws) (app : Application) (is : IsApplication app) (sizes : HasTheSizes app) (lu : List ℕ) (Queued : ReportedLink → Type 0) (leads : LeadsAreKept app lu Queued) where
+  pub record IsQueued (t : ReportedLink) : Type 0 where
     pub sized : IsSized app t.link
     pub queued : Queued t
 
   -- a second key's data
-  second_comes : (t : Told) (s : Simulated app lu t) (q : IsQueued t) (parts : InboundParts) (others : List ToHost) → t.link.up ≡ ToHost.Data parts ∷ others → parts.form ≡ Modified
+  second_comes : (t : ReportedLink) (s : Simulated app lu t) (q : IsQueued t) (parts : InboundParts) (others : List ToHost) → t.link.up ≡ ToHost.Data parts ∷ others → parts.form ≡ Modified
       → (pending : Pending) → t.link.host.pending ≡ pending → IsAwaitedBy t.link.host parts ⊎ IsSecondKeyIn t.link.host parts
   second_comes t s q parts others e form pending pends = by_pending pending pends
     where
       model : Model
       model = q.sized.model
 
-      size : (painting : Bool) → is_painting t.link.host.pending ≡ painting → IsSizedIf app model painting t.link.host.shape parts.size
+      size : (painting : Bool) → is_painting t.link.host.pending ≡ painting → IsSizedIf app model painting t.link.host.size parts.size
       size painting is_it =
-          (subst (λ (b : Bool). AreSized app model b t.link.host.shape (ToHost.Data parts ∷ others)) is_it
-          (subst (AreSized app model (is_painting t.link.host.pending) t.link.host.shape) e q.sized.up)).0
+          (subst (λ (b : Bool). AreSized app model b t.link.host.size (ToHost.Data parts ∷ others)) is_it
+          (subst (AreSized app model (is_painting t.link.host.pending) t.link.host.size) e q.sized.up)).0
 
       knows : model_in t.link.host ≡ model
       knows = ap model_in s.simulates.host ∙ knows_the_model app s.told s.kept (agrees_now s) ∙ same_model given app is sizes lu t s q.sized
@@ -522,10 +522,10 @@ module _ (given : Given) (app : Application) (is : IsApplication app) (sizes : H
       second : is_paint_or_read t.link.host.pending ≡ true → cells_in parts.size ≤ cells_in (second_key_size t.link.host t.link.host.pending) → IsSecondKeyIn t.link.host parts
       second some fits = record {
         may_be = ap (λ (b : Bool). may_have_changed t.link.host.unheard && b) some
-            ∙ ap (λ (b : Bool). b && true) (ap (λ (c : Conn). may_have_changed c.unheard) s.simulates.host ∙ s.any);
+            ∙ ap (λ (b : Bool). b && true) (ap (λ (c : Session). may_have_changed c.unheard) s.simulates.host ∙ s.any);
         form = form;
         size = fits;
-        some = some_cells t.link.host.shape (shape_of_model app model t.link.host.shape is (host_size given app is sizes lu t s q.sized));
+        some = some_cells t.link.host.size (shape_of_model app model t.link.host.size is (host_size given app is sizes lu t s q.sized));
         no_lead = leads.no_lead t s q.queued parts others e form;
       }
 
@@ -540,7 +540,7 @@ module _ (given : Given) (app : Application) (is : IsApplication app) (sizes : H
           inr (second (ap is_paint_or_read pends)
           (subst (λ (shape : Shape). cells_in parts.size ≤ cells_in shape) (sym large) (at_most_alternate app sizes model parts.size (size true (ap is_painting pends)))))
 
-  comes_next : (t : Told) (s : Simulated app lu t) (q : IsQueued t) (message : ToHost) (others : List ToHost) → t.link.up ≡ message ∷ others
+  comes_next : (t : ReportedLink) (s : Simulated app lu t) (q : IsQueued t) (message : ToHost) (others : List ToHost) → t.link.up ≡ message ∷ others
       → Extras s.told.host.turn s.told.host.pending s.told.up (message ∷ others) → MayComeUp t.link.host message
   comes_next t s q (ToHost.TalksUp saying) others e (inl x) = absurd (let clash = x.1.is in cc)
   comes_next t s q (ToHost.TalksUp saying) others e (inr x) = absurd (no_talk app lu t s saying x.0 x.1)
@@ -552,7 +552,7 @@ module _ (given : Given) (app : Application) (is : IsApplication app) (sizes : H
       data_is : (one other : InboundParts) → ToHost.Data other ≡ ToHost.Data one → one ≡ other
       data_is one other e = cc
   comes_next t s q (ToHost.Data parts) others e (inr x) =
-      inl (subst (λ (c : Conn). IsAwaitedBy c parts) (sym s.simulates.host) (awaited app (view_of s.told) parts x.0 s.kept x.1))
+      inl (subst (λ (c : Session). IsAwaitedBy c parts) (sym s.simulates.host) (awaited app (view_of s.told) parts x.0 s.kept x.1))
 
   pub queue_is_kept : QueueIsKept app lu IsQueued
   queue_is_kept = record {
@@ -560,7 +560,7 @@ module _ (given : Given) (app : Application) (is : IsApplication app) (sizes : H
       sized = record {
         model = t.link.term.display.model;
         model_is = refl;
-        up = subst (AreSized app t.link.term.display.model (is_painting t.link.host.pending) t.link.host.shape) (sym b.nothing_up) tt;
+        up = subst (AreSized app t.link.term.display.model (is_painting t.link.host.pending) t.link.host.size) (sym b.nothing_up) tt;
       };
       queued = leads.begins t b alive;
     };
@@ -573,7 +573,7 @@ module _ (given : Given) (app : Application) (is : IsApplication app) (sizes : H
   }
 
 -- The theorem, if the leads are kept.
-pub leads_suffice : AnyLaws → (Leads : Application → List ℕ → Told → Type 0) → ((app : Application) (lu : List ℕ) → IsApplication app → HasTheSizes app → LeadsAreKept app lu (Leads app lu)) → EveryTerminalOverBytes
+pub leads_suffice : AnyLaws → (Leads : Application → List ℕ → ReportedLink → Type 0) → ((app : Application) (lu : List ℕ) → IsApplication app → HasTheSizes app → LeadsAreKept app lu (Leads app lu)) → EveryTerminalOverBytes
 leads_suffice laws Leads leads number lu old new states sound begins lead =
     let app : Application = application_of old.host.panels in
     let is = laws.known.worlds.application old.host.panels sound.otherwise sound.laid_out sound.apart in

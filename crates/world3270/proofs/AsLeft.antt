@@ -12,8 +12,8 @@ use Rattle.datastream.specs.Screen.{attribute_in, attribute_over, is_char_at, la
 use Rattle.datastream.proofs.Fields.{last_attribute-append, option_or-none, option_or_assoc}
 use Rattle.shadow.specs.Belief.{nulls}
 use Rattle.shadow.specs.Pairs.{Pairwise}
-use Rattle.world3270.specs.Headline.{IsAsLeft, IsUnmodified}
-use Rattle.world3270.specs.Unreturned.{IsInUnmodified, IsKept, UnmodifiedIsKept}
+use Rattle.world3270.specs.statement.Headline.{IsAsLeft, IsUnmodified}
+use Rattle.world3270.specs.refinement.Unreturned.{IsInUnmodified, IsKept, UnmodifiedIsKept}
 
 -- ---- from cells at their places to a walk
 

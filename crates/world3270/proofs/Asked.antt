@@ -19,7 +19,7 @@ use Rattle.panels.specs.Screen.{Values}
 use Rattle.panels.specs.Values.{set_if, value_of}
 use Rattle.panels.specs.declared.extent.Extent.{Extent}
 use Rattle.panels.specs.declared.panel.Field.{Field as PanelField}
-use Rattle.shadow.specs.Asked.{belief_with}
+use Rattle.shadow.specs.Queries.{belief_with}
 use Rattle.shadow.specs.Belief.{Fact, Belief, Shadow, fields_of}
 use Rattle.shadow.specs.Meets.{FieldMeets, Holds, ListsFields, Meets, told}
 use Rattle.shadow.specs.Pairs.{Pairwise}
@@ -27,23 +27,23 @@ use Rattle.host_core.specs.Acts.{Act, Decision, belief_of, decision_on, is_in_do
 use Rattle.host_core.specs.Application.{Application, IsApplication, message_place}
 use Rattle.host_core.specs.Questions.{is_ask, is_asking, key_of, question_in, question_on}
 use Rattle.host_core.specs.Takes.{is_verified}
-use Rattle.host_core.specs.Session.{Conn, agreed_lu}
+use Rattle.host_core.specs.Session.{Session, agreed_lu}
 use Rattle.host_core.specs.declared.question.Question.{Question}
 use Rattle.host_core.specs.declared.turn_reason.TurnReason.{TurnReason}
 use Rattle.host_core.specs.declared.turn_reason.TurnReason.TheVariants as turn_reasons
-use Rattle.world3270.specs.Always.{Always, AlwaysOf}
-use Rattle.world3270.specs.Asked.{AskedIsSeen, AreFieldsAsked, FieldsAreSeen, IsScreenAsLeft, IsSeen, ScreensAreAsLeft, ShowsItsFields, StandsAt, StandsIn}
-use Rattle.world3270.specs.Given.{Given}
-use Rattle.world3270.specs.Happens.{run}
-use Rattle.world3270.specs.Link.{Link}
-use Rattle.world3270.specs.Seen.{TerminalSeen, end_seen}
-use Rattle.world3270.specs.Showing.{ShowsItsPanel}
-use Rattle.world3270.specs.Stages.{Kept, IsTextKnown, IsKnownIfRead}
-use Rattle.world3270.specs.Terminal.{bound_to}
-use Rattle.world3270.specs.TurnReasons.{IsCursorFor, IsOccasion}
-use Rattle.world3270.specs.Unreturned.{SamePlaces}
-use Rattle.world3270.specs.View.{view_of}
-use Rattle.world3270.specs.World.{World, new_world}
+use Rattle.world3270.specs.statement.Always.{Always, AlwaysOf}
+use Rattle.world3270.specs.statement.Asked.{AskedIsSeen, AreFieldsAsked, FieldsAreSeen, IsScreenAsLeft, IsSeen, ScreensAreAsLeft, ShowsItsFields, IsFieldText, IsPanelText}
+use Rattle.world3270.specs.refinement.LowerLaws.{LowerLaws}
+use Rattle.world3270.specs.model.Steps.{run}
+use Rattle.world3270.specs.model.Link.{Link}
+use Rattle.world3270.specs.statement.Observation.{TerminalSeen, end_seen}
+use Rattle.world3270.specs.statement.Showing.{ShowsItsPanel}
+use Rattle.world3270.specs.refinement.Invariant.{Kept, IsTextKnown, IsKnownIfRead}
+use Rattle.world3270.specs.model.Terminal.{bound_to}
+use Rattle.world3270.specs.statement.TurnReasons.{IsCursorFor, IsOccasion}
+use Rattle.world3270.specs.refinement.Unreturned.{SamePlaces}
+use Rattle.world3270.specs.refinement.View.{view_of}
+use Rattle.world3270.specs.model.World.{World, new_world}
 use Rattle.world3270.proofs.Acting.{agreed_unasked, asks_deciding, wanted_in_a_way}
 use Rattle.world3270.proofs.Headline.{terminal_attached}
 use Rattle.world3270.proofs.OnScreen.{IsAmong, among_listed, among_painted, among_same, listed-length}
@@ -84,12 +84,12 @@ right_before extent place is =
     let after = extent.after_attribute in
     omega arith
 
-pub stands_at : (shadow : Shadow) (screen : Screen) (field : PanelField) (text : List ℕ) → Meets shadow screen → text_known shadow field ≡ Some text → StandsAt field text screen
+pub stands_at : (shadow : Shadow) (screen : Screen) (field : PanelField) (text : List ℕ) → Meets shadow screen → text_known shadow field ≡ Some text → IsFieldText field text screen
 stands_at Shadow.NothingKnown screen field text meets is = absurd (cc)
 stands_at (Shadow.Unformatted known) screen field text meets is = absurd (cc)
 stands_at (Shadow.Formatted beliefs) screen field text meets is = found_at (known_listed (field.extent.first - 1) text beliefs (fields screen.cells) meets.1 is)
   where
-    found_at : Listed (fields screen.cells) (field.extent.first - 1) text → StandsAt field text screen
+    found_at : Listed (fields screen.cells) (field.extent.first - 1) text → IsFieldText field text screen
     found_at found = record { index = found.0; on_screen = found.1; listed = found.2; place = right_before field.extent found.1.place found.3; text_is = found.4 }
 
 -- ---- a value that is asked is a text that is known
@@ -126,10 +126,10 @@ learned_from shadow (field ∷ panel) values number text is =
     by_rest (inr found) = inr (suc found.0, found.1, found.2, found.3, found.4)
 
 stands_in : (shadow : Shadow) (screen : Screen) (panel : List PanelField) (number : ℕ) (text : List ℕ) → Meets shadow screen
-    → value_of (learned shadow panel []) number ≡ Some text → StandsIn panel number text screen
+    → value_of (learned shadow panel []) number ≡ Some text → IsPanelText panel number text screen
 stands_in shadow screen panel number text meets is = by_case (learned_from shadow panel [] number text is)
   where
-    by_case : (value_of [] number ≡ Some text) ⊎ IsKnown shadow panel number text → StandsIn panel number text screen
+    by_case : (value_of [] number ≡ Some text) ⊎ IsKnown shadow panel number text → IsPanelText panel number text screen
     by_case (inl before) = absurd (cc)
     by_case (inr found) = record {
       index = found.0;
@@ -210,7 +210,7 @@ settled_on shadow screen field lists meets settled there = by_belief shadow list
         belief_there (field.extent.first - 1) beliefs (fields screen.cells) listed.1.0 listed.0 meets.1 settled listed.1.1 listed.1.2 listed.2
 
 -- where the application is asked, nothing is in doubt, or the screen was read
-pub asked_sure : (app : Application) (conn : Conn) (reason : TurnReason) → IsKnownIfRead reason conn.shadow → is_ask (decision_on app conn reason) ≡ true
+pub asked_sure : (app : Application) (conn : Session) (reason : TurnReason) → IsKnownIfRead reason conn.shadow → is_ask (decision_on app conn reason) ≡ true
     → (list_any (is_in_doubt conn.shadow) (app.fields conn.panel) ≡ false) ⊎ All IsTextKnown (fields_of conn.shadow)
 asked_sure app conn turn_reasons.Agreement settled asks = absurd (cc)
 asked_sure app conn turn_reasons.Refusal settled asks = absurd (cc)
@@ -257,7 +257,7 @@ learned_has shadow (first ∷ panel) values (suc index) field text apart at know
     (λ i j one other below at_i at_j. apart (suc i) (suc j) one other (omega (arith, below)) at_i at_j) at known
 
 -- the panel that is shown has its fields on the screen
-shown_among : (app : Application) → IsApplication app → ShowsItsFields app → (waits : Bool) (host : Conn) (before left now : Screen) (index : ℕ) (field : PanelField) → ShowsItsPanel app waits host before left → SamePlaces left.cells now.cells
+shown_among : (app : Application) → IsApplication app → ShowsItsFields app → (waits : Bool) (host : Session) (before left now : Screen) (index : ℕ) (field : PanelField) → ShowsItsPanel app waits host before left → SamePlaces left.cells now.cells
     → slice_get (app.fields host.panel) index ≡ Some field → IsAmong now.cells field.extent
 shown_among app is shows waits host before left now index field shown same at =
     let wanted : WantedScreen = shown.wanted in
@@ -273,7 +273,7 @@ shown_among app is shows waits host before left now index field shown same at =
 
 -- ---- the key
 
-asked_key : (app : Application) (conn : Conn) (reason : TurnReason) (aid : Aid) → conn.turn_reason ≡ reason → IsOccasion reason aid
+asked_key : (app : Application) (conn : Session) (reason : TurnReason) (aid : Aid) → conn.turn_reason ≡ reason → IsOccasion reason aid
     → is_ask (decision_on app conn conn.turn_reason) ≡ true → key_of reason ≡ aid
 asked_key app conn turn_reasons.Agreement aid is occasion asks = absurd (agreed_unasked app conn is asks)
 asked_key app conn (turn_reasons.Key pressed buffered) aid is occasion asks = occasion.0
@@ -282,7 +282,7 @@ asked_key app conn turn_reasons.Refusal aid is occasion asks = absurd occasion
 -- ---- the cursor
 
 -- nothing is asked after Clear, nor after a PA key before the screen was read
-asked_cursor : (app : Application) (conn : Conn) (reason : TurnReason) (known place : ℕ) → IsCursorFor reason known place
+asked_cursor : (app : Application) (conn : Session) (reason : TurnReason) (known place : ℕ) → IsCursorFor reason known place
     → is_ask (decision_on app conn reason) ≡ true → known ≡ place
 asked_cursor app conn turn_reasons.Agreement known place cursor asks = absurd (cc)
 asked_cursor app conn turn_reasons.Refusal known place cursor asks = absurd (cc)
@@ -303,14 +303,14 @@ question_is true None ask question is = absurd (cc)
 question_is false lu ask question is = absurd (cc)
 
 -- the key isn't Clear
-asked_uncleared : (app : Application) (conn : Conn) (reason : TurnReason) (aid : Aid) → IsOccasion reason aid → is_ask (decision_on app conn reason) ≡ true → aid ≡ Clear → ⊥
+asked_uncleared : (app : Application) (conn : Session) (reason : TurnReason) (aid : Aid) → IsOccasion reason aid → is_ask (decision_on app conn reason) ≡ true → aid ≡ Clear → ⊥
 asked_uncleared app conn turn_reasons.Agreement aid occasion asks clear = absurd (cc)
 asked_uncleared app conn turn_reasons.Refusal aid occasion asks clear = absurd (cc)
 asked_uncleared app conn (turn_reasons.Key pressed buffered) aid occasion asks clear =
     absurd (let is_clear : is_ask (decision_on app conn (turn_reasons.Key Clear buffered)) ≡ true =
     subst (λ (a : Aid). is_ask (decision_on app conn (turn_reasons.Key a buffered)) ≡ true) (occasion.0 ∙ clear) asks in cc)
 
-pub asked_seen : Given → (app : Application) → IsApplication app → (link : Link) → Kept app (view_of link) → (number session : ℕ) (question : Question)
+pub asked_seen : LowerLaws → (app : Application) → IsApplication app → (link : Link) → Kept app (view_of link) → (number session : ℕ) (question : Question)
     → question_in app session link.host ≡ Some question → IsSeen (app.fields question.panel) question (end_seen number link.term)
 asked_seen given app is link k number session question asked =
     let there = question_is (is_asking app link.host) (agreed_lu link.host.talk.state) (question_on app session link.host) question asked in
@@ -329,15 +329,15 @@ asked_seen given app is link k number session question asked =
     subst (λ (q : Question). IsSeen (app.fields q.panel) q (end_seen number link.term)) (sym there.3) seen_on
 
 -- something was shown
-asked_later : (app : Application) (conn : Conn) → is_ask (decision_on app conn conn.turn_reason) ≡ true → conn.turn_reason ≡ turn_reasons.Agreement → ⊥
+asked_later : (app : Application) (conn : Session) → is_ask (decision_on app conn conn.turn_reason) ≡ true → conn.turn_reason ≡ turn_reasons.Agreement → ⊥
 asked_later app conn asks agreement = agreed_unasked app conn agreement asks
 
-pub each_asked : Given → (app : Application) → IsApplication app → ShowsItsFields app → (link : Link) → Kept app (view_of link) → (session : ℕ) (question : Question)
+pub each_asked : LowerLaws → (app : Application) → IsApplication app → ShowsItsFields app → (link : Link) → Kept app (view_of link) → (session : ℕ) (question : Question)
     → question_in app session link.host ≡ Some question → AreFieldsAsked (app.fields question.panel) question link.term.display.screen
 each_asked given app is shows link k session question asked =
     let there = question_is (is_asking app link.host) (agreed_lu link.host.talk.state) (question_on app session link.host) question asked in
     let asks = asks_deciding given app is link k there.0 in
-    let conn : Conn = link.host in
+    let conn : Session = link.host in
     let screen : Screen = link.term.display.screen in
     let uncleared : screen.aid ≡ Clear → ⊥ = asked_uncleared app conn conn.turn_reason screen.aid asks.2.turn_reason asks.3 in
     let shown : ShowsItsPanel app link.term.waits conn link.term.display.before_restored link.term.display.last_restored = asks.4.0 (asked_later app conn asks.3) in
@@ -347,7 +347,7 @@ each_asked given app is shows link k session question asked =
     λ index field at.
     let among : IsAmong screen.cells field.extent = shown_among app is shows link.term.waits conn link.term.display.before_restored link.term.display.last_restored screen index field shown same at in
     let told : IsTextOf (belief_of conn.shadow field) = text_of conn.shadow screen (app.fields conn.panel) index field asks.2.sees.lists asks.2.sees.meets among at sure in
-    let stands : StandsAt field told.0 screen = stands_at conn.shadow screen field told.0 asks.2.sees.meets told.1 in
+    let stands : IsFieldText field told.0 screen = stands_at conn.shadow screen field told.0 asks.2.sees.meets told.1 in
     record {
       text = told.0;
       given = learned_has conn.shadow (app.fields conn.panel) [] index field told.0 (shows.numbers conn.panel) at told.1;
@@ -365,7 +365,7 @@ asked_there : (here : Bool) (asked : Option Question) (question : Question) → 
 asked_there true asked question is = (refl, is)
 asked_there false asked question is = absurd (cc)
 
-pub asked_is_seen : Given → AlwaysOf AskedIsSeen
+pub asked_is_seen : LowerLaws → AlwaysOf AskedIsSeen
 asked_is_seen given app serves pool models events is lists few are =
     let world : World = run app events (new_world app serves pool models) in
     let g = run_good given app is events (new_world app serves pool models) are (new_good given app is serves pool models lists) in
@@ -376,7 +376,7 @@ asked_is_seen given app serves pool models events is lists few are =
     subst (λ (t : TerminalSeen). IsSeen (app.fields question.panel) question t) (sym there.2)
     (asked_seen given app is link (g.links number) there.0 session question here.1)
 
-pub each_is_seen : Given → AlwaysOf FieldsAreSeen
+pub each_is_seen : LowerLaws → AlwaysOf FieldsAreSeen
 each_is_seen given app serves pool models events is lists few are =
     let world : World = run app events (new_world app serves pool models) in
     let g = run_good given app is events (new_world app serves pool models) are (new_good given app is serves pool models lists) in
@@ -389,11 +389,11 @@ each_is_seen given app serves pool models events is lists few are =
 
 -- ---- the screen is the one that was left
 
-pub screens_are_as_left : Given → Always ScreensAreAsLeft
+pub screens_are_as_left : LowerLaws → Always ScreensAreAsLeft
 screens_are_as_left given app serves pool models events is lists few are =
     let world : World = run app events (new_world app serves pool models) in
     let g = run_good given app is events (new_world app serves pool models) are (new_good given app is serves pool models lists) in
     λ number terminal terminal_is.
     let link : Link = world.link number in
     let there = terminal_attached link.term_here link.term terminal terminal_is in
-    subst (λ (t : TerminalSeen). IsScreenAsLeft (message_place link.term.display.shape) t) (sym there.2) (g.links number).as_left
+    subst (λ (t : TerminalSeen). IsScreenAsLeft (message_place link.term.display.size) t) (sym there.2) (g.links number).as_left

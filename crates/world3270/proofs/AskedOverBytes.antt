@@ -8,27 +8,27 @@ use Rattle.panels.specs.declared.panel.Field.{Field as PanelField}
 use Rattle.host_core.specs.Application.{Application, IsApplication, application_of, message_place, no_panel, panel_at}
 use Rattle.host_core.specs.Laws.{PanelsAreShown}
 use Rattle.host_core.specs.Questions.{question_in, question_of}
-use Rattle.host_core.specs.Session.{Conn}
+use Rattle.host_core.specs.Session.{Session}
 use Rattle.host_core.specs.State.{Service, service_at, session_at}
 use Rattle.host_core.specs.declared.question.Question.{Question}
-use Rattle.world3270.specs.Always.{Always, AlwaysOf}
-use Rattle.world3270.specs.Asked.{AskedIsSeen, AskedIsSeenOverBytes, FieldsAreSeen, IsPanelSeen, IsScreenAsLeft, IsSeen, ScreensAreAsLeft, ShowsItsFields, asked_at, asked_by, row_at}
-use Rattle.world3270.specs.ByteWorld.{is_there}
-use Rattle.world3270.specs.Link.{Link}
-use Rattle.world3270.specs.Refines.{Begin, after}
-use Rattle.world3270.specs.Seen.{SeenLink, TerminalSeen, seen_link}
-use Rattle.world3270.specs.SeenBytes.{seen_connection}
-use Rattle.world3270.specs.Standing.{conn_of, link_of}
-use Rattle.world3270.specs.Stands.{LinkStands}
-use Rattle.world3270.specs.World.{World}
-use Rattle.world3270.proofs.SeenStands.{same_seen, size_seen}
+use Rattle.world3270.specs.statement.Always.{Always, AlwaysOf}
+use Rattle.world3270.specs.statement.Asked.{AskedIsSeen, AskedIsSeenOverBytes, FieldsAreSeen, IsPanelSeen, IsScreenAsLeft, IsSeen, ScreensAreAsLeft, ShowsItsFields, asked_at, asked_by, row_at}
+use Rattle.world3270.specs.model.ByteWorld.{is_there}
+use Rattle.world3270.specs.model.Link.{Link}
+use Rattle.world3270.specs.refinement.Refines.{Begin, after}
+use Rattle.world3270.specs.statement.Observation.{SeenLink, TerminalSeen, seen_link}
+use Rattle.world3270.specs.statement.ByteObservation.{seen_connection}
+use Rattle.world3270.specs.refinement.Representation.{conn_of, link_of}
+use Rattle.world3270.specs.refinement.Represents.{LinkRepresents}
+use Rattle.world3270.specs.model.World.{World}
+use Rattle.world3270.proofs.SeenRepresents.{same_seen, size_seen}
 
 -- an open number has a question where its connection has one; no other number has any
-same_question : (app : Application) (session : ℕ) (service : Service) (here : Bool) (conn : Conn) (question : Question) → is_there service ≡ here → (here ≡ true → conn_of service ≡ conn)
+same_question : (app : Application) (session : ℕ) (service : Service) (here : Bool) (conn : Session) (question : Question) → is_there service ≡ here → (here ≡ true → conn_of service ≡ conn)
     → question_of app session service ≡ Some question → (if here then question_in app session conn else None) ≡ Some question
 same_question app session Service.Free here conn question there same asked = absurd (cc)
 same_question app session (Service.Closed cause) here conn question there same asked = absurd (cc)
-same_question app session (Service.Open rest held) true conn question there same asked = ap (λ (c : Conn). question_in app session c) (sym (same refl)) ∙ asked
+same_question app session (Service.Open rest held) true conn question there same asked = ap (λ (c : Session). question_in app session c) (sym (same refl)) ∙ asked
 same_question app session (Service.Open rest held) false conn question there same asked = absurd (cc)
 
 -- a panel that has fields is one of the set's
@@ -77,7 +77,7 @@ asked_over_bytes shown on_screen asked each as_left bytes is = record { question
         → IsPanelSeen ((application_of bytes.host.panels).fields question.panel) (row_at terminal.number bytes) question terminal
     questions number question terminal asked_now terminal_is =
         let link : Link = world.link number in
-        let stands : LinkStands (link_of number bytes) link = is.reached.stands.links number in
+        let stands : LinkRepresents (link_of number bytes) link = is.reached.stands.links number in
         let session = session_at number bytes.host in
         let question_is : question_of app session (service_at number bytes.host) ≡ Some question =
         ap (λ (p : Panels). question_of (application_of p) session (service_at number bytes.host)) (sym is.reached.panels) ∙ asked_now in

@@ -1,10 +1,10 @@
 -- What the host sends in its turn, and notes that it sends, over bytes: they stand for the messages that it sends.
 use Rattle.std.proofs.Common.{◌≡◌, ◌<◌, ◌==◌, ℕ, Bool, true, false, Option, Some, None, is_some, List, [], ◌∷◌, ◌++◌, length, refl, ap, sym, subst, ◌∙◌, IfSome, if◌then◌else◌}
 use Rattle.host_core.specs.Questions.{act_by, answered_by, answered_on, has_its_panel, is_asking, is_ticket, ticket_of}
-use Rattle.host_core.specs.declared.question.Answer.{Answer as Said}
+use Rattle.host_core.specs.declared.question.Answer.{Answer as ApplicationAnswer}
 use Rattle.host_core.specs.declared.question.Ticket.{Ticket}
 use Rattle.world3270.proofs.Answered.{IsDone, by_act, by_answer}
-use Rattle.world3270.proofs.StandsSizes.{is_narrow}
+use Rattle.world3270.proofs.RepresentsSizes.{is_narrow}
 use Rattle.world3270.proofs.Down.{shape_of_model}
 use Rattle.codes3270.specs.declared.size.Model.{Model}
 use Rattle.std.specs.Prelude.{All, ◌&&◌}
@@ -27,33 +27,33 @@ use Rattle.host_core.specs.Messages.{ToTerminal}
 use Rattle.host_core.specs.NoteLaws.{IsNoteOf}
 use Rattle.host_core.specs.Notes.{note_command, may_note, noted, noted_as}
 use Rattle.host_core.specs.Says.{item_sent}
-use Rattle.host_core.specs.Session.{Conn, is_agreed}
+use Rattle.host_core.specs.Session.{Session, is_agreed}
 use Rattle.host_core.specs.Reports.{no_reports}
 use Rattle.host_core.specs.State.{Host, Connection, Service, unused, most_connections, connection_at, service_at, with_connection, session_at}
 use Rattle.host_core.specs.declared.acted.Acted.{Acted}
 use Rattle.host_core.specs.declared.acted.Acted.TheVariants as acted_as
 use Rattle.panels.specs.Panel.{Panels}
-use Rattle.world3270.specs.Known.{Known}
-use Rattle.world3270.specs.ByteSteps.{OnConnection, answer_acted, is_link}
-use Rattle.world3270.specs.ByteWorld.{ByteWorld, Transits, is_there, transits_at, with_host, host_there, host_out, out_of}
-use Rattle.world3270.specs.Given.{Given}
-use Rattle.world3270.specs.Happens.{done}
-use Rattle.world3270.specs.Link.{Link, sent, host_sent}
-use Rattle.world3270.specs.Numbers.{IsNumber}
-use Rattle.world3270.specs.Placed.{has_place as has_place_over_messages, host_is_answered}
-use Rattle.world3270.specs.Places.{EndsAgree}
-use Rattle.world3270.specs.Refines.{Begin, IsBegin, Reached, GoesOn, SkipsAreThose, once, after, once_taken}
-use Rattle.world3270.specs.TrackedTerminals.{TrackedTerminal}
-use Rattle.world3270.specs.Sendable.{IsTyped, PaintsAScreen, IsSpelt}
-use Rattle.world3270.specs.Standing.{WorldStands, IsFlow, AreTransits, IsNotClosed, IsSettled, conn_of, tracked_of, link_with}
-use Rattle.world3270.specs.Stands.{ByteLink, LinkStands}
-use Rattle.world3270.specs.StandsEnds.{PaintStands}
-use Rattle.world3270.specs.StandsLinks.{said_down, sent_down, HostSends, NopStands}
-use Rattle.world3270.specs.World.{World, Event, IsEvent, with_link, new_world}
+use Rattle.world3270.specs.refinement.MessageLaws.{MessageLaws}
+use Rattle.world3270.specs.model.ByteSteps.{OnConnection, answer_acted, is_link}
+use Rattle.world3270.specs.model.ByteWorld.{ByteWorld, Transits, is_there, transits_at, with_host, host_there, host_out, out_of}
+use Rattle.world3270.specs.refinement.LowerLaws.{LowerLaws}
+use Rattle.world3270.specs.model.Steps.{done}
+use Rattle.world3270.specs.model.Link.{Link, sent, host_sent}
+use Rattle.world3270.specs.statement.Numbers.{IsNumber}
+use Rattle.world3270.specs.model.Enabled.{is_enabled as is_enabled_over_messages, host_is_answered}
+use Rattle.world3270.specs.model.Places.{EndsAgree}
+use Rattle.world3270.specs.refinement.Refines.{Begin, IsBegin, Reached, GoesOn, SkipsAreThose, once, after, once_taken}
+use Rattle.world3270.specs.model.TrackedTerminals.{TrackedTerminal}
+use Rattle.world3270.specs.refinement.Sendable.{IsWellFormed, PaintsAScreen, IsSpelt}
+use Rattle.world3270.specs.refinement.Representation.{WorldRepresents, IsFlow, AreTransits, IsNotClosed, IsSettled, conn_of, tracked_of, link_with}
+use Rattle.world3270.specs.refinement.Represents.{ByteLink, LinkRepresents}
+use Rattle.world3270.specs.refinement.RepresentsEnds.{PaintRepresents}
+use Rattle.world3270.specs.refinement.RepresentsLinks.{said_down, sent_down, HostSends, NopRepresents}
+use Rattle.world3270.specs.model.World.{World, Event, IsEvent, with_link, new_world}
 use Rattle.world3270.specs.declared.event.Event.TheVariants as event
 use Rattle.world3270.specs.declared.event.Stepped.{Stepped}
 use Rattle.world3270.proofs.Frames.{beyond_is_alone, changed_stands, flow_there, connection_other, connection_same, connection_within, link_there, sits_same, there_settled, with_parts}
-use Rattle.world3270.proofs.ItemsSpelt.{Spells, Suits, spells}
+use Rattle.world3270.proofs.ItemsSpelt.{Spells, MayBeGranted, spells}
 use Rattle.world3270.proofs.Known.{Facts, Goes, facts_now, facts_once, is_application, reached_more, reached_one, reached_still}
 use Rattle.world3270.proofs.OneOfMany.{with_other, with_same}
 use Rattle.world3270.proofs.UnderWay.{lost_says, more_flows, more_under_way}
@@ -103,12 +103,12 @@ told_link here number old sending below there going flow =
     ∙ connection_says here transits (out_of here old) (tracked_of here old) sending (service_at number old.host) (host_out number old) there going flow
 
 -- on a lost connection what is said vanishes; else it stands for what is sent
-said_stands : HostSends → (bytes : ByteLink) (link : Link) (sending : Sent) → LinkStands bytes link → (link.lost ≡ false → Spells sending.message)
-    → LinkStands (said_down sending.conn (item_sent sending.message ∷ []) bytes) (sent_down sending.conn (sending.message ∷ []) link)
+said_stands : HostSends → (bytes : ByteLink) (link : Link) (sending : Sent) → LinkRepresents bytes link → (link.lost ≡ false → Spells sending.message)
+    → LinkRepresents (said_down sending.conn (item_sent sending.message ∷ []) bytes) (sent_down sending.conn (sending.message ∷ []) link)
 said_stands sends bytes link sending stands good = by_loss link.lost refl
   where
     by_loss : (lost : Bool) → link.lost ≡ lost
-        → LinkStands (said_down sending.conn (item_sent sending.message ∷ []) bytes) (sent_down sending.conn (sending.message ∷ []) link)
+        → LinkRepresents (said_down sending.conn (item_sent sending.message ∷ []) bytes) (sent_down sending.conn (sending.message ∷ []) link)
     by_loss true is = lost_says sends bytes link sending.conn (item_sent sending.message ∷ []) (sending.message ∷ []) stands is
     by_loss false is =
         let spelt : Spells sending.message = good is in
@@ -120,17 +120,17 @@ said_stands sends bytes link sending stands good = by_loss link.lost refl
 abbrev says : Sent → ℕ → World → World
 says sending number world = with_link number (host_sent (Some sending) (world.link number)) world
 
-still_open : (conn : Conn) (service : Service) → IsNotClosed service → IsNotClosed (with_conn conn service)
+still_open : (conn : Session) (service : Service) → IsNotClosed service → IsNotClosed (with_conn conn service)
 still_open conn Service.Free going = tt
 still_open conn (Service.Open rest old) going = tt
 still_open conn (Service.Closed cause) going = going
 
-still_there : (conn : Conn) (service : Service) → is_there service ≡ true → is_there (with_conn conn service) ≡ true
+still_there : (conn : Session) (service : Service) → is_there service ≡ true → is_there (with_conn conn service) ≡ true
 still_there conn Service.Free there = there
 still_there conn (Service.Open rest old) there = refl
 still_there conn (Service.Closed cause) there = refl
 
-module _ (sends : HostSends) (number : ℕ) (old : ByteWorld) (world : World) (sending : Sent) (stands : WorldStands old world)
+module _ (sends : HostSends) (number : ℕ) (old : ByteWorld) (world : World) (sending : Sent) (stands : WorldRepresents old world)
     (below : number < most_connections) (there : host_there number old ≡ true) (good : (world.link number).lost ≡ false → Spells sending.message) where
   in_connections : number < length old.host.connections
   in_connections = connection_within number old world stands below
@@ -148,14 +148,14 @@ module _ (sends : HostSends) (number : ℕ) (old : ByteWorld) (world : World) (s
     up = subst (λ (out : List ℕ). IsFlow (is_some here) out (transits_at number old).up) (sym (sits_same here old (told sending number old) refl).0) are.up;
   }
 
-  told_stands_here : (here : Option ℕ) → LinkStands (link_with here number old) (world.link number)
-      → LinkStands (link_with here number (told sending number old)) (host_sent (Some sending) (world.link number))
+  told_stands_here : (here : Option ℕ) → LinkRepresents (link_with here number old) (world.link number)
+      → LinkRepresents (link_with here number (told sending number old)) (host_sent (Some sending) (world.link number))
   told_stands_here here stood =
-      subst (λ (b : ByteLink). LinkStands b (host_sent (Some sending) (world.link number)))
+      subst (λ (b : ByteLink). LinkRepresents b (host_sent (Some sending) (world.link number)))
       (sym (told_link here number old sending in_connections there (stands.none_closed number) goes_down))
       (said_stands sends (link_with here number old) (world.link number) sending stood good)
 
-  told_stands : EndsAgree world → EndsAgree (says sending number world) → WorldStands (told sending number old) (says sending number world)
+  told_stands : EndsAgree world → EndsAgree (says sending number world) → WorldRepresents (told sending number old) (says sending number world)
   told_stands agree agrees =
       let now = with_same number (host_sent (Some sending) (world.link number)) world.link in
       changed_stands number (length old.slots) old (told sending number old) world (says sending number world)
@@ -180,7 +180,7 @@ module _ (sends : HostSends) (number : ℕ) (old : ByteWorld) (world : World) (s
             (there_settled (sent_on sending (connection_at number old.host)) (still_there sending.conn (service_at number old.host) there));
         flow = subst (λ (l : Link). AreTransits l.term_here number (told sending number old)) (sym now)
             (told_flow (world.link number).term_here (flow_there number old world agree stands));
-        link = subst (λ (l : Link). LinkStands (link_with l.term_here number (told sending number old)) l) (sym now)
+        link = subst (λ (l : Link). LinkRepresents (link_with l.term_here number (told sending number old)) l) (sym now)
             (told_stands_here (world.link number).term_here (link_there number old world agree stands));
         place = stands.places (length old.slots);
       })
@@ -200,7 +200,7 @@ bound_there (Service.Closed cause) is = absurd (cc)
 if_may : (may : Bool) (one other : Connection) → may ≡ true → (if may then one else other) ≡ one
 if_may may one other is = rw is refl
 
-module _ (nop : NopStands) (number : ℕ) (old : ByteWorld) (world : World) (stands : WorldStands old world)
+module _ (nop : NopRepresents) (number : ℕ) (old : ByteWorld) (world : World) (stands : WorldRepresents old world)
     (below : number < most_connections) (there : host_there number old ≡ true) where
   connection_is : connection_at number (nop_told number old).host ≡ with_nop (connection_at number old.host)
   connection_is = connection_same number (with_nop (connection_at number old.host)) old.host (connection_within number old world stands below)
@@ -229,11 +229,11 @@ module _ (nop : NopStands) (number : ℕ) (old : ByteWorld) (world : World) (sta
     up = subst (λ (out : List ℕ). IsFlow (is_some here) out (transits_at number old).up) (sym (sits_same here old (nop_told number old) refl).0) are.up;
   }
 
-  nop_stands_here : (here : Option ℕ) → LinkStands (link_with here number old) (world.link number) → LinkStands (link_with here number (nop_told number old)) (world.link number)
+  nop_stands_here : (here : Option ℕ) → LinkRepresents (link_with here number old) (world.link number) → LinkRepresents (link_with here number (nop_told number old)) (world.link number)
   nop_stands_here here stood =
-      subst (λ (b : ByteLink). LinkStands b (world.link number)) (sym (nop_link here)) (nop (link_with here number old) (world.link number) stood)
+      subst (λ (b : ByteLink). LinkRepresents b (world.link number)) (sym (nop_link here)) (nop (link_with here number old) (world.link number) stood)
 
-  nop_told_stands : EndsAgree world → WorldStands (nop_told number old) world
+  nop_told_stands : EndsAgree world → WorldRepresents (nop_told number old) world
   nop_told_stands agree =
       changed_stands number (length old.slots) old (nop_told number old) world world
       (record {
@@ -260,19 +260,19 @@ module _ (nop : NopStands) (number : ℕ) (old : ByteWorld) (world : World) (sta
       agree stands agree
 
 -- Keeping a connection alive is nothing over messages.
-pub keep_alive_goes : Known → (number : ℕ) → Goes (event.KeepAlive number)
-keep_alive_goes known number begin events old answer new is reached real place happens =
+pub keep_alive_goes : MessageLaws → (number : ℕ) → Goes (event.KeepAlive number)
+keep_alive_goes known number begin events old answer new is reached real place stepped_by =
     let parts = and_parts (is_link number) (may_keep_alive (connection_at number old.host)) place in
     let bound = and_parts (is_bound (service_at number old.host)) (length (host_out number old) == 0) parts.1 in
     let made : new ≡ nop_told number old =
-    happens.1
+    stepped_by.1
     ∙ ap (λ (c : Connection). with_host (with_connection number c old.host) old)
     (if_may (may_keep_alive (connection_at number old.host)) (with_nop (connection_at number old.host)) (connection_at number old.host) parts.1) in
     record {
       more = [];
       comes_to = refl;
-      reached = reached_more begin events [] old new reached tt (All-nil IsTyped) (ap (λ (w : ByteWorld). w.host.panels) made)
-          (subst (λ (w : ByteWorld). WorldStands w (after begin events)) (sym made)
+      reached = reached_more begin events [] old new reached tt (All-nil IsWellFormed) (ap (λ (w : ByteWorld). w.host.panels) made)
+          (subst (λ (w : ByteWorld). WorldRepresents w (after begin events)) (sym made)
           (nop_told_stands known.links.nop number old (after begin events) reached.stands (ltb-true number most_connections parts.0)
           (bound_there (service_at number old.host) bound.0) (facts_now known.worlds begin events old is reached).agree));
     }
@@ -294,33 +294,33 @@ only_if : (b : Bool) (one sending : Sent) → (if b then Some one else None) ≡
 only_if true one sending is = cc
 only_if false one sending is = absurd (cc)
 
-decided_sent : (app : Application) (conn : Conn) (b : Bool) (decision : Decision) (sending : Sent) → option_and_then (decided app conn) (if b then Some decision else None) ≡ Some sending
+decided_sent : (app : Application) (conn : Session) (b : Bool) (decision : Decision) (sending : Sent) → option_and_then (decided app conn) (if b then Some decision else None) ≡ Some sending
     → (act : Act) × (sending ≡ done_act app conn act)
 decided_sent app conn true (Decision.Do act) sending is = (act, cc)
 decided_sent app conn true Decision.Asks sending is = absurd (cc)
 decided_sent app conn false decision sending is = absurd (cc)
 
-pub act_sent : (app : Application) (conn : Conn) (sending : Sent) → acted app conn ≡ Some sending → (act : Act) × (sending ≡ done_act app conn act)
+pub act_sent : (app : Application) (conn : Session) (sending : Sent) → acted app conn ≡ Some sending → (act : Act) × (sending ≡ done_act app conn act)
 act_sent app conn sending is = decided_sent app conn (may_act conn.turn conn.pending (is_agreed conn.talk.state)) (decision_on app conn conn.turn_reason) sending is
 
 if_some : (b : Bool) (what : Option Sent) (sending : Sent) → (if b then what else None) ≡ Some sending → what ≡ Some sending
 if_some true what sending is = is
 if_some false what sending is = absurd (cc)
 
-pub answering : (app : Application) (session : ℕ) (ticket : Ticket) (said : Said) (service : Service) (sending : Sent) → answered_by app session ticket said service ≡ Some sending
+pub answering : (app : Application) (session : ℕ) (ticket : Ticket) (said : ApplicationAnswer) (service : Service) (sending : Sent) → answered_by app session ticket said service ≡ Some sending
     → (is_there service ≡ true) × (answered_on app (conn_of service) said ≡ Some sending)
 answering app session ticket said Service.Free sending is = absurd (cc)
 answering app session ticket said (Service.Open rest conn) sending is = (refl, if_some (is_ticket ticket (ticket_of session conn)) (answered_on app conn said) sending is)
 answering app session ticket said (Service.Closed cause) sending is = absurd (cc)
 
-pub answer_sent : (app : Application) (conn : Conn) (said : Said) (sending : Sent) → answered_on app conn said ≡ Some sending → sending ≡ done_act app conn (act_by app conn said said.panel)
+pub answer_sent : (app : Application) (conn : Session) (said : ApplicationAnswer) (sending : Sent) → answered_on app conn said ≡ Some sending → sending ≡ done_act app conn (act_by app conn said said.panel)
 answer_sent app conn said sending is = only_if (is_asking app conn && has_its_panel app said) (done_act app conn (act_by app conn said said.panel)) sending is
 
-pub note_sent : (text : List ℕ) (conn : Conn) (sending : Sent) → noted text conn ≡ Some sending → sending ≡ noted_as text conn
+pub note_sent : (text : List ℕ) (conn : Session) (sending : Sent) → noted text conn ≡ Some sending → sending ≡ noted_as text conn
 note_sent text conn sending is = only_if (may_note conn.turn conn.pending (is_agreed conn.talk.state)) (noted_as text conn) sending is
 
 -- an act's command fits where it is sent
-pub act_suits : (size : Shape) (shadow : Shadow) (message : ToTerminal) → PaintsWhatFits size shadow message → Suits message
+pub act_suits : (size : Shape) (shadow : Shadow) (message : ToTerminal) → PaintsWhatFits size shadow message → MayBeGranted message
 act_suits size shadow (ToTerminal.TalksDown saying) paints = absurd paints
 act_suits size shadow (ToTerminal.Paint number wanted over) paints = subst (λ (s : Shadow). is_paintable s wanted ≡ true) (sym paints.1) paints.0.fits
 act_suits size shadow (ToTerminal.ReadBuffer number) paints = tt
@@ -366,12 +366,12 @@ went_on begin events message number sending old new answer host acted_as.Memory 
 }
 went_on begin events message number sending old new answer host acted_as.Nothing does others answers leaves before reached = absurd does
 
-module _ (known : Known) (skips : SkipsAreThose) (given : Given) (stands_for : PaintStands) (bounded : PaintIsBounded) where
+module _ (known : MessageLaws) (skips : SkipsAreThose) (given : LowerLaws) (stands_for : PaintRepresents) (bounded : PaintIsBounded) where
   -- The world stands for the one in which the message was sent.
   told_reached : (begin : Begin) (events : List Event) (message : Event) (number : ℕ) (sending : Sent) (old : ByteWorld) → IsBegin begin → Reached begin events old
-      → IsEvent message → IsTyped message → has_place_over_messages (application_of begin.panels) message (after begin events) ≡ true
+      → IsEvent message → IsWellFormed message → is_enabled_over_messages (application_of begin.panels) message (after begin events) ≡ true
       → done (application_of begin.panels) message (after begin events) ≡ says sending number (after begin events)
-      → number < most_connections → host_there number old ≡ true → Suits sending.message → Reached begin (events ++ message ∷ []) (told sending number old)
+      → number < most_connections → host_there number old ≡ true → MayBeGranted sending.message → Reached begin (events ++ message ∷ []) (told sending number old)
   told_reached begin events message number sending old is reached such typed place is_done below there suits =
       let world : World = after begin events in
       let link : Link = world.link number in
@@ -380,7 +380,7 @@ module _ (known : Known) (skips : SkipsAreThose) (given : Given) (stands_for : P
       subst (λ (w : World). Facts w) is_done (facts_once known.worlds begin events message old is reached such typed place) in
       let now = with_same number (host_sent (Some sending) link) world.link in
       reached_one begin events message old (told sending number old) reached such typed place refl
-      (subst (λ (w : World). WorldStands (told sending number old) w) (sym is_done)
+      (subst (λ (w : World). WorldRepresents (told sending number old) w) (sym is_done)
       (told_stands known.links.sends number old world sending reached.stands below there
       (λ up. spells stands_for bounded sending.message suits (record {
         screen = last_sent PaintsAScreen link.lost link.down sending.message up (subst (λ (l : Link). All PaintsAScreen l.down) now (behind.paints number));
@@ -398,9 +398,9 @@ module _ (known : Known) (skips : SkipsAreThose) (given : Given) (stands_for : P
       (link.host (sym link.host_here ∙ there)).host
 
   pub act_goes : (number : ℕ) → Goes (event.Act number)
-  act_goes number begin events old answer new is reached real place happens =
+  act_goes number begin events old answer new is reached real place stepped_by =
       let parts = and_parts (is_link number) (is_some (acted_by (application_of old.host.panels) (service_at number old.host))) place in
-      by_does (acted_by (application_of old.host.panels) (service_at number old.host)) refl parts.1 happens
+      by_does (acted_by (application_of old.host.panels) (service_at number old.host)) refl parts.1 stepped_by
     where
       by_does : (does : Option Sent) → acted_by (application_of old.host.panels) (service_at number old.host) ≡ does → is_some does ≡ true → OnConnection (HostDoes does) number old answer new
           → GoesOn begin events (event.Act number) old answer new
@@ -411,10 +411,10 @@ module _ (known : Known) (skips : SkipsAreThose) (given : Given) (stands_for : P
           let below : number < most_connections = ltb-true number most_connections (and_parts (is_link number) _ place).0 in
           let found = acting app (service_at number old.host) sending
           (ap (λ (panels : Panels). acted_by (application_of panels) (service_at number old.host)) (sym reached.panels) ∙ e) in
-          let does : acted app link.host ≡ Some sending = ap (λ (c : Conn). acted app c) (sym (same_conn begin events old number reached found.0)) ∙ found.1 in
-          let suits : Suits sending.message =
+          let does : acted app link.host ≡ Some sending = ap (λ (c : Session). acted app c) (sym (same_conn begin events old number reached found.0)) ∙ found.1 in
+          let suits : MayBeGranted sending.message =
           let sent_by = act_sent app link.host sending does in
-          subst (λ (s : Sent). Suits s.message) (sym sent_by.1)
+          subst (λ (s : Sent). MayBeGranted s.message) (sym sent_by.1)
           (act_suits _ _ _ (known.worlds.given.belief.fit app link.host sent_by.0 (is_application known.worlds begin is))) in
           let went = went_on begin events (Event.Act number) number sending old new answer acts.host acts.act (by_act (Some sending) (connection_at number old.host) acts.act (connection_at number acts.host) acts.acts) acts.others acts.answers acts.leaves reached
           (told_reached begin events (Event.Act number) number sending old is reached tt tt (sym (skips begin events (event.Act number) old is reached tt) ∙ place)
@@ -422,7 +422,7 @@ module _ (known : Known) (skips : SkipsAreThose) (given : Given) (stands_for : P
           record { more = went.more; comes_to = went.is_once; reached = went.reached }
 
   -- it has a place over messages
-  answer_has_place : (app : Application) (said : Said) (number : ℕ) (link : Link) (sending : Sent) → is_link number ≡ true → link.host_here ≡ true → answered_on app link.host said ≡ Some sending
+  answer_has_place : (app : Application) (said : ApplicationAnswer) (number : ℕ) (link : Link) (sending : Sent) → is_link number ≡ true → link.host_here ≡ true → answered_on app link.host said ≡ Some sending
       → (is_link number && host_is_answered app said link) ≡ true
   answer_has_place app said number link sending linked here does =
       ap (λ (b : Bool). b && host_is_answered app said link) linked ∙ ap (λ (b : Bool). b && is_some (answered_on app link.host said)) here ∙ ap (λ (o : Option Sent). is_some o) does
@@ -437,11 +437,11 @@ module _ (known : Known) (skips : SkipsAreThose) (given : Given) (stands_for : P
   does_something sending old acted_as.Memory new does nothing = absurd (cc)
   does_something sending old acted_as.Nothing new does nothing = does
 
-  pub answer_goes : (number : ℕ) (ticket : Ticket) (said : Said) → Goes (event.Answer number ticket said)
-  answer_goes number ticket said begin events old answer new is reached real place happens =
+  pub answer_goes : (number : ℕ) (ticket : Ticket) (said : ApplicationAnswer) → Goes (event.Answer number ticket said)
+  answer_goes number ticket said begin events old answer new is reached real place stepped_by =
       let session : ℕ = session_at number old.host in
       let parts = and_parts (is_link number) (is_some (answered_by (application_of old.host.panels) session ticket said (service_at number old.host))) place in
-      by_does (answered_by (application_of old.host.panels) session ticket said (service_at number old.host)) refl parts.0 parts.1 happens
+      by_does (answered_by (application_of old.host.panels) session ticket said (service_at number old.host)) refl parts.0 parts.1 stepped_by
     where
       by_does : (does : Option Sent) → answered_by (application_of old.host.panels) (session_at number old.host) ticket said (service_at number old.host) ≡ does → is_link number ≡ true → is_some does ≡ true
           → OnConnection (DoesAnswer (application_of old.host.panels) said does) number old answer new → GoesOn begin events (event.Answer number ticket said) old answer new
@@ -452,10 +452,10 @@ module _ (known : Known) (skips : SkipsAreThose) (given : Given) (stands_for : P
           let below : number < most_connections = ltb-true number most_connections linked in
           let found = answering app (session_at number old.host) ticket said (service_at number old.host) sending
           (ap (λ (panels : Panels). answered_by (application_of panels) (session_at number old.host) ticket said (service_at number old.host)) (sym reached.panels) ∙ e) in
-          let does : answered_on app link.host said ≡ Some sending = ap (λ (c : Conn). answered_on app c said) (sym (same_conn begin events old number reached found.0)) ∙ found.1 in
+          let does : answered_on app link.host said ≡ Some sending = ap (λ (c : Session). answered_on app c said) (sym (same_conn begin events old number reached found.0)) ∙ found.1 in
           let here : link.host_here ≡ true = sym (reached.stands.links number).host_here ∙ found.0 in
-          let suits : Suits sending.message =
-          subst (λ (s : Sent). Suits s.message) (sym (answer_sent app link.host said sending does))
+          let suits : MayBeGranted sending.message =
+          subst (λ (s : Sent). MayBeGranted s.message) (sym (answer_sent app link.host said sending does))
           (act_suits _ _ _ (known.worlds.given.belief.fit app link.host (act_by app link.host said said.panel) (is_application known.worlds begin is))) in
           let done : IsDone (Some sending) (connection_at number old.host) acts.act (connection_at number acts.host) =
           by_answer (application_of old.host.panels) said (Some sending) (connection_at number old.host) acts.act (connection_at number acts.host) acts.acts in
@@ -469,9 +469,9 @@ module _ (known : Known) (skips : SkipsAreThose) (given : Given) (stands_for : P
           }
 
   pub note_goes : (number : ℕ) (text : List ℕ) → Goes (event.Note number text)
-  note_goes number text begin events old answer new is reached real place happens =
+  note_goes number text begin events old answer new is reached real place stepped_by =
       let parts = and_parts (is_link number) (is_some (noted_by text (service_at number old.host))) place in
-      by_does (noted_by text (service_at number old.host)) refl parts.1 happens
+      by_does (noted_by text (service_at number old.host)) refl parts.1 stepped_by
     where
       by_does : (does : Option Sent) → noted_by text (service_at number old.host) ≡ does → is_some does ≡ true → OnConnection (HostDoes does) number old answer new
           → GoesOn begin events (event.Note number text) old answer new
@@ -482,14 +482,14 @@ module _ (known : Known) (skips : SkipsAreThose) (given : Given) (stands_for : P
           let link : Link = (after begin events).link number in
           let below : number < most_connections = ltb-true number most_connections (and_parts (is_link number) _ place).0 in
           let found = noting text (service_at number old.host) sending e in
-          let does : noted text link.host ≡ Some sending = ap (λ (c : Conn). noted text c) (sym (same_conn begin events old number reached found.0)) ∙ found.1 in
+          let does : noted text link.host ≡ Some sending = ap (λ (c : Session). noted text c) (sym (same_conn begin events old number reached found.0)) ∙ found.1 in
           let kept = (run_good given app app_is events (new_world app begin.serves begin.pool begin.models) reached.are_events
           (new_good given app app_is begin.serves begin.pool begin.models is.pool)).links number in
           let model : Model = link.term.display.model in
-          let note : IsNoteOf link.host.shape (note_command link.host.shape text) = record { text = text; is_text = real.0; is = refl } in
-          let suits : Suits sending.message =
-          subst (λ (s : Sent). Suits s.message) (sym (note_sent text link.host sending does))
-          (link.host.shape, shape_of_model app model link.host.shape app_is kept.sizes.host, is_narrow model link.host.shape kept.sizes.host, note) in
+          let note : IsNoteOf link.host.size (note_command link.host.size text) = record { text = text; is_text = real.0; is = refl } in
+          let suits : MayBeGranted sending.message =
+          subst (λ (s : Sent). MayBeGranted s.message) (sym (note_sent text link.host sending does))
+          (link.host.size, shape_of_model app model link.host.size app_is kept.sizes.host, is_narrow model link.host.size kept.sizes.host, note) in
           let went = went_on begin events (Event.Note number text) number sending old new answer acts.host acts.act (by_act (Some sending) (connection_at number old.host) acts.act (connection_at number acts.host) acts.acts) acts.others acts.answers acts.leaves reached
           (told_reached begin events (Event.Note number text) number sending old is reached real.0 tt (sym (skips begin events (event.Note number text) old is reached tt) ∙ place)
           (ap (λ (o : Option Sent). with_link number (host_sent o link) (after begin events)) does) below found.0 suits) in

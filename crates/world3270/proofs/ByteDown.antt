@@ -21,22 +21,22 @@ use Rattle.tn3270e_msg.specs.declared.cause.Cause.{Cause}
 use Rattle.tn3270e_msg.specs.declared.cause.Cause.TheVariants.{Wire}
 use Rattle.tn3270e_msg.specs.declared.cause.Stop.{Stop}
 use Rattle.tn3270e_msg.specs.declared.cause.Stop.TheVariants as stop
-use Rattle.world3270.specs.Known.{Known}
-use Rattle.world3270.specs.ByteSteps.{ComesDown, GoesDown, HappensIf, down_came, has_place, host_told, terminal_gone_if}
-use Rattle.world3270.specs.ByteWorld.{ByteWorld, Transit, Transits, TerminalSlot, came, terminal_there, down_of, is_senders, is_there, no_slot, slot_at, terminal_at, unused_transits, transits_at, with_slot}
-use Rattle.world3270.specs.Deliveries.{rest_at, rest_of_terminal, taken_by, terminal_rest}
-use Rattle.world3270.specs.Happens.{closed_if, came_down, done, happens, place_after, run, said, term_took_it, went_down}
-use Rattle.world3270.specs.Link.{Link, term_left_if, term_stepped}
-use Rattle.world3270.specs.Placed.{comes_down, is_link, is_queued}
-use Rattle.world3270.specs.Refines.{Begin, IsBegin, Reached, GoesOn, after}
-use Rattle.world3270.specs.TrackedTerminals.{TrackedTerminal, TrackedTakes}
-use Rattle.world3270.specs.Sendable.{CanBeSent, IsTyped}
-use Rattle.world3270.specs.Standing.{WorldStands, with_out}
-use Rattle.world3270.specs.Stands.{BytesDown, ByteLink, LinkStands, StandsUp, without_nops}
-use Rattle.world3270.specs.StandsLinks.{IsReady, NoneCloses, took_down}
-use Rattle.world3270.specs.Terminal.{TermEnd, TermStep, took as term_took}
-use Rattle.world3270.specs.Unbroken.{SaysNoRefusal, TerminalsRefuseNothing}
-use Rattle.world3270.specs.World.{Place, World, Event as MessageEvent, AreEvents, with_at, display_at}
+use Rattle.world3270.specs.refinement.MessageLaws.{MessageLaws}
+use Rattle.world3270.specs.model.ByteSteps.{ComesDown, GoesDown, IsStepIf, down_came, is_enabled, host_told, terminal_gone_if}
+use Rattle.world3270.specs.model.ByteWorld.{ByteWorld, Transit, Transits, TerminalSlot, came, terminal_there, down_of, is_senders, is_there, no_slot, slot_at, terminal_at, unused_transits, transits_at, with_slot}
+use Rattle.world3270.specs.refinement.Deliveries.{rest_at, rest_of_terminal, taken_by, terminal_rest}
+use Rattle.world3270.specs.model.Steps.{closed_if, came_down, done, stepped_by, place_after, run, said, term_took_it, went_down}
+use Rattle.world3270.specs.model.Link.{Link, term_left_if, term_stepped}
+use Rattle.world3270.specs.model.Enabled.{comes_down, is_link, is_queued}
+use Rattle.world3270.specs.refinement.Refines.{Begin, IsBegin, Reached, GoesOn, after}
+use Rattle.world3270.specs.model.TrackedTerminals.{TrackedTerminal, TrackedTakes}
+use Rattle.world3270.specs.refinement.Sendable.{CanBeSent, IsWellFormed}
+use Rattle.world3270.specs.refinement.Representation.{WorldRepresents, with_out}
+use Rattle.world3270.specs.refinement.Represents.{BytesDown, ByteLink, LinkRepresents, RepresentsUp, without_nops}
+use Rattle.world3270.specs.refinement.RepresentsLinks.{IsReady, NoneCloses, took_down}
+use Rattle.world3270.specs.model.Terminal.{TermEnd, TermStep, took as term_took}
+use Rattle.world3270.specs.statement.Unbroken.{SaysNoRefusal, TerminalsRefuseNothing}
+use Rattle.world3270.specs.model.World.{Place, World, Event as MessageEvent, AreEvents, with_at, display_at}
 use Rattle.world3270.specs.declared.event.Event.TheVariants as event
 use Rattle.world3270.specs.declared.event.Stepped.{Stepped}
 use Rattle.world3270.proofs.ByteTerms.{made_of, AreFlows, BytesWent, GoesOnHere, TermWent, flows_go_on, flows_here, link_goes_on, stands_here, term_went_stands}
@@ -44,7 +44,7 @@ use Rattle.world3270.proofs.Completed.{counted, left_down, seat_reads, taken_is,
 use Rattle.world3270.proofs.Frames.{found_sits, found_within, connection_other, connection_same, connection_within, slot_other, slot_same, who_was_there, way_within, transits_other, transits_same}
 use Rattle.world3270.proofs.Known.{Facts, Goes, facts_now, facts_then, reached_more}
 use Rattle.world3270.proofs.OneOfMany.{with_other, with_same}
-use Rattle.world3270.proofs.StandsLinks.{stayed}
+use Rattle.world3270.proofs.RepresentsLinks.{stayed}
 use Rattle.world3270.proofs.Unbroken.{among, none_negative}
 use Rattle.world3270.proofs.UnderWay.{came_flows, came_live, came_under_way}
 
@@ -135,7 +135,7 @@ one_went number terminal step rest world closes here =
 -- the next message comes
 comes_now : (app : Application) (number terminal : ℕ) (message : ToTerminal) (rest : List ToTerminal) (world : World) → is_link number ≡ true
     → (world.link number).term_here ≡ Some terminal → (world.link number).down ≡ message ∷ rest
-    → happens app (MessageEvent.Down number) world ≡ term_took_it number terminal (term_took (world.link number).term message) rest world
+    → stepped_by app (MessageEvent.Down number) world ≡ term_took_it number terminal (term_took (world.link number).term message) rest world
 comes_now app number terminal message rest world linked here down =
     let link : Link = world.link number in
     let place : (is_link number && comes_down link) ≡ true =
@@ -176,7 +176,7 @@ all_came app number terminal linked [] others world here place down none = recor
 all_came app number terminal linked (message ∷ taken) others world here place down none =
     let link : Link = world.link number in
     let step : TermStep = term_took link.term message in
-    let now : World = happens app (MessageEvent.Down number) world in
+    let now : World = stepped_by app (MessageEvent.Down number) world in
     let next : Link = stayed step (taken ++ others) link in
     let stepped : Link = term_stepped step (taken ++ others) link in
     let went : TermWent number terminal stepped world now =
@@ -289,7 +289,7 @@ not_gone (stop.Closed cause) old new bytes taken terminal number world rest talk
 
 -- ---- the delivery
 
-module _ (known : Known) (begin : Begin) (events : List MessageEvent) (number count terminal : ℕ) (old : ByteWorld) (answer : Stepped) (new : ByteWorld)
+module _ (known : MessageLaws) (begin : Begin) (events : List MessageEvent) (number count terminal : ℕ) (old : ByteWorld) (answer : Stepped) (new : ByteWorld)
     (is : IsBegin begin) (reached : Reached begin events old) (linked : is_link number ≡ true) (found : terminal_at number old.slots ≡ Some terminal)
     (comes : ComesDown terminal number (take count (down_of number old)) old answer new) where
   abbrev world : World
@@ -325,7 +325,7 @@ module _ (known : Known) (begin : Begin) (events : List MessageEvent) (number co
   place : world.place terminal ≡ Place.At number
   place = (world_facts.agree terminal number).1 here
 
-  stood : LinkStands (made_of terminal connection transits slot) link
+  stood : LinkRepresents (made_of terminal connection transits slot) link
   stood = stands_here number terminal old world world_facts.agree reached.stands here
 
   flows : AreFlows connection transits slot
@@ -338,7 +338,7 @@ module _ (known : Known) (begin : Begin) (events : List MessageEvent) (number co
     here = here;
     may = (world_facts.may number).0;
     none = (world_facts.may number).1;
-    sendable = subst (λ (p : Place). let display = display_at world p in CanBeSent display.shape display.screen) place (world_facts.sendable terminal);
+    sendable = subst (λ (p : Place). let display = display_at world p in CanBeSent display.size display.screen) place (world_facts.sendable terminal);
   }
 
   abbrev bytes : ByteLink
@@ -358,7 +358,7 @@ module _ (known : Known) (begin : Begin) (events : List MessageEvent) (number co
   went_down_so =
       let down = known.links.down bytes link front bytes_behind (with_out quiet.said comes.tracked) ready in_two (quiet.takes []) in
       let more : List MessageEvent = replicate (length down.taken) (MessageEvent.Down number) in
-      let typed : All IsTyped more = All-replicate IsTyped (length down.taken) (MessageEvent.Down number) tt in
+      let typed : All IsWellFormed more = All-replicate IsWellFormed (length down.taken) (MessageEvent.Down number) tt in
       let app : Application = application_of begin.panels in
       let now : World = run app more world in
       let next : Link = took_down down.taken down.others link in
@@ -395,14 +395,14 @@ module _ (known : Known) (begin : Begin) (events : List MessageEvent) (number co
       ∙ not_gone comes.fed.stop slot.tracked.terminal comes.tracked.terminal (take count (down_of number old)) taken_bytes terminal number after_it
       (down.stands.term terminal went.here).rest holds.talk comes.feeds.stops holds.attached in
       let next_facts = facts_then known.worlds begin events more old is reached (are_deliveries number (length down.taken)) typed in
-      let stands : WorldStands after_it now = term_went_stands number terminal (record connection { out = out }) (record transits { down = left })
+      let stands : WorldRepresents after_it now = term_went_stands number terminal (record connection { out = out }) (record transits { down = left })
       (record slot { tracked = comes.tracked }) old after_it next world now went_bytes went
       (record {
         none_closed = reached.stands.none_closed number;
         settled = λ free. nothing_then (is_senders transits.down) taken_bytes connection.out (reached.stands.settled number free);
         flows = flows_go_on terminal connection out transits left slot comes.tracked quiet.said bytes_behind flows goes;
         at = found_sits number terminal old found;
-        stands = subst (λ (b : ByteLink). LinkStands b next) (sym (link_goes_on terminal connection out transits left slot comes.tracked quiet.said bytes_behind flows goes)) down.stands;
+        stands = subst (λ (b : ByteLink). LinkRepresents b next) (sym (link_goes_on terminal connection out transits left slot comes.tracked quiet.said bytes_behind flows goes)) down.stands;
       })
       reached.stands world_facts.agree next_facts.agree place in (
         record {
@@ -415,7 +415,7 @@ module _ (known : Known) (begin : Begin) (events : List MessageEvent) (number co
             one_each = as_many_deliveries number (length (without_nops read.0)) (length down.taken) as_many;
           };
           reached = reached_more begin events more old new reached (are_deliveries number (length down.taken)) typed
-              (ap (λ (w : ByteWorld). w.host.panels) made ∙ went_bytes.panels) (subst (λ (w : ByteWorld). WorldStands w now) (sym made) stands);
+              (ap (λ (w : ByteWorld). w.host.panels) made ∙ went_bytes.panels) (subst (λ (w : ByteWorld). WorldRepresents w now) (sym made) stands);
         },
         ap (λ (w : ByteWorld). slot_at terminal w) {x = new} {y = after_it} made ∙ went_bytes.slot_is,
       )
@@ -431,14 +431,14 @@ module _ (known : Known) (begin : Begin) (events : List MessageEvent) (number co
         sent = ap (λ (s : TerminalSlot). s.tracked.terminal.out) went_down_so.1 ∙ quiet.out_is ∙ ap (λ (b : List ℕ). slot.tracked.terminal.out ++ b) said.out;
         fit = said.fit;
         carried_out = λ sequence outcome before behind same.
-            among sequence outcome before behind said.sends (subst (λ (items : List WireItem). Pairwise StandsUp items said.sends) same said.said) said.none;
+            among sequence outcome before behind said.sends (subst (λ (items : List WireItem). Pairwise RepresentsUp items said.sends) same said.said) said.none;
         none = none_negative said.says said.sends said.said said.none;
       }
 
-module _ (known : Known) where
+module _ (known : MessageLaws) where
   -- A delivery of bytes down comes to as many single deliveries as messages were completed.
   pub down_goes : (number count : ℕ) → Goes (event.Down number count)
-  down_goes number count begin events old answer new is reached real place happens = by_here (terminal_at number old.slots) refl happens
+  down_goes number count begin events old answer new is reached real place stepped_by = by_here (terminal_at number old.slots) refl stepped_by
     where
       linked : is_link number ≡ true
       linked = (and_parts (is_link number) (terminal_there number old && is_queued (take count (down_of number old))) place).0
@@ -464,11 +464,11 @@ module _ (known : Known) where
 
   -- A terminal refuses nothing that comes to it.
   pub terminals_refuse_nothing : TerminalsRefuseNothing
-  terminals_refuse_nothing terminal number count old answer new is found steps = by_place (has_place (event.Down number count) old) refl steps
+  terminals_refuse_nothing terminal number count old answer new is found steps = by_place (is_enabled (event.Down number count) old) refl steps
     where
-      by_place : (b : Bool) → has_place (event.Down number count) old ≡ b → HappensIf b (event.Down number count) old answer new → SaysNoRefusal terminal old new
-      by_place true has happens =
+      by_place : (b : Bool) → is_enabled (event.Down number count) old ≡ b → IsStepIf b (event.Down number count) old answer new → SaysNoRefusal terminal old new
+      by_place true has stepped_by =
           let linked = (and_parts (is_link number) (terminal_there number old && is_queued (take count (down_of number old))) has).0 in
           refuses_nothing known is.begin is.events number count terminal old answer new is.is_begin is.reached linked found
-          (subst (λ (h : Option ℕ). GoesDown h number (take count (down_of number old)) old answer new) found happens)
+          (subst (λ (h : Option ℕ). GoesDown h number (take count (down_of number old)) old answer new) found stepped_by)
       by_place false has skipped = says_nothing_then terminal old new skipped.1

@@ -8,19 +8,19 @@ use Rattle.std.proofs.lemmas.List.Elements.{All-nil}
 use Rattle.codes3270.specs.Size.{model_2}
 use Rattle.host_core.specs.Application.{application_of, Application}
 use Rattle.host_core.specs.State.{most_connections}
-use Rattle.world3270.specs.Known.{Known}
-use Rattle.world3270.specs.ByteSteps.{Connects, ConnectsIf, has_place, is_link, is_terminal, is_lost, is_up, sees_loss, may_connect, free_number, lost_transits, host_gone, saw_loss, terminal_anew, host_anew, host_gone_below}
-use Rattle.world3270.specs.ByteWorld.{ByteWorld, TerminalSlot, alone, model_at, new_slot, host_there, slot_at, with_transits}
-use Rattle.world3270.specs.Happens.{done, left_alone, joined, term_saw, term_anew}
-use Rattle.world3270.specs.Placed.{free_number as free_over_messages, has_place as has_place_over_messages}
-use Rattle.world3270.specs.Places.{EndsAgree, UpIsHeld}
-use Rattle.world3270.specs.Refines.{Begin, IsBegin, Reached, GoesOn, ComesTo, SkipsAreThose, BeginIsReached, once, after}
-use Rattle.world3270.specs.Sendable.{IsTyped}
-use Rattle.world3270.specs.Standing.{WorldStands, IsAt}
-use Rattle.world3270.specs.Stands.{StandsUp, all_items}
-use Rattle.world3270.specs.StandsLinks.{TermLeaves}
-use Rattle.world3270.specs.Terminal.{new_display}
-use Rattle.world3270.specs.World.{Place, World, Event as MessageEvent, IsEvent, display_at}
+use Rattle.world3270.specs.refinement.MessageLaws.{MessageLaws}
+use Rattle.world3270.specs.model.ByteSteps.{Connects, ConnectsIf, is_enabled, is_link, is_terminal, is_lost, is_up, sees_loss, may_connect, free_number, lost_transits, host_gone, saw_loss, terminal_anew, host_anew, host_gone_below}
+use Rattle.world3270.specs.model.ByteWorld.{ByteWorld, TerminalSlot, alone, model_at, new_slot, host_there, slot_at, with_transits}
+use Rattle.world3270.specs.model.Steps.{done, left_alone, joined, term_saw, term_anew}
+use Rattle.world3270.specs.model.Enabled.{free_number as free_over_messages, is_enabled as is_enabled_over_messages}
+use Rattle.world3270.specs.model.Places.{EndsAgree, UpIsHeld}
+use Rattle.world3270.specs.refinement.Refines.{Begin, IsBegin, Reached, GoesOn, ComesTo, SkipsAreThose, BeginIsReached, once, after}
+use Rattle.world3270.specs.refinement.Sendable.{IsWellFormed}
+use Rattle.world3270.specs.refinement.Representation.{WorldRepresents, IsAt}
+use Rattle.world3270.specs.refinement.Represents.{RepresentsUp, all_items}
+use Rattle.world3270.specs.refinement.RepresentsLinks.{TermLeaves}
+use Rattle.world3270.specs.model.Terminal.{new_display}
+use Rattle.world3270.specs.model.World.{Place, World, Event as MessageEvent, IsEvent, display_at}
 use Rattle.world3270.specs.declared.event.Event.{Event}
 use Rattle.world3270.specs.declared.event.Event.TheVariants as event
 use Rattle.world3270.specs.declared.event.Stepped.{Stepped}
@@ -31,7 +31,7 @@ use Rattle.world3270.proofs.HostAnew.{host_anew_stands, panels_stay}
 use Rattle.world3270.proofs.Joinings.{begin_stands, connected, connected_stands, begins_alone, found_below}
 use Rattle.world3270.proofs.Known.{Goes, facts_now, facts_once, reached_one, reached_still}
 use Rattle.world3270.proofs.Partings.{host_gone_stands, lost_stands, parted_stands}
-use Rattle.world3270.proofs.Stands.{nothing_stands}
+use Rattle.world3270.proofs.Represents.{nothing_stands}
 
 -- ---- a terminal leaves its connection
 
@@ -39,7 +39,7 @@ at_number : (slot : TerminalSlot) (number other : ℕ) → slot.at ≡ Some numb
 at_number slot number other one another = let same : Some number ≡ Some other = sym one ∙ another in cc
 
 -- what was before the operator stays, with a keyboard that waits
-left_is_alone : (terminal number : ℕ) (old : ByteWorld) (was : World) → EndsAgree was → WorldStands old was → was.place terminal ≡ Place.At number
+left_is_alone : (terminal number : ℕ) (old : ByteWorld) (was : World) → EndsAgree was → WorldRepresents old was → was.place terminal ≡ Place.At number
     → IsAt (alone (slot_at terminal old)) (Place.Alone (left_alone (was.link number).term.display))
 left_is_alone terminal number old was agree stands at =
     let holds : (was.link number).term_here ≡ Some terminal = (agree terminal number).0 at in
@@ -56,31 +56,31 @@ left_is_alone terminal number old was agree stands at =
       },
     )
 
-module _ (leaves : TermLeaves) (terminal : ℕ) (old : ByteWorld) (was : World) (agree : EndsAgree was) (held : UpIsHeld was) (stands : WorldStands old was)
+module _ (leaves : TermLeaves) (terminal : ℕ) (old : ByteWorld) (was : World) (agree : EndsAgree was) (held : UpIsHeld was) (stands : WorldRepresents old was)
     (there : terminal < length old.slots) where
   at_place : (place : Place) → was.place terminal ≡ place → IsAt (slot_at terminal old) place
   at_place place is = subst (λ (p : Place). IsAt (slot_at terminal old) p) is (stands.places terminal)
 
   saw_stands : (at : Option ℕ) (place : Place) → (slot_at terminal old).at ≡ at → was.place terminal ≡ place
-      → EndsAgree (term_saw terminal place was) → WorldStands (saw_loss terminal at old) (term_saw terminal place was)
+      → EndsAgree (term_saw terminal place was) → WorldRepresents (saw_loss terminal at old) (term_saw terminal place was)
   saw_stands None (Place.At number) at is agrees = let here = at_place (Place.At number) is in absurd (cc)
   saw_stands None (Place.Alone display) at is agrees = stands
   saw_stands (Some number) (Place.At other) at is agrees =
       let same : other ≡ number = at_number (slot_at terminal old) number other at (at_place (Place.At other) is) in
-      subst (λ (n : ℕ). WorldStands (saw_loss terminal (Some n) old) (term_saw terminal (Place.At other) was)) same
+      subst (λ (n : ℕ). WorldRepresents (saw_loss terminal (Some n) old) (term_saw terminal (Place.At other) was)) same
       (parted_stands other old was agree stands held leaves terminal (alone (slot_at terminal old)) (left_alone (was.link other).term.display) there is
       (left_is_alone terminal other old was agree stands is) agrees)
   saw_stands (Some number) (Place.Alone display) at is agrees = let none = (at_place (Place.Alone display) is).0 in absurd (cc)
 
   anew_stands : (at : Option ℕ) (place : Place) → (slot_at terminal old).at ≡ at → was.place terminal ≡ place
       → (begin : Begin) → EndsAgree (term_anew (application_of begin.panels) terminal place was)
-      → WorldStands (terminal_anew terminal at old) (term_anew (application_of begin.panels) terminal place was)
+      → WorldRepresents (terminal_anew terminal at old) (term_anew (application_of begin.panels) terminal place was)
   anew_stands None (Place.At number) at is begin agrees = let here = at_place (Place.At number) is in absurd (cc)
   anew_stands None (Place.Alone display) at is begin agrees = alone_stands terminal (new_slot (model_at terminal old)) (new_display display.model model_2) old was agree stands there at
       (begins_alone terminal old display.model (model_here terminal old was agree stands (Place.Alone display) is)) agrees
   anew_stands (Some number) (Place.At other) at is begin agrees =
       let same : other ≡ number = at_number (slot_at terminal old) number other at (at_place (Place.At other) is) in
-      subst (λ (n : ℕ). WorldStands (terminal_anew terminal (Some n) old) (term_anew (application_of begin.panels) terminal (Place.At other) was)) same
+      subst (λ (n : ℕ). WorldRepresents (terminal_anew terminal (Some n) old) (term_anew (application_of begin.panels) terminal (Place.At other) was)) same
       (parted_stands other old was agree stands held leaves terminal (new_slot (model_at terminal old)) (new_display (was.link other).term.display.model model_2) there is
       (begins_alone terminal old (was.link other).term.display.model (model_here terminal old was agree stands (Place.At other) is)) agrees)
   anew_stands (Some number) (Place.Alone display) at is begin agrees = let none = (at_place (Place.Alone display) is).0 in absurd (cc)
@@ -99,23 +99,23 @@ is_alone (Some number) world may = absurd (cc)
 
 -- ---- the begin
 
-pub begin_is_reached : Known → BeginIsReached
+pub begin_is_reached : MessageLaws → BeginIsReached
 begin_is_reached known begin is = record {
   are_events = tt;
-  typed = All-nil IsTyped;
+  typed = All-nil IsWellFormed;
   panels = refl;
-  stands = begin_stands (nothing_stands all_items StandsUp refl known.links.no_bytes known.links.start) begin.serves begin.panels begin.pool begin.models;
+  stands = begin_stands (nothing_stands all_items RepresentsUp refl known.links.no_bytes known.links.start) begin.serves begin.panels begin.pool begin.models;
 }
 
 -- ---- one event
 
-module _ (known : Known) (skips : SkipsAreThose) where
+module _ (known : MessageLaws) (skips : SkipsAreThose) where
   -- it happens once, over bytes as over messages
   goes_once : (it : Event) (message : MessageEvent) (begin : Begin) (events : List MessageEvent) (old : ByteWorld) (answer : Stepped) (new : ByteWorld)
-      → IsBegin begin → Reached begin events old → IsEvent message × IsTyped message
-      → has_place it old ≡ has_place_over_messages (application_of begin.panels) message (after begin events) → has_place it old ≡ true
+      → IsBegin begin → Reached begin events old → IsEvent message × IsWellFormed message
+      → is_enabled it old ≡ is_enabled_over_messages (application_of begin.panels) message (after begin events) → is_enabled it old ≡ true
       → ComesTo it old answer (message ∷ []) → new.host.panels ≡ old.host.panels
-      → (EndsAgree (done (application_of begin.panels) message (after begin events)) → WorldStands new (done (application_of begin.panels) message (after begin events)))
+      → (EndsAgree (done (application_of begin.panels) message (after begin events)) → WorldRepresents new (done (application_of begin.panels) message (after begin events)))
       → GoesOn begin events it old answer new
   goes_once it message begin events old answer new is reached real alike place comes panels stands =
       let there = sym alike ∙ place in
@@ -128,67 +128,67 @@ module _ (known : Known) (skips : SkipsAreThose) where
 
   -- ---- a connection is lost
 
-  within : (number : ℕ) (other : Bool) (old : ByteWorld) (was : World) → WorldStands old was → (is_link number && other) ≡ true → number < length old.links
+  within : (number : ℕ) (other : Bool) (old : ByteWorld) (was : World) → WorldRepresents old was → (is_link number && other) ≡ true → number < length old.links
   within number other old was stands place =
       way_within number old was stands (ltb-true number most_connections (and_parts (is_link number) other place).0)
 
   pub lose_goes : (number : ℕ) → Goes (event.Lose number)
-  lose_goes number begin events old answer new is reached real place happens =
+  lose_goes number begin events old answer new is reached real place stepped_by =
       let f = facts_now known.worlds begin events old is reached in
       let below = within number (is_up number old) old (after begin events) reached.stands place in
       let made : ByteWorld = with_transits number (lost_transits number old) old in
-      subst (λ (w : ByteWorld). GoesOn begin events (event.Lose number) old answer w) (sym happens.1)
+      subst (λ (w : ByteWorld). GoesOn begin events (event.Lose number) old answer w) (sym stepped_by.1)
       (goes_once (event.Lose number) (MessageEvent.Lose number) begin events old answer made is reached real (skips begin events (event.Lose number) old is reached tt) place
-      (ap (λ (a : Stepped). once (MessageEvent.Lose number) a) (sym happens.0)) refl
+      (ap (λ (a : Stepped). once (MessageEvent.Lose number) a) (sym stepped_by.0)) refl
       (lost_stands number old (after begin events) f.agree reached.stands f.up_held known.links.loss below))
 
   -- ---- an end sees that
 
   pub host_sees_goes : (number : ℕ) → Goes (event.HostSees number)
-  host_sees_goes number begin events old answer new is reached real place happens =
+  host_sees_goes number begin events old answer new is reached real place stepped_by =
       let f = facts_now known.worlds begin events old is reached in
       let below = within number (is_lost number old && host_there number old) old (after begin events) reached.stands place in
-      subst (λ (w : ByteWorld). GoesOn begin events (event.HostSees number) old answer w) (sym happens.1)
+      subst (λ (w : ByteWorld). GoesOn begin events (event.HostSees number) old answer w) (sym stepped_by.1)
       (goes_once (event.HostSees number) (MessageEvent.HostSees number) begin events old answer (host_gone number old) is reached real (skips begin events (event.HostSees number) old is reached tt) place
-      (ap (λ (a : Stepped). once (MessageEvent.HostSees number) a) (sym happens.0)) refl
+      (ap (λ (a : Stepped). once (MessageEvent.HostSees number) a) (sym stepped_by.0)) refl
       (host_gone_stands number old (after begin events) f.agree reached.stands f.up_held known.links.host_leaves below))
 
   pub term_sees_goes : (terminal : ℕ) → Goes (event.TermSees terminal)
-  term_sees_goes terminal begin events old answer new is reached real place happens =
+  term_sees_goes terminal begin events old answer new is reached real place stepped_by =
       let f = facts_now known.worlds begin events old is reached in
       let at : Option ℕ = (slot_at terminal old).at in
       let there = ltb-true terminal (length old.slots) (and_parts (is_terminal terminal old) (sees_loss at old) place).0 in
-      subst (λ (w : ByteWorld). GoesOn begin events (event.TermSees terminal) old answer w) (sym happens.1)
+      subst (λ (w : ByteWorld). GoesOn begin events (event.TermSees terminal) old answer w) (sym stepped_by.1)
       (goes_once (event.TermSees terminal) (MessageEvent.TermSees terminal) begin events old answer (saw_loss terminal at old) is reached real (skips begin events (event.TermSees terminal) old is reached tt) place
-      (ap (λ (a : Stepped). once (MessageEvent.TermSees terminal) a) (sym happens.0)) (saw_panels terminal at old)
+      (ap (λ (a : Stepped). once (MessageEvent.TermSees terminal) a) (sym stepped_by.0)) (saw_panels terminal at old)
       (saw_stands known.links.term_leaves terminal old (after begin events) f.agree f.up_held reached.stands there at ((after begin events).place terminal) refl refl))
 
   -- ---- an end begins anew
 
   pub restart_term_goes : (terminal : ℕ) → Goes (event.RestartTerm terminal)
-  restart_term_goes terminal begin events old answer new is reached real place happens =
+  restart_term_goes terminal begin events old answer new is reached real place stepped_by =
       let f = facts_now known.worlds begin events old is reached in
       let at : Option ℕ = (slot_at terminal old).at in
-      subst (λ (w : ByteWorld). GoesOn begin events (event.RestartTerm terminal) old answer w) (sym happens.1)
+      subst (λ (w : ByteWorld). GoesOn begin events (event.RestartTerm terminal) old answer w) (sym stepped_by.1)
       (goes_once (event.RestartTerm terminal) (MessageEvent.RestartTerm terminal) begin events old answer (terminal_anew terminal at old) is reached real (skips begin events (event.RestartTerm terminal) old is reached tt) place
-      (ap (λ (a : Stepped). once (MessageEvent.RestartTerm terminal) a) (sym happens.0)) (anew_panels terminal at old)
+      (ap (λ (a : Stepped). once (MessageEvent.RestartTerm terminal) a) (sym stepped_by.0)) (anew_panels terminal at old)
       (anew_stands known.links.term_leaves terminal old (after begin events) f.agree f.up_held reached.stands (ltb-true terminal (length old.slots) place) at
       ((after begin events).place terminal) refl refl begin))
 
   pub restart_host_goes : Goes event.RestartHost
-  restart_host_goes begin events old answer new is reached real place happens =
+  restart_host_goes begin events old answer new is reached real place stepped_by =
       let f = facts_now known.worlds begin events old is reached in
       let made : ByteWorld = host_anew (host_gone_below most_connections old) in
-      subst (λ (w : ByteWorld). GoesOn begin events event.RestartHost old answer w) (sym happens.1)
+      subst (λ (w : ByteWorld). GoesOn begin events event.RestartHost old answer w) (sym stepped_by.1)
       (goes_once event.RestartHost MessageEvent.RestartHost begin events old answer made is reached real (skips begin events event.RestartHost old is reached tt) place
-      (ap (λ (a : Stepped). once MessageEvent.RestartHost a) (sym happens.0))
+      (ap (λ (a : Stepped). once MessageEvent.RestartHost a) (sym stepped_by.0))
       (panels_stay known.links.host_leaves old (after begin events) f.agree f.up_held reached.stands)
       (λ agrees. host_anew_stands known.links.host_leaves old (after begin events) f.agree f.up_held reached.stands))
 
   -- ---- a terminal connects
 
   pub connect_goes : (terminal : ℕ) (wanted : Option (List ℕ)) → Goes (event.Connect terminal wanted)
-  connect_goes terminal wanted begin events old answer new is reached real place happens = by_found (free_number old) refl happens
+  connect_goes terminal wanted begin events old answer new is reached real place stepped_by = by_found (free_number old) refl stepped_by
     where
       by_found : (found : Option ℕ) → free_number old ≡ found → ConnectsIf terminal wanted found old answer new → GoesOn begin events (event.Connect terminal wanted) old answer new
       by_found None free connects = absurd connects
@@ -210,8 +210,8 @@ module _ (known : Known) (skips : SkipsAreThose) where
           subst (λ (w : ByteWorld). GoesOn begin events (event.Connect terminal wanted) old answer w) (sym made)
           (goes_once (event.Connect terminal wanted) (MessageEvent.Connect terminal wanted) begin events old answer (connected model number terminal wanted old) is reached real (skips begin events (event.Connect terminal wanted) old is reached tt) place
           (ap (λ (a : Stepped). once (MessageEvent.Connect terminal wanted) a) (sym answers)) refl
-          (λ agrees. subst (λ (panels : Panels). WorldStands (connected model number terminal wanted old) (joined (application_of panels) terminal model wanted (free_over_messages was.link) was)) reached.panels
-          (subst (λ (n : Option ℕ). WorldStands (connected model number terminal wanted old) (joined here terminal model wanted n was)) (sym same)
+          (λ agrees. subst (λ (panels : Panels). WorldRepresents (connected model number terminal wanted old) (joined (application_of panels) terminal model wanted (free_over_messages was.link) was)) reached.panels
+          (subst (λ (n : Option ℕ). WorldRepresents (connected model number terminal wanted old) (joined here terminal model wanted n was)) (sym same)
           (connected_stands model number terminal wanted old was known.links.begin f.agree reached.stands below there lonely (model_is terminal old was f.agree reached.stands)
           (subst (λ (n : Option ℕ). EndsAgree (joined here terminal model wanted n was)) same
           (subst (λ (panels : Panels). EndsAgree (joined (application_of panels) terminal model wanted (free_over_messages was.link) was)) (sym reached.panels) agrees))))))

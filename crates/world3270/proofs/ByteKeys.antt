@@ -15,19 +15,19 @@ use Rattle.telnet_wire.specs.Items.{sent_bytes}
 use Rattle.term_core.specs.Presses.{data_pressed, key_outcome, says_of_key, answer_to_key}
 use Rattle.term_core.specs.Records.{data_sent}
 use Rattle.term_core.specs.State.{Link as TermLink, Station, phase_of, is_bound}
-use Rattle.world3270.specs.Known.{Known}
-use Rattle.world3270.specs.ByteSteps.{Presses, answer_pressed}
-use Rattle.world3270.specs.ByteWorld.{ByteWorld, Transits, TerminalSlot, transits_at, slot_at, with_slot}
-use Rattle.world3270.specs.Happens.{key_went, done}
-use Rattle.world3270.specs.Link.{Link, term_stepped}
-use Rattle.world3270.specs.Places.{EndsAgree}
-use Rattle.world3270.specs.Refines.{Begin, IsBegin, Reached, IsReal, GoesOn, SkipsAreThose, after, once}
-use Rattle.world3270.specs.TrackedTerminals.{TrackedTerminal, tracked_after_key}
-use Rattle.world3270.specs.Sendable.{CanBeSent, ScreensAreSendable}
-use Rattle.world3270.specs.Standing.{WorldStands, IsAlone, IsAt, with_out}
-use Rattle.world3270.specs.Stands.{ByteLink, LinkStands, sized}
-use Rattle.world3270.specs.Terminal.{Display, after_key, erases_if, key_came, outcome_of}
-use Rattle.world3270.specs.World.{Place, World, Event as MessageEvent, display_at}
+use Rattle.world3270.specs.refinement.MessageLaws.{MessageLaws}
+use Rattle.world3270.specs.model.ByteSteps.{Presses, answer_pressed}
+use Rattle.world3270.specs.model.ByteWorld.{ByteWorld, Transits, TerminalSlot, transits_at, slot_at, with_slot}
+use Rattle.world3270.specs.model.Steps.{key_went, done}
+use Rattle.world3270.specs.model.Link.{Link, term_stepped}
+use Rattle.world3270.specs.model.Places.{EndsAgree}
+use Rattle.world3270.specs.refinement.Refines.{Begin, IsBegin, Reached, IsReal, GoesOn, SkipsAreThose, after, once}
+use Rattle.world3270.specs.model.TrackedTerminals.{TrackedTerminal, tracked_after_key}
+use Rattle.world3270.specs.refinement.Sendable.{CanBeSent, ScreensAreSendable}
+use Rattle.world3270.specs.refinement.Representation.{WorldRepresents, IsAlone, IsAt, with_out}
+use Rattle.world3270.specs.refinement.Represents.{ByteLink, LinkRepresents, sized}
+use Rattle.world3270.specs.model.Terminal.{Display, after_key, erases_if, key_came, outcome_of}
+use Rattle.world3270.specs.model.World.{Place, World, Event as MessageEvent, display_at}
 use Rattle.world3270.specs.declared.event.Event.TheVariants as event
 use Rattle.world3270.specs.declared.event.Stepped.{Stepped}
 use Rattle.world3270.proofs.ByteTerms.{GoesOnHere, alone_stands, flows_go_on, flows_here, link_goes_on, made_of, stands_here, term_went_stands}
@@ -79,7 +79,7 @@ happens_once event answer pressed is = by_answer pressed ∙ ap (once event) (sy
     by_answer (pressed_as.Refused why) = refl
     by_answer (pressed_as.Send aid) = refl
 
-module _ (known : Known) (key : Key) (terminal : ℕ) (old : ByteWorld) (world : World) (now_facts : Facts world) (stands : WorldStands old world)
+module _ (known : MessageLaws) (key : Key) (terminal : ℕ) (old : ByteWorld) (world : World) (now_facts : Facts world) (stands : WorldRepresents old world)
     (below : terminal < length old.slots) where
   abbrev pressed_at : TerminalSlot
   pressed_at = record (slot_at terminal old) { tracked = tracked_after_key key (slot_at terminal old).tracked }
@@ -89,7 +89,7 @@ module _ (known : Known) (key : Key) (terminal : ℕ) (old : ByteWorld) (world :
 
   -- Wherever the terminal is, the world stands for that after the key.
   key_stands : (place : Place) → world.place terminal ≡ place → EndsAgree (went place) → ScreensAreSendable (went place)
-      → WorldStands (with_slot terminal pressed_at old) (went place)
+      → WorldRepresents (with_slot terminal pressed_at old) (went place)
   key_stands (Place.Alone display) is agrees sendable =
       let at = subst (λ (p : Place). IsAt (slot_at terminal old) p) is (stands.places terminal) in
       alone_stands terminal pressed_at (after_key key display) old world now_facts.agree stands below at.0
@@ -107,11 +107,11 @@ module _ (known : Known) (key : Key) (terminal : ℕ) (old : ByteWorld) (world :
       let next : Link = term_stepped (key_came key link.term) link.down link in
       let is_end = ((stood.term terminal here).holds).is_end in
       let same = outcome_is key slot.tracked.terminal.station link.term.display is_end.keyboard_is is_end.screen_is in
-      let screen : CanBeSent link.term.display.shape (outcome_of key link.term.display).screen =
-      subst (λ (l : Link). CanBeSent l.term.display.shape l.term.display.screen) (with_same number next world.link)
-      (subst (λ (p : Place). let display = display_at (went (Place.At number)) p in CanBeSent display.shape display.screen) is (sendable terminal)) in
+      let screen : CanBeSent link.term.display.size (outcome_of key link.term.display).screen =
+      subst (λ (l : Link). CanBeSent l.term.display.size l.term.display.screen) (with_same number next world.link)
+      (subst (λ (p : Place). let display = display_at (went (Place.At number)) p in CanBeSent display.size display.screen) is (sendable terminal)) in
       let stays = known.links.press key (made_of terminal connection transits slot) link terminal stood here
-      (subst (λ (o : Outcome). CanBeSent link.term.display.shape o.screen) (sym same) screen) in
+      (subst (λ (o : Outcome). CanBeSent link.term.display.size o.screen) (sym same) screen) in
       let said : List ℕ = (tracked_after_key key (with_out [] slot.tracked)).terminal.out in
       let down : List ℕ = (made_of terminal connection transits slot).down in
       let goes : GoesOnHere connection connection.out transits transits.down slot tracked said down = record { live = refl; flow = flows.down; behind_is = refl; out_is = refl } in
@@ -145,11 +145,11 @@ module _ (known : Known) (key : Key) (terminal : ℕ) (old : ByteWorld) (world :
         settled = stands.settled number;
         flows = flows_go_on terminal connection connection.out transits transits.down slot tracked said down flows goes;
         at = at;
-        stands = subst (λ (b : ByteLink). LinkStands b next) (sym (link_goes_on terminal connection connection.out transits transits.down slot tracked said down flows goes)) stays;
+        stands = subst (λ (b : ByteLink). LinkRepresents b next) (sym (link_goes_on terminal connection connection.out transits transits.down slot tracked said down flows goes)) stays;
       })
       stands now_facts.agree agrees is
 
-module _ (known : Known) (skips : SkipsAreThose) where
+module _ (known : MessageLaws) (skips : SkipsAreThose) where
   pressed_on : (terminal : ℕ) (key : Key) (begin : Begin) (events : List MessageEvent) (old : ByteWorld) (answer : Stepped) (new : ByteWorld)
       → IsBegin begin → Reached begin events old → IsReal (event.Key terminal key) → nat_lt terminal (length old.slots) ≡ true
       → Presses terminal key old answer new → GoesOn begin events (event.Key terminal key) old answer new
@@ -169,9 +169,9 @@ module _ (known : Known) (skips : SkipsAreThose) where
         more = press ∷ [];
         comes_to = happens_once press answer (answer_to_key key (slot_at terminal old).tracked.terminal) answers;
         reached = reached_one begin events press old new reached real.0 real.1 has (ap (λ (w : ByteWorld). w.host.panels) made)
-            (subst (λ (w : ByteWorld). WorldStands w (done (application_of begin.panels) press world)) (sym made) stands);
+            (subst (λ (w : ByteWorld). WorldRepresents w (done (application_of begin.panels) press world)) (sym made) stands);
       }
 
   -- A key comes to itself, or to nothing where memory was refused.
   pub key_goes : (terminal : ℕ) (key : Key) → Goes (event.Key terminal key)
-  key_goes terminal key begin events old answer new is reached real place happens = pressed_on terminal key begin events old answer new is reached real place happens
+  key_goes terminal key begin events old answer new is reached real place stepped_by = pressed_on terminal key begin events old answer new is reached real place stepped_by

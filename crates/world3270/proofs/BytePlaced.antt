@@ -7,7 +7,7 @@ use Rattle.host_core.specs.Acts.{acted}
 use Rattle.host_core.specs.Application.{Application, application_of}
 use Rattle.host_core.specs.Does.{acted_by, noted_by}
 use Rattle.host_core.specs.Notes.{noted}
-use Rattle.host_core.specs.Session.{Conn}
+use Rattle.host_core.specs.Session.{Session}
 use Rattle.host_core.specs.State.{Service, service_at, most_connections, session_at}
 use Rattle.panels.specs.Panel.{Panels}
 use Rattle.shadow.specs.Pairs.{Pairwise}
@@ -17,17 +17,17 @@ use Rattle.telnet_wire.specs.Reading.{Rest, nothing, Delivers}
 use Rattle.telnet_wire.specs.Token.{Token, Data, End, Opt as OptToken, Sub as SubToken, Other as OtherToken, text}
 use Rattle.tn3270e_msg.specs.Header.{record_limit}
 use Rattle.host_core.specs.Questions.{answered_by, answered_in, answered_on, is_ticket, ticket_of}
-use Rattle.host_core.specs.declared.question.Answer.{Answer as Said}
+use Rattle.host_core.specs.declared.question.Answer.{Answer as ApplicationAnswer}
 use Rattle.host_core.specs.declared.question.Ticket.{Ticket}
-use Rattle.world3270.specs.ByteSteps.{is_link, is_terminal, is_lost, is_held, is_up, sees_loss, free_from, free_number, may_connect}
-use Rattle.world3270.specs.ByteWorld.{ByteWorld, is_there, is_live, transits_at, slot_at, host_there, terminal_at, terminal_there, up_of, down_of}
-use Rattle.world3270.specs.Deliveries.{BringAMessage, rest_at, rest_of_terminal, terminal_rest}
-use Rattle.world3270.specs.Link.{Link, is_free, is_up as is_link_up}
-use Rattle.world3270.specs.Placed.{is_queued, comes_up, comes_down, host_acts, host_notes, host_sees, terminal_sees, free_number as free_link, may_connect as may_join, host_is_answered}
-use Rattle.world3270.specs.Refines.{SkipsAreThose, after, IsTicketAt}
-use Rattle.world3270.specs.Standing.{WorldStands, IsAt, IsNotClosed, conn_of, link_with}
-use Rattle.world3270.specs.Stands.{StandsDown, StandsUp, BytesStand, LinkStands, all_items, without_nops}
-use Rattle.world3270.specs.World.{Place, World}
+use Rattle.world3270.specs.model.ByteSteps.{is_link, is_terminal, is_lost, is_held, is_up, sees_loss, free_from, free_number, may_connect}
+use Rattle.world3270.specs.model.ByteWorld.{ByteWorld, is_there, is_live, transits_at, slot_at, host_there, terminal_at, terminal_there, up_of, down_of}
+use Rattle.world3270.specs.refinement.Deliveries.{BringAMessage, rest_at, rest_of_terminal, terminal_rest}
+use Rattle.world3270.specs.model.Link.{Link, is_free, is_up as is_link_up}
+use Rattle.world3270.specs.model.Enabled.{is_queued, comes_up, comes_down, host_acts, host_notes, host_sees, terminal_sees, free_number as free_link, may_connect as may_join, host_is_answered}
+use Rattle.world3270.specs.refinement.Refines.{SkipsAreThose, after, IsTicketAt}
+use Rattle.world3270.specs.refinement.Representation.{WorldRepresents, IsAt, IsNotClosed, conn_of, link_with}
+use Rattle.world3270.specs.refinement.Represents.{RepresentsDown, RepresentsUp, BytesRepresent, LinkRepresents, all_items, without_nops}
+use Rattle.world3270.specs.model.World.{Place, World}
 use Rattle.world3270.specs.declared.event.Event.TheVariants as event
 use Rattle.world3270.proofs.Queues.{not_empty}
 
@@ -39,10 +39,10 @@ both_alike false false second other same more = refl
 both_alike true false second other same more = absurd (cc)
 both_alike false true second other same more = absurd (cc)
 
-terminals_alike : (terminal : ℕ) (bytes : ByteWorld) (world : World) → WorldStands bytes world → is_terminal terminal bytes ≡ nat_lt terminal world.terminals
+terminals_alike : (terminal : ℕ) (bytes : ByteWorld) (world : World) → WorldRepresents bytes world → is_terminal terminal bytes ≡ nat_lt terminal world.terminals
 terminals_alike terminal bytes world stands = ap (λ (n : ℕ). nat_lt terminal n) stands.terminals
 
-held_alike : (number : ℕ) (bytes : ByteWorld) (world : World) → WorldStands bytes world
+held_alike : (number : ℕ) (bytes : ByteWorld) (world : World) → WorldRepresents bytes world
     → is_held number bytes ≡ ((world.link number).host_here || is_some (world.link number).term_here)
 held_alike number bytes world stands =
     let link = stands.links number in
@@ -55,28 +55,28 @@ acts_by : (app : Application) (service : Service) (link : Link) → is_there ser
     → is_some (acted_by app service) ≡ host_acts app link
 acts_by app Service.Free link here going same = ap (λ (b : Bool). b && is_some (acted app link.host)) here
 acts_by app (Service.Open rest conn) link here going same =
-    ap (λ (c : Conn). is_some (acted app c)) (same (sym here)) ∙ ap (λ (b : Bool). b && is_some (acted app link.host)) here
+    ap (λ (c : Session). is_some (acted app c)) (same (sym here)) ∙ ap (λ (b : Bool). b && is_some (acted app link.host)) here
 acts_by app (Service.Closed cause) link here going same = absurd going
 
-acts_alike : (app : Application) (number : ℕ) (bytes : ByteWorld) (world : World) → WorldStands bytes world
+acts_alike : (app : Application) (number : ℕ) (bytes : ByteWorld) (world : World) → WorldRepresents bytes world
     → is_some (acted_by app (service_at number bytes.host)) ≡ host_acts app (world.link number)
 acts_alike app number bytes world stands =
     let link = stands.links number in
     acts_by app (service_at number bytes.host) (world.link number) link.host_here (stands.none_closed number) (λ here. (link.host here).host)
 
-answers_in : (app : Application) (session : ℕ) (ticket : Ticket) (said : Said) (conn : Conn) → is_ticket ticket (ticket_of session conn) ≡ true
+answers_in : (app : Application) (session : ℕ) (ticket : Ticket) (said : ApplicationAnswer) (conn : Session) → is_ticket ticket (ticket_of session conn) ≡ true
     → is_some (answered_in app session ticket said conn) ≡ is_some (answered_on app conn said)
 answers_in app session ticket said conn is = ap (λ (b : Bool). is_some (if b then answered_on app conn said else None)) is
 
-answers_by : (app : Application) (session : ℕ) (ticket : Ticket) (said : Said) (service : Service) (link : Link) → IsTicketAt ticket session service → is_there service ≡ link.host_here → IsNotClosed service
+answers_by : (app : Application) (session : ℕ) (ticket : Ticket) (said : ApplicationAnswer) (service : Service) (link : Link) → IsTicketAt ticket session service → is_there service ≡ link.host_here → IsNotClosed service
     → (link.host_here ≡ true → conn_of service ≡ link.host) → is_some (answered_by app session ticket said service) ≡ host_is_answered app said link
 answers_by app session ticket said Service.Free link is here going same = ap (λ (b : Bool). b && is_some (answered_on app link.host said)) here
 answers_by app session ticket said (Service.Open rest conn) link is here going same =
     answers_in app session ticket said conn is
-    ∙ ap (λ (c : Conn). is_some (answered_on app c said)) (same (sym here)) ∙ ap (λ (b : Bool). b && is_some (answered_on app link.host said)) here
+    ∙ ap (λ (c : Session). is_some (answered_on app c said)) (same (sym here)) ∙ ap (λ (b : Bool). b && is_some (answered_on app link.host said)) here
 answers_by app session ticket said (Service.Closed cause) link is here going same = absurd going
 
-answers_alike : (app : Application) (session : ℕ) (ticket : Ticket) (said : Said) (number : ℕ) (bytes : ByteWorld) (world : World) → WorldStands bytes world
+answers_alike : (app : Application) (session : ℕ) (ticket : Ticket) (said : ApplicationAnswer) (number : ℕ) (bytes : ByteWorld) (world : World) → WorldRepresents bytes world
     → IsTicketAt ticket session (service_at number bytes.host) → is_some (answered_by app session ticket said (service_at number bytes.host)) ≡ host_is_answered app said (world.link number)
 answers_alike app session ticket said number bytes world stands is =
     let link = stands.links number in
@@ -86,10 +86,10 @@ notes_by : (text : List ℕ) (service : Service) (link : Link) → is_there serv
     → is_some (noted_by text service) ≡ host_notes text link
 notes_by text Service.Free link here going same = ap (λ (b : Bool). b && is_some (noted text link.host)) here
 notes_by text (Service.Open rest conn) link here going same =
-    ap (λ (c : Conn). is_some (noted text c)) (same (sym here)) ∙ ap (λ (b : Bool). b && is_some (noted text link.host)) here
+    ap (λ (c : Session). is_some (noted text c)) (same (sym here)) ∙ ap (λ (b : Bool). b && is_some (noted text link.host)) here
 notes_by text (Service.Closed cause) link here going same = absurd going
 
-notes_alike : (text : List ℕ) (number : ℕ) (bytes : ByteWorld) (world : World) → WorldStands bytes world
+notes_alike : (text : List ℕ) (number : ℕ) (bytes : ByteWorld) (world : World) → WorldRepresents bytes world
     → is_some (noted_by text (service_at number bytes.host)) ≡ host_notes text (world.link number)
 notes_alike text number bytes world stands =
     let link = stands.links number in
@@ -103,20 +103,20 @@ live_and_held true false = refl
 live_and_held false true = refl
 live_and_held false false = refl
 
-up_and_held : (number : ℕ) (bytes : ByteWorld) (world : World) → WorldStands bytes world → is_up number bytes ≡ is_link_up (world.link number)
+up_and_held : (number : ℕ) (bytes : ByteWorld) (world : World) → WorldRepresents bytes world → is_up number bytes ≡ is_link_up (world.link number)
 up_and_held number bytes world stands =
     let link = stands.links number in
     live_and_held (is_live (transits_at number bytes).down) (is_held number bytes)
     ∙ ap (λ (lost : Bool). not (lost || not (is_held number bytes))) link.lost
     ∙ ap (λ (held : Bool). not ((world.link number).lost || not held)) (held_alike number bytes world stands)
 
-host_sees_alike : (number : ℕ) (bytes : ByteWorld) (world : World) → WorldStands bytes world
+host_sees_alike : (number : ℕ) (bytes : ByteWorld) (world : World) → WorldRepresents bytes world
     → (is_lost number bytes && host_there number bytes) ≡ host_sees (world.link number)
 host_sees_alike number bytes world stands =
     let link = stands.links number in
     both_alike (is_lost number bytes) (world.link number).lost _ _ link.lost (λ _. link.host_here)
 
-terminal_sees_alike : (terminal : ℕ) (bytes : ByteWorld) (world : World) → WorldStands bytes world
+terminal_sees_alike : (terminal : ℕ) (bytes : ByteWorld) (world : World) → WorldRepresents bytes world
     → sees_loss (slot_at terminal bytes).at bytes ≡ terminal_sees world (world.place terminal)
 terminal_sees_alike terminal bytes world stands = by_place (world.place terminal) (stands.places terminal)
   where
@@ -131,7 +131,7 @@ held_or_free true number one other same = same
 held_or_free false number one other same = refl
 
 -- The least number that nobody holds is the same over bytes and over messages.
-free_alike : (count number : ℕ) (bytes : ByteWorld) (world : World) → WorldStands bytes world
+free_alike : (count number : ℕ) (bytes : ByteWorld) (world : World) → WorldRepresents bytes world
     → free_from count number bytes ≡ find (λ n. is_free (world.link n)) (range_with_len number count)
 unfolding free_from
 free_alike zero number bytes world stands = refl
@@ -140,10 +140,10 @@ free_alike (suc count) number bytes world stands =
     (free_alike count (number + 1) bytes world stands)
     ∙ ap (λ (held : Bool). if not held then Some number else find (λ n. is_free (world.link n)) (range_with_len (number + 1) count)) (held_alike number bytes world stands)
 
-pub same_free : (bytes : ByteWorld) (world : World) → WorldStands bytes world → free_number bytes ≡ free_link world.link
+pub same_free : (bytes : ByteWorld) (world : World) → WorldRepresents bytes world → free_number bytes ≡ free_link world.link
 same_free bytes world stands = free_alike most_connections 0 bytes world stands
 
-connects_alike : (terminal : ℕ) (bytes : ByteWorld) (world : World) → WorldStands bytes world
+connects_alike : (terminal : ℕ) (bytes : ByteWorld) (world : World) → WorldRepresents bytes world
     → may_connect (slot_at terminal bytes).at bytes ≡ may_join world (world.place terminal)
 connects_alike terminal bytes world stands = by_place (world.place terminal) (stands.places terminal)
   where
@@ -176,44 +176,44 @@ some_taken zero bytes above = absurd (omega arith)
 some_taken (suc count) [] above = refl
 some_taken (suc count) (byte ∷ bytes) above = refl
 
-none_spoken : {X : Type 0} (Stands : WireItem → X → Type 0) (items : List WireItem) → Pairwise Stands items [] → items ≡ []
-none_spoken Stands [] each = refl
-none_spoken Stands (item ∷ items) each = absurd each
+none_spoken : {X : Type 0} (Means : WireItem → X → Type 0) (items : List WireItem) → Pairwise Means items [] → items ≡ []
+none_spoken Means [] each = refl
+none_spoken Means (item ∷ items) each = absurd each
 
 module _ (one : OneDelivery) (no_bytes : ReadingNothing) where
   -- Some bytes are under way exactly where some message is, unless all that they say represents none.
-  queued_alike : {X : Type 0} (spoken : List WireItem → List WireItem) (Stands : WireItem → X → Type 0) (rest : Rest) (bytes : List ℕ) (messages : List X) → spoken [] ≡ []
-      → ((items : List WireItem) → Delivers record_limit rest bytes items nothing → spoken items ≡ [] → items ≡ []) → BytesStand spoken Stands rest bytes messages
+  queued_alike : {X : Type 0} (spoken : List WireItem → List WireItem) (Means : WireItem → X → Type 0) (rest : Rest) (bytes : List ℕ) (messages : List X) → spoken [] ≡ []
+      → ((items : List WireItem) → Delivers record_limit rest bytes items nothing → spoken items ≡ [] → items ≡ []) → BytesRepresent spoken Means rest bytes messages
       → is_queued bytes ≡ is_queued messages
-  queued_alike spoken Stands rest [] [] none bring stands = refl
-  queued_alike spoken Stands rest (byte ∷ bytes) (message ∷ messages) none bring stands = refl
-  queued_alike {X} spoken Stands rest [] (message ∷ messages) none bring stands = by_items stands.items stands.delivers stands.each
+  queued_alike spoken Means rest [] [] none bring stands = refl
+  queued_alike spoken Means rest (byte ∷ bytes) (message ∷ messages) none bring stands = refl
+  queued_alike {X} spoken Means rest [] (message ∷ messages) none bring stands = by_items stands.items stands.delivers stands.each
     where
-      by_items : (items : List WireItem) → Delivers record_limit rest [] items nothing → Pairwise Stands (spoken items) (message ∷ messages) → false ≡ true
-      by_items [] delivers each = absurd (subst (λ (l : List WireItem). Pairwise Stands l (message ∷ messages)) none each)
+      by_items : (items : List WireItem) → Delivers record_limit rest [] items nothing → Pairwise Means (spoken items) (message ∷ messages) → false ≡ true
+      by_items [] delivers each = absurd (subst (λ (l : List WireItem). Pairwise Means l (message ∷ messages)) none each)
       by_items (item ∷ items) delivers each =
           let stays : Delivers record_limit rest [] [] rest = record { tokens = []; reads = no_bytes record_limit rest; is_rest = stands.is_rest; said = refl } in
           let same : item ∷ items ≡ [] = (one record_limit rest [] (item ∷ items) [] nothing rest delivers stays).0 in
           absurd (cc)
-  queued_alike {X} spoken Stands rest (byte ∷ bytes) [] none bring stands =
-      let nothing_said : stands.items ≡ [] = bring stands.items stands.delivers (none_spoken Stands (spoken stands.items) stands.each) in
+  queued_alike {X} spoken Means rest (byte ∷ bytes) [] none bring stands =
+      let nothing_said : stands.items ≡ [] = bring stands.items stands.delivers (none_spoken Means (spoken stands.items) stands.each) in
       absurd (some_items rest byte bytes (subst (λ (l : List WireItem). Delivers record_limit rest (byte ∷ bytes) l nothing) nothing_said stands.delivers))
 
-  taken_alike : {X : Type 0} (spoken : List WireItem → List WireItem) (Stands : WireItem → X → Type 0) (rest : Rest) (count : ℕ) (bytes : List ℕ) (messages : List X) → 0 < count
+  taken_alike : {X : Type 0} (spoken : List WireItem → List WireItem) (Means : WireItem → X → Type 0) (rest : Rest) (count : ℕ) (bytes : List ℕ) (messages : List X) → 0 < count
       → spoken [] ≡ [] → ((items : List WireItem) → Delivers record_limit rest bytes items nothing → spoken items ≡ [] → items ≡ [])
-      → BytesStand spoken Stands rest bytes messages → is_queued (take count bytes) ≡ is_queued messages
-  taken_alike spoken Stands rest count bytes messages above none bring stands =
-      some_taken count bytes above ∙ queued_alike spoken Stands rest bytes messages none bring stands
+      → BytesRepresent spoken Means rest bytes messages → is_queued (take count bytes) ≡ is_queued messages
+  taken_alike spoken Means rest count bytes messages above none bring stands =
+      some_taken count bytes above ∙ queued_alike spoken Means rest bytes messages none bring stands
 
   -- something comes up, or down, to an end that is there
-  up_alike : (number count : ℕ) (bytes : ByteWorld) (world : World) → WorldStands bytes world → 0 < count
+  up_alike : (number count : ℕ) (bytes : ByteWorld) (world : World) → WorldRepresents bytes world → 0 < count
       → (host_there number bytes && is_queued (take count (up_of number bytes))) ≡ comes_up (world.link number)
   up_alike number count bytes world stands above =
       let link = stands.links number in
       both_alike (host_there number bytes) (world.link number).host_here _ _ link.host_here
-      (λ here. taken_alike all_items StandsUp link.read count (up_of number bytes) (world.link number).up above refl (λ items delivers none. none) link.up)
+      (λ here. taken_alike all_items RepresentsUp link.read count (up_of number bytes) (world.link number).up above refl (λ items delivers none. none) link.up)
 
-  down_alike : (number count : ℕ) (bytes : ByteWorld) (world : World) → WorldStands bytes world → 0 < count → BringAMessage number bytes
+  down_alike : (number count : ℕ) (bytes : ByteWorld) (world : World) → WorldRepresents bytes world → 0 < count → BringAMessage number bytes
       → (terminal_there number bytes && is_queued (take count (down_of number bytes))) ≡ comes_down (world.link number)
   down_alike number count bytes world stands above bring =
       let link = stands.links number in
@@ -225,11 +225,11 @@ module _ (one : OneDelivery) (no_bytes : ReadingNothing) where
       by_here None held is = absurd (cc)
       by_here (Some terminal) held is =
           let found : terminal_at number bytes.slots ≡ Some terminal = (stands.links number).term_here ∙ held in
-          let link : LinkStands (link_with (Some terminal) number bytes) (world.link number) =
-          subst (λ (h : Option ℕ). LinkStands (link_with h number bytes) (world.link number)) found (stands.links number) in
+          let link : LinkRepresents (link_with (Some terminal) number bytes) (world.link number) =
+          subst (λ (h : Option ℕ). LinkRepresents (link_with h number bytes) (world.link number)) found (stands.links number) in
           let term = link.term terminal held in
           let at : terminal_rest number bytes ≡ term.rest = ap (λ (h : Option ℕ). rest_of_terminal h bytes) found ∙ ap rest_at term.holds.attached in
-          taken_alike without_nops StandsDown term.rest count (down_of number bytes) (world.link number).down above refl
+          taken_alike without_nops RepresentsDown term.rest count (down_of number bytes) (world.link number).down above refl
           (λ items delivers. bring items (subst (λ (r : Rest). Delivers record_limit r (down_of number bytes) items nothing) (sym at) delivers)) term.down
 
   -- An event has a place over bytes exactly where it has over messages.

@@ -1,15 +1,15 @@
 -- A terminal goes on at its connection, or alone: the world over bytes then stands for the world over messages.
 use Rattle.std.proofs.Common.{◌≡◌, ◌≢◌, ◌<◌, not, ℕ, Bool, true, Option, None, Some, List, [], ◌++◌, length, le_refl, refl, ap, sym, subst, ◌∙◌, length-set}
 use Rattle.host_core.specs.State.{Connection, connection_at}
-use Rattle.world3270.specs.ByteWorld.{ByteWorld, Transit, Transits, TerminalSlot, under_way, is_live, is_there, transits_at, slot_at, with_slot}
-use Rattle.world3270.specs.Link.{Link, sent}
-use Rattle.world3270.specs.Places.{EndsAgree}
-use Rattle.world3270.specs.TrackedTerminals.{TrackedTerminal}
-use Rattle.world3270.specs.Standing.{WorldStands, IsFlow, IsAt, IsNotClosed, IsSettled, AreTransits, conn_of, rest_of, with_out, link_with}
-use Rattle.world3270.specs.Stands.{ByteLink, LinkStands}
-use Rattle.world3270.specs.StandsLinks.{fed}
-use Rattle.world3270.specs.Terminal.{Display}
-use Rattle.world3270.specs.World.{Place, World, with_place}
+use Rattle.world3270.specs.model.ByteWorld.{ByteWorld, Transit, Transits, TerminalSlot, under_way, is_live, is_there, transits_at, slot_at, with_slot}
+use Rattle.world3270.specs.model.Link.{Link, sent}
+use Rattle.world3270.specs.model.Places.{EndsAgree}
+use Rattle.world3270.specs.model.TrackedTerminals.{TrackedTerminal}
+use Rattle.world3270.specs.refinement.Representation.{WorldRepresents, IsFlow, IsAt, IsNotClosed, IsSettled, AreTransits, conn_of, rest_of, with_out, link_with}
+use Rattle.world3270.specs.refinement.Represents.{ByteLink, LinkRepresents}
+use Rattle.world3270.specs.refinement.RepresentsLinks.{fed}
+use Rattle.world3270.specs.model.Terminal.{Display}
+use Rattle.world3270.specs.model.World.{Place, World, with_place}
 use Rattle.world3270.proofs.Frames.{IsHere, alone_there, changed_stands, flow_there, link_there, none_beyond, of_parts, slot_same, slot_other, with_parts}
 use Rattle.world3270.proofs.OneOfMany.{with_other, with_same}
 use Rattle.world3270.proofs.UnderWay.{more_flows, more_under_way}
@@ -66,16 +66,16 @@ module _ (terminal : ℕ) (connection : Connection) (out : List ℕ) (transits :
 -- ---- a terminal goes on at its connection
 
 -- what stands there
-pub flows_here : (number terminal : ℕ) (old : ByteWorld) (was : World) → EndsAgree was → WorldStands old was → (was.link number).term_here ≡ Some terminal
+pub flows_here : (number terminal : ℕ) (old : ByteWorld) (was : World) → EndsAgree was → WorldRepresents old was → (was.link number).term_here ≡ Some terminal
     → AreFlows (connection_at number old.host) (transits_at number old) (slot_at terminal old)
 flows_here number terminal old was agree stands here =
     let are = subst (λ (h : Option ℕ). AreTransits h number old) here (flow_there number old was agree stands) in
     record { together = are.together; down = are.down; up = are.up }
 
-pub stands_here : (number terminal : ℕ) (old : ByteWorld) (was : World) → EndsAgree was → WorldStands old was → (was.link number).term_here ≡ Some terminal
-    → LinkStands (made_of terminal (connection_at number old.host) (transits_at number old) (slot_at terminal old)) (was.link number)
+pub stands_here : (number terminal : ℕ) (old : ByteWorld) (was : World) → EndsAgree was → WorldRepresents old was → (was.link number).term_here ≡ Some terminal
+    → LinkRepresents (made_of terminal (connection_at number old.host) (transits_at number old) (slot_at terminal old)) (was.link number)
 stands_here number terminal old was agree stands here =
-    subst (λ (h : Option ℕ). LinkStands (link_with h number old) (was.link number)) here (link_there number old was agree stands)
+    subst (λ (h : Option ℕ). LinkRepresents (link_with h number old) (was.link number)) here (link_there number old was agree stands)
 
 -- what becomes of the world over bytes: all else is as it was
 pub record BytesWent (number terminal : ℕ) (connection : Connection) (transits : Transits) (slot : TerminalSlot) (old new : ByteWorld) : Type 0 where
@@ -104,16 +104,16 @@ pub record TermWent (number terminal : ℕ) (link : Link) (was now : World) : Ty
   pub pool : now.pool ≡ was.pool
 
 -- what stands in the one and in the other
-pub record EndStands (number terminal : ℕ) (connection : Connection) (transits : Transits) (slot : TerminalSlot) (link : Link) : Type 0 where
+pub record EndRepresents (number terminal : ℕ) (connection : Connection) (transits : Transits) (slot : TerminalSlot) (link : Link) : Type 0 where
   pub none_closed : IsNotClosed connection.service
   pub settled : IsSettled connection
   pub flows : AreFlows connection transits slot
   pub at : slot.at ≡ Some number
-  pub stands : LinkStands (made_of terminal connection transits slot) link
+  pub stands : LinkRepresents (made_of terminal connection transits slot) link
 
 module _ (number terminal : ℕ) (connection : Connection) (transits : Transits) (slot : TerminalSlot) (old new : ByteWorld) (link : Link) (was now : World)
     (bytes : BytesWent number terminal connection transits slot old new) (went : TermWent number terminal link was now)
-    (end : EndStands number terminal connection transits slot link) where
+    (end : EndRepresents number terminal connection transits slot link) where
   -- what holds of the parts holds of those that the world has
   its_parts : (P : Connection → Transits → TerminalSlot → Type 0) → P connection transits slot → P (connection_at number new.host) (transits_at number new) (slot_at terminal new)
   its_parts P holds =
@@ -126,11 +126,11 @@ module _ (number terminal : ℕ) (connection : Connection) (transits : Transits)
       let flows : AreFlows (connection_at number new.host) (transits_at number new) (slot_at terminal new) = its_parts (λ l w s. AreFlows l w s) end.flows in
       record { together = flows.together; down = flows.down; up = flows.up }
 
-  its_link : LinkStands (link_with (Some terminal) number new) link
-  its_link = its_parts (λ l w s. LinkStands (made_of terminal l w s) link) end.stands
+  its_link : LinkRepresents (link_with (Some terminal) number new) link
+  its_link = its_parts (λ l w s. LinkRepresents (made_of terminal l w s) link) end.stands
 
   -- So the world over bytes stands for that over messages.
-  pub term_went_stands : WorldStands old was → EndsAgree was → EndsAgree now → was.place terminal ≡ Place.At number → WorldStands new now
+  pub term_went_stands : WorldRepresents old was → EndsAgree was → EndsAgree now → was.place terminal ≡ Place.At number → WorldRepresents new now
   term_went_stands stands agree agrees place =
       changed_stands number terminal old new was now
       (record {
@@ -151,8 +151,8 @@ module _ (number terminal : ℕ) (connection : Connection) (transits : Transits)
         none_closed = subst (λ (l : Connection). IsNotClosed l.service) (sym bytes.connection_is) end.none_closed;
         settled = subst (λ (l : Connection). IsSettled l) (sym bytes.connection_is) end.settled;
         flow = subst (λ (h : Option ℕ). AreTransits h number new) (sym (ap (λ (l : Link). l.term_here) went.link_is ∙ went.here)) its_flows;
-        link = subst (λ (l : Link). LinkStands (link_with l.term_here number new) l) (sym went.link_is)
-            (subst (λ (h : Option ℕ). LinkStands (link_with h number new) link) (sym went.here) its_link);
+        link = subst (λ (l : Link). LinkRepresents (link_with l.term_here number new) l) (sym went.link_is)
+            (subst (λ (h : Option ℕ). LinkRepresents (link_with h number new) link) (sym went.here) its_link);
         place = subst (λ (p : Place). IsAt (slot_at terminal new) p) (sym went.place_is) (ap (λ (s : TerminalSlot). s.at) bytes.slot_is ∙ end.at);
       })
       agree stands agrees
@@ -160,9 +160,9 @@ module _ (number terminal : ℕ) (connection : Connection) (transits : Transits)
 -- ---- a terminal goes on alone
 
 -- No connection changes: one that isn't there takes the place of the one that does.
-pub alone_stands : (terminal : ℕ) (slot : TerminalSlot) (display : Display) (old : ByteWorld) (was : World) → EndsAgree was → WorldStands old was
+pub alone_stands : (terminal : ℕ) (slot : TerminalSlot) (display : Display) (old : ByteWorld) (was : World) → EndsAgree was → WorldRepresents old was
     → terminal < length old.slots → (slot_at terminal old).at ≡ None → IsAt slot (Place.Alone display) → EndsAgree (with_place terminal (Place.Alone display) was)
-    → WorldStands (with_slot terminal slot old) (with_place terminal (Place.Alone display) was)
+    → WorldRepresents (with_slot terminal slot old) (with_place terminal (Place.Alone display) was)
 alone_stands terminal slot display old was agree stands there_is alone is_alone agrees =
     let new : ByteWorld = with_slot terminal slot old in
     let now : World = with_place terminal (Place.Alone display) was in
@@ -190,8 +190,8 @@ alone_stands terminal slot display old was agree stands there_is alone is_alone 
       flow = subst (λ (h : Option ℕ). AreTransits h beyond new) (sym nobody)
           (let none = subst (λ (h : Option ℕ). AreTransits h beyond old) nobody (flow_there beyond old was agree stands) in
           record { together = none.together; down = none.down; up = none.up });
-      link = subst (λ (h : Option ℕ). LinkStands (link_with h beyond new) (was.link beyond)) (sym nobody)
-          (subst (λ (h : Option ℕ). LinkStands (link_with h beyond old) (was.link beyond)) nobody (link_there beyond old was agree stands));
+      link = subst (λ (h : Option ℕ). LinkRepresents (link_with h beyond new) (was.link beyond)) (sym nobody)
+          (subst (λ (h : Option ℕ). LinkRepresents (link_with h beyond old) (was.link beyond)) nobody (link_there beyond old was agree stands));
       place = subst (λ (s : TerminalSlot). IsAt s (now.place terminal)) (sym (slot_same terminal slot old there_is))
           (subst (λ (p : Place). IsAt slot p) (sym goes) is_alone);
     })

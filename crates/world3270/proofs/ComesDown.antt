@@ -7,13 +7,13 @@ use Rattle.host_core.specs.Application.{Application}
 use Rattle.host_core.specs.Messages.{ToTerminal}
 use Rattle.host_core.specs.NoteLaws.{IsNoteOf, TakesNotes}
 use Rattle.host_core.specs.Session.{is_agreed}
-use Rattle.world3270.specs.Given.{Given}
-use Rattle.world3270.specs.Link.{Link}
-use Rattle.world3270.specs.Moments.{IsAt, Moment, Serving, Talking, UnderWay}
-use Rattle.world3270.specs.Showing.{WantsItsPanelOn}
-use Rattle.world3270.specs.Stages.{Fact, IsPainted, IsRead, Kept, ShownAt, Sizes, scene_of}
-use Rattle.world3270.specs.View.{view_of}
-use Rattle.world3270.specs.Terminal.{is_bound}
+use Rattle.world3270.specs.refinement.LowerLaws.{LowerLaws}
+use Rattle.world3270.specs.model.Link.{Link}
+use Rattle.world3270.specs.refinement.Phases.{IsAt, LinkPhase, Serving, Talking, UnderWay}
+use Rattle.world3270.specs.statement.Showing.{WantsItsPanelOn}
+use Rattle.world3270.specs.refinement.Invariant.{Fact, IsPainted, IsRead, Kept, ShownAt, Sizes, local_state_of}
+use Rattle.world3270.specs.refinement.View.{view_of}
+use Rattle.world3270.specs.model.Terminal.{is_bound}
 use Rattle.world3270.proofs.Down.{bound}
 use Rattle.world3270.proofs.Queues.{front, nothing}
 use Rattle.world3270.proofs.TalkStates.{agreed_there}
@@ -24,8 +24,8 @@ use Rattle.world3270.proofs.TalkStates.{agreed_there}
 pub record PaintComes (app : Application) (link : Link) (of_lu : Option (List ℕ)) (rest : List ToTerminal) (number : ℕ) (wanted : WantedScreen) (over : Shadow) : Type 0 where
   pub lu : List ℕ
   pub command : CommandParts
-  pub at : IsAt (view_of link) of_lu (Moment.Serves lu (Serving.Painting number command wanted over))
-  pub fact : IsPainted (scene_of (view_of link)) command wanted over
+  pub at : IsAt (view_of link) of_lu (LinkPhase.Serves lu (Serving.Painting number command wanted over))
+  pub fact : IsPainted (local_state_of (view_of link)) command wanted over
   pub asked : WantsItsPanelOn app link.term.waits link.host over wanted link.term.display.screen
   pub left : UnderWay link.lost rest []
 
@@ -45,8 +45,8 @@ paint_comes app link number wanted over rest e k agrees = by_moment k.moment k.a
     no_more : {Comes : Type 0} → UnderWay link.lost link.down [] → Comes
     no_more under = absurd (nothing link.lost link.down (ToTerminal.Paint number wanted over) rest e under)
 
-    by_serving : (lu : List ℕ) (serving : Serving) → IsAt (view_of link) k.wanted (Moment.Serves lu serving) → Fact k.wanted (scene_of (view_of link)) (Moment.Serves lu serving)
-        → ShownAt app link.term.waits link.host link.term.display.before_restored link.term.display.last_restored link.term.display.screen (Moment.Serves lu serving) → PaintComes app link k.wanted rest number wanted over
+    by_serving : (lu : List ℕ) (serving : Serving) → IsAt (view_of link) k.wanted (LinkPhase.Serves lu serving) → Fact k.wanted (local_state_of (view_of link)) (LinkPhase.Serves lu serving)
+        → ShownAt app link.term.waits link.host link.term.display.before_restored link.term.display.last_restored link.term.display.screen (LinkPhase.Serves lu serving) → PaintComes app link k.wanted rest number wanted over
     by_serving lu (Serving.Painting n command w o) at f shown =
         let first = front link.lost link.down (ToTerminal.Paint number wanted over) rest _ [] e at.goes_down in
         subst (λ (m : ℕ). PaintComes app link k.wanted rest m wanted over) (the_number n w o first.0)
@@ -66,15 +66,15 @@ paint_comes app link number wanted over rest e k agrees = by_moment k.moment k.a
     by_serving lu (Serving.KeyBehind kind noted other parts) at f shown = no_more at.goes_down
     by_serving lu (Serving.KeyBefore noted other parts) at f shown = no_more at.goes_down
 
-    by_talk : (talking : Talking) → IsAt (view_of link) k.wanted (Moment.Talks talking) → (lu : List ℕ) × (talking ≡ Talking.Agreeing lu) → PaintComes app link k.wanted rest number wanted over
+    by_talk : (talking : Talking) → IsAt (view_of link) k.wanted (LinkPhase.Talks talking) → (lu : List ℕ) × (talking ≡ Talking.Agreeing lu) → PaintComes app link k.wanted rest number wanted over
     by_talk talking at is =
-        absurd (let clash = (front link.lost link.down (ToTerminal.Paint number wanted over) rest _ [] e (subst (λ (t : Talking). IsAt (view_of link) k.wanted (Moment.Talks t)) is.1 at).goes_down).0 in cc)
+        absurd (let clash = (front link.lost link.down (ToTerminal.Paint number wanted over) rest _ [] e (subst (λ (t : Talking). IsAt (view_of link) k.wanted (LinkPhase.Talks t)) is.1 at).goes_down).0 in cc)
 
-    by_moment : (moment : Moment) → IsAt (view_of link) k.wanted moment → Fact k.wanted (scene_of (view_of link)) moment
+    by_moment : (moment : LinkPhase) → IsAt (view_of link) k.wanted moment → Fact k.wanted (local_state_of (view_of link)) moment
         → ShownAt app link.term.waits link.host link.term.display.before_restored link.term.display.last_restored link.term.display.screen moment → PaintComes app link k.wanted rest number wanted over
-    by_moment (Moment.Talks talking) at f shown = by_talk talking at (agreed_there link.term.display.model talking link.host.talk at.host_talk agrees)
-    by_moment (Moment.Begins lu noted other w o) at f shown = absurd (let clash = (front link.lost link.down (ToTerminal.Paint number wanted over) rest _ _ e at.goes_down).0 in cc)
-    by_moment (Moment.Serves lu serving) at f shown = by_serving lu serving at f shown
+    by_moment (LinkPhase.Talks talking) at f shown = by_talk talking at (agreed_there link.term.display.model talking link.host.talk at.host_talk agrees)
+    by_moment (LinkPhase.Begins lu noted other w o) at f shown = absurd (let clash = (front link.lost link.down (ToTerminal.Paint number wanted over) rest _ _ e at.goes_down).0 in cc)
+    by_moment (LinkPhase.Serves lu serving) at f shown = by_serving lu serving at f shown
 
 -- ---- a read comes down
 
@@ -82,11 +82,11 @@ paint_comes app link number wanted over rest e k agrees = by_moment k.moment k.a
 pub record ReadComes (app : Application) (link : Link) (of_lu : Option (List ℕ)) (rest : List ToTerminal) : Type 0 where
   pub lu : List ℕ
   pub number : ℕ
-  pub at : IsAt (view_of link) of_lu (Moment.Serves lu (Serving.Reading number))
-  pub fact : IsRead (scene_of (view_of link))
-  pub shown : ShownAt app link.term.waits link.host link.term.display.before_restored link.term.display.last_restored link.term.display.screen (Moment.Serves lu (Serving.Reading number))
+  pub at : IsAt (view_of link) of_lu (LinkPhase.Serves lu (Serving.Reading number))
+  pub fact : IsRead (local_state_of (view_of link))
+  pub shown : ShownAt app link.term.waits link.host link.term.display.before_restored link.term.display.last_restored link.term.display.screen (LinkPhase.Serves lu (Serving.Reading number))
   pub left : UnderWay link.lost rest []
-  pub same : link.term.display.shape ≡ link.host.shape
+  pub same : link.term.display.size ≡ link.host.size
 
 pub read_comes : (app : Application) (link : Link) (number : ℕ) (rest : List ToTerminal) → link.down ≡ ToTerminal.ReadBuffer number ∷ rest → (k : Kept app (view_of link)) → is_agreed link.host.talk.state ≡ true → ReadComes app link k.wanted rest
 read_comes app link number rest e k agrees = by_moment k.moment k.sizes k.at k.fact k.shown
@@ -94,8 +94,8 @@ read_comes app link number rest e k agrees = by_moment k.moment k.sizes k.at k.f
     no_more : {Comes : Type 0} → UnderWay link.lost link.down [] → Comes
     no_more under = absurd (nothing link.lost link.down (ToTerminal.ReadBuffer number) rest e under)
 
-    by_serving : (lu : List ℕ) (serving : Serving) → Sizes app (view_of link) (Moment.Serves lu serving) → IsAt (view_of link) k.wanted (Moment.Serves lu serving) → Fact k.wanted (scene_of (view_of link)) (Moment.Serves lu serving)
-        → ShownAt app link.term.waits link.host link.term.display.before_restored link.term.display.last_restored link.term.display.screen (Moment.Serves lu serving) → ReadComes app link k.wanted rest
+    by_serving : (lu : List ℕ) (serving : Serving) → Sizes app (view_of link) (LinkPhase.Serves lu serving) → IsAt (view_of link) k.wanted (LinkPhase.Serves lu serving) → Fact k.wanted (local_state_of (view_of link)) (LinkPhase.Serves lu serving)
+        → ShownAt app link.term.waits link.host link.term.display.before_restored link.term.display.last_restored link.term.display.screen (LinkPhase.Serves lu serving) → ReadComes app link k.wanted rest
     by_serving lu (Serving.Reading n) s at f shown =
         let first = front link.lost link.down (ToTerminal.ReadBuffer number) rest _ [] e at.goes_down in
         record { lu = lu; number = n; at = at; fact = f; shown = shown; left = first.1; same = s.same refl }
@@ -112,46 +112,46 @@ read_comes app link number rest e k agrees = by_moment k.moment k.sizes k.at k.f
     by_serving lu (Serving.KeyBehind kind noted other parts) s at f shown = no_more at.goes_down
     by_serving lu (Serving.KeyBefore noted other parts) s at f shown = no_more at.goes_down
 
-    by_talk : (talking : Talking) → IsAt (view_of link) k.wanted (Moment.Talks talking) → (lu : List ℕ) × (talking ≡ Talking.Agreeing lu) → ReadComes app link k.wanted rest
+    by_talk : (talking : Talking) → IsAt (view_of link) k.wanted (LinkPhase.Talks talking) → (lu : List ℕ) × (talking ≡ Talking.Agreeing lu) → ReadComes app link k.wanted rest
     by_talk talking at is =
-        absurd (let clash = (front link.lost link.down (ToTerminal.ReadBuffer number) rest _ [] e (subst (λ (t : Talking). IsAt (view_of link) k.wanted (Moment.Talks t)) is.1 at).goes_down).0 in cc)
+        absurd (let clash = (front link.lost link.down (ToTerminal.ReadBuffer number) rest _ [] e (subst (λ (t : Talking). IsAt (view_of link) k.wanted (LinkPhase.Talks t)) is.1 at).goes_down).0 in cc)
 
-    by_moment : (moment : Moment) → Sizes app (view_of link) moment → IsAt (view_of link) k.wanted moment → Fact k.wanted (scene_of (view_of link)) moment
+    by_moment : (moment : LinkPhase) → Sizes app (view_of link) moment → IsAt (view_of link) k.wanted moment → Fact k.wanted (local_state_of (view_of link)) moment
         → ShownAt app link.term.waits link.host link.term.display.before_restored link.term.display.last_restored link.term.display.screen moment → ReadComes app link k.wanted rest
-    by_moment (Moment.Talks talking) s at f shown = by_talk talking at (agreed_there link.term.display.model talking link.host.talk at.host_talk agrees)
-    by_moment (Moment.Begins lu noted other w o) s at f shown = absurd (let clash = (front link.lost link.down (ToTerminal.ReadBuffer number) rest _ _ e at.goes_down).0 in cc)
-    by_moment (Moment.Serves lu serving) s at f shown = by_serving lu serving s at f shown
+    by_moment (LinkPhase.Talks talking) s at f shown = by_talk talking at (agreed_there link.term.display.model talking link.host.talk at.host_talk agrees)
+    by_moment (LinkPhase.Begins lu noted other w o) s at f shown = absurd (let clash = (front link.lost link.down (ToTerminal.ReadBuffer number) rest _ _ e at.goes_down).0 in cc)
+    by_moment (LinkPhase.Serves lu serving) s at f shown = by_serving lu serving s at f shown
 
 -- ---- a note comes down
 
 -- a note that comes down is one of the host's, and may be written on the screen
 pub record NoteComes (link : Link) (command : CommandParts) : Type 0 where
-  pub note : IsNoteOf link.host.shape command
-  pub takes : TakesNotes link.host.shape link.term.display.screen.cells
-  pub same : link.term.display.shape ≡ link.host.shape
+  pub note : IsNoteOf link.host.size command
+  pub takes : TakesNotes link.host.size link.term.display.screen.cells
+  pub same : link.term.display.size ≡ link.host.size
   pub bound : is_bound link.term ≡ true
 
-pub note_comes : Given → (app : Application) (link : Link) (number : ℕ) (command : CommandParts) (rest : List ToTerminal) → link.down ≡ ToTerminal.Note number command ∷ rest → Kept app (view_of link) → is_agreed link.host.talk.state ≡ true → NoteComes link command
+pub note_comes : LowerLaws → (app : Application) (link : Link) (number : ℕ) (command : CommandParts) (rest : List ToTerminal) → link.down ≡ ToTerminal.Note number command ∷ rest → Kept app (view_of link) → is_agreed link.host.talk.state ≡ true → NoteComes link command
 note_comes given app link number command rest e k agrees = by_moment k.moment k.sizes k.at k.fact
   where
     as_written : (other_number : ℕ) (other : CommandParts) → ToTerminal.Note number command ≡ ToTerminal.Note other_number other → other ≡ command
     as_written other_number other same = cc
 
-    by_serving : (lu : List ℕ) (serving : Serving) → Sizes app (view_of link) (Moment.Serves lu serving) → IsAt (view_of link) k.wanted (Moment.Serves lu serving) → Fact k.wanted (scene_of (view_of link)) (Moment.Serves lu serving) → NoteComes link command
+    by_serving : (lu : List ℕ) (serving : Serving) → Sizes app (view_of link) (LinkPhase.Serves lu serving) → IsAt (view_of link) k.wanted (LinkPhase.Serves lu serving) → Fact k.wanted (local_state_of (view_of link)) (LinkPhase.Serves lu serving) → NoteComes link command
     by_serving lu (Serving.Noting noted other) s at f =
         let is = as_written noted other (front link.lost link.down (ToTerminal.Note number command) rest _ [] e at.goes_down).0 in
         record {
-          note = subst (IsNoteOf link.host.shape) is f.1;
-          takes = TakesNotes.formatted (given.notes.held_takes link.host.shape link.term.display.erased f.0.shown.cells link.term.display.screen.cells f.0.held f.0.messages);
+          note = subst (IsNoteOf link.host.size) is f.1;
+          takes = TakesNotes.formatted (given.notes.held_takes link.host.size link.term.display.erased f.0.shown.cells link.term.display.screen.cells f.0.held f.0.messages);
           same = s.same refl;
           bound = bound link k.wanted lu _ at;
         }
     by_serving lu (Serving.KeyNoted noted other parts) s at f =
         let is = as_written noted other (front link.lost link.down (ToTerminal.Note number command) rest _ [] e at.goes_down).0 in
-        record { note = subst (IsNoteOf link.host.shape) is f.2.note; takes = f.2.takes; same = s.same refl; bound = bound link k.wanted lu _ at }
+        record { note = subst (IsNoteOf link.host.size) is f.2.note; takes = f.2.takes; same = s.same refl; bound = bound link k.wanted lu _ at }
     by_serving lu (Serving.NotedLate noted other) s at f =
         let is = as_written noted other (front link.lost link.down (ToTerminal.Note number command) rest _ [] e at.goes_down).0 in
-        record { note = subst (IsNoteOf link.host.shape) is f.1.note; takes = f.1.takes; same = s.same refl; bound = bound link k.wanted lu _ at }
+        record { note = subst (IsNoteOf link.host.size) is f.1.note; takes = f.1.takes; same = s.same refl; bound = bound link k.wanted lu _ at }
     by_serving lu (Serving.Reading noted) s at f = absurd (let clash = (front link.lost link.down (ToTerminal.Note number command) rest _ [] e at.goes_down).0 in cc)
     by_serving lu (Serving.Painting noted other wanted over) s at f = absurd (let clash = (front link.lost link.down (ToTerminal.Note number command) rest _ [] e at.goes_down).0 in cc)
     by_serving lu Serving.Deciding s at f = absurd (nothing link.lost link.down (ToTerminal.Note number command) rest e at.goes_down)
@@ -163,11 +163,11 @@ note_comes given app link number command rest e k agrees = by_moment k.moment k.
     by_serving lu (Serving.KeyBehind kind noted other parts) s at f = absurd (nothing link.lost link.down (ToTerminal.Note number command) rest e at.goes_down)
     by_serving lu (Serving.KeyBefore noted other parts) s at f = absurd (nothing link.lost link.down (ToTerminal.Note number command) rest e at.goes_down)
 
-    by_talk : (talking : Talking) → IsAt (view_of link) k.wanted (Moment.Talks talking) → (lu : List ℕ) × (talking ≡ Talking.Agreeing lu) → NoteComes link command
+    by_talk : (talking : Talking) → IsAt (view_of link) k.wanted (LinkPhase.Talks talking) → (lu : List ℕ) × (talking ≡ Talking.Agreeing lu) → NoteComes link command
     by_talk talking at is =
-        absurd (let clash = (front link.lost link.down (ToTerminal.Note number command) rest _ [] e (subst (λ (t : Talking). IsAt (view_of link) k.wanted (Moment.Talks t)) is.1 at).goes_down).0 in cc)
+        absurd (let clash = (front link.lost link.down (ToTerminal.Note number command) rest _ [] e (subst (λ (t : Talking). IsAt (view_of link) k.wanted (LinkPhase.Talks t)) is.1 at).goes_down).0 in cc)
 
-    by_moment : (moment : Moment) → Sizes app (view_of link) moment → IsAt (view_of link) k.wanted moment → Fact k.wanted (scene_of (view_of link)) moment → NoteComes link command
-    by_moment (Moment.Talks talking) s at f = by_talk talking at (agreed_there link.term.display.model talking link.host.talk at.host_talk agrees)
-    by_moment (Moment.Begins lu noted other wanted over) s at f = absurd (let clash = (front link.lost link.down (ToTerminal.Note number command) rest _ _ e at.goes_down).0 in cc)
-    by_moment (Moment.Serves lu serving) s at f = by_serving lu serving s at f
+    by_moment : (moment : LinkPhase) → Sizes app (view_of link) moment → IsAt (view_of link) k.wanted moment → Fact k.wanted (local_state_of (view_of link)) moment → NoteComes link command
+    by_moment (LinkPhase.Talks talking) s at f = by_talk talking at (agreed_there link.term.display.model talking link.host.talk at.host_talk agrees)
+    by_moment (LinkPhase.Begins lu noted other wanted over) s at f = absurd (let clash = (front link.lost link.down (ToTerminal.Note number command) rest _ _ e at.goes_down).0 in cc)
+    by_moment (LinkPhase.Serves lu serving) s at f = by_serving lu serving s at f

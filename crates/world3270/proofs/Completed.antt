@@ -18,19 +18,19 @@ use Rattle.term_core.specs.Bytes.{TakesByte, link_after}
 use Rattle.term_core.specs.Feeds.{StopsFor}
 use Rattle.term_core.specs.Room.{out_room}
 use Rattle.term_core.specs.State.{Terminal, Attached, Closed, Detached}
-use Rattle.world3270.specs.ByteSteps.{answer_fed}
-use Rattle.world3270.specs.ByteWorld.{ByteWorld, is_there, terminal_at}
-use Rattle.world3270.specs.Deliveries.{AreDeliveries, host_rest, rest_of_terminal, taken_by, terminal_rest, rest_at}
-use Rattle.world3270.specs.Known.{Known}
-use Rattle.world3270.specs.Link.{Link, sent, term_left_if, term_stepped}
-use Rattle.world3270.specs.TrackedTerminals.{TrackedTerminal, TrackedTakes}
-use Rattle.world3270.specs.Standing.{WorldStands, IsNotClosed, link_of, link_with, rest_of}
-use Rattle.world3270.specs.Stands.{BytesDown, LinkStands, StandsDown, TermStands, all_items, without_nops}
-use Rattle.world3270.specs.StandsLinks.{took_down}
-use Rattle.world3270.specs.Terminal.{TermStep, took as term_took}
-use Rattle.world3270.specs.World.{World, Event as MessageEvent}
-use Rattle.world3270.proofs.Stands.{nops_piecewise}
-use Rattle.world3270.proofs.StandsLinks.{up_behind_rest}
+use Rattle.world3270.specs.model.ByteSteps.{answer_fed}
+use Rattle.world3270.specs.model.ByteWorld.{ByteWorld, is_there, terminal_at}
+use Rattle.world3270.specs.refinement.Deliveries.{AreDeliveries, host_rest, rest_of_terminal, taken_by, terminal_rest, rest_at}
+use Rattle.world3270.specs.refinement.MessageLaws.{MessageLaws}
+use Rattle.world3270.specs.model.Link.{Link, sent, term_left_if, term_stepped}
+use Rattle.world3270.specs.model.TrackedTerminals.{TrackedTerminal, TrackedTakes}
+use Rattle.world3270.specs.refinement.Representation.{WorldRepresents, IsNotClosed, link_of, link_with, rest_of}
+use Rattle.world3270.specs.refinement.Represents.{BytesDown, LinkRepresents, RepresentsDown, TermRepresents, all_items, without_nops}
+use Rattle.world3270.specs.refinement.RepresentsLinks.{took_down}
+use Rattle.world3270.specs.model.Terminal.{TermStep, took as term_took}
+use Rattle.world3270.specs.model.World.{World, Event as MessageEvent}
+use Rattle.world3270.proofs.Represents.{nops_piecewise}
+use Rattle.world3270.proofs.RepresentsLinks.{up_behind_rest}
 
 -- ---- the bytes that were taken
 
@@ -57,7 +57,7 @@ taken_there (stop.Closed cause) old new bytes taken rest to talk after stops was
 
 -- ---- deliveries, one after another
 
-module _ (known : Known) where
+module _ (known : MessageLaws) where
   no_items : (rest : Rest) → IsRest record_limit rest → Delivers record_limit rest [] [] rest
   no_items rest is = record { tokens = []; reads = known.links.no_bytes record_limit rest; is_rest = is; said = refl }
 
@@ -82,7 +82,7 @@ module _ (known : Known) where
 
   -- ---- what a decoder holds is the beginning of an item
 
-  pub host_rest_is : (number : ℕ) (old : ByteWorld) (world : World) → WorldStands old world → IsRest record_limit (host_rest number old)
+  pub host_rest_is : (number : ℕ) (old : ByteWorld) (world : World) → WorldRepresents old world → IsRest record_limit (host_rest number old)
   host_rest_is number old world stands = by_service (service_at number old.host) refl (stands.none_closed number)
     where
       by_service : (service : Service) → service_at number old.host ≡ service → IsNotClosed service → IsRest record_limit (host_rest number old)
@@ -93,14 +93,14 @@ module _ (known : Known) where
       by_service (Service.Closed cause) e closed = absurd closed
 
   -- the terminal at a connection
-  pub terminal_there : (number terminal : ℕ) (old : ByteWorld) (world : World) → WorldStands old world → terminal_at number old.slots ≡ Some terminal
-      → TermStands (link_with (Some terminal) number old) (world.link number)
+  pub terminal_there : (number terminal : ℕ) (old : ByteWorld) (world : World) → WorldRepresents old world → terminal_at number old.slots ≡ Some terminal
+      → TermRepresents (link_with (Some terminal) number old) (world.link number)
   terminal_there number terminal old world stands found =
-      let link : LinkStands (link_with (Some terminal) number old) (world.link number) =
-      subst (λ (h : Option ℕ). LinkStands (link_with h number old) (world.link number)) found (stands.links number) in
+      let link : LinkRepresents (link_with (Some terminal) number old) (world.link number) =
+      subst (λ (h : Option ℕ). LinkRepresents (link_with h number old) (world.link number)) found (stands.links number) in
       link.term terminal (sym link.term_here)
 
-  pub terminal_rest_is : (number : ℕ) (old : ByteWorld) (world : World) → WorldStands old world → IsRest record_limit (terminal_rest number old)
+  pub terminal_rest_is : (number : ℕ) (old : ByteWorld) (world : World) → WorldRepresents old world → IsRest record_limit (terminal_rest number old)
   terminal_rest_is number old world stands = by_found (terminal_at number old.slots) refl
     where
       by_found : (here : Option ℕ) → terminal_at number old.slots ≡ here → IsRest record_limit (terminal_rest number old)
@@ -189,10 +189,10 @@ module _ (known : Known) where
       let same = known.links.one_delivery record_limit to behind on.0 left.items nothing nothing on.2 left.delivers in
       one_sum (length (without_nops items)) (length taken) (length others)
       (ap (λ (n : ℕ). length (without_nops items) + n)
-      (sym (ap (λ (l : List WireItem). length (without_nops l)) same.0 ∙ pairs_alike StandsDown (without_nops left.items) others left.each))
+      (sym (ap (λ (l : List WireItem). length (without_nops l)) same.0 ∙ pairs_alike RepresentsDown (without_nops left.items) others left.each))
       ∙ sym (length-append (without_nops items) (without_nops on.0)) ∙ ap length (sym (nops_piecewise items on.0))
       ∙ ap (λ (l : List WireItem). length (without_nops l)) (sym on.1)
-      ∙ pairs_alike StandsDown (without_nops all.items) messages all.each ∙ ap length whole ∙ length-append taken others)
+      ∙ pairs_alike RepresentsDown (without_nops all.items) messages all.each ∙ ap length whole ∙ length-append taken others)
 
 -- what is behind the messages that came down
 stepped_down : (closes : Option Cause) (link : Link) → (term_left_if closes link).down ≡ link.down

@@ -30,7 +30,7 @@ use Rattle.shadow.specs.Heard.{heard}
 use Rattle.shadow.specs.Laws.{Believed}
 use Rattle.shadow.specs.Meets.{Meets, Knows}
 use Rattle.shadow.specs.Notes.{OverwritesProtected}
-use Rattle.shadow.specs.Openness.{IsNotOpen, NothingIsOpen}
+use Rattle.shadow.specs.TextUnknown.{IsNotOpen, NothingIsOpen}
 use Rattle.shadow.specs.Paint.{paint}
 use Rattle.shadow.specs.Painted.{cells_under, painted_from, plainly_painted}
 use Rattle.shadow.specs.Taken.{taken}
@@ -52,19 +52,19 @@ use Rattle.host_core.proofs.Notes.{each_noted}
 use Rattle.host_core.specs.declared.turn_reason.TurnReason.{TurnReason}
 use Rattle.host_core.specs.declared.turn_reason.TurnReason.TheVariants as turn_reasons
 use Rattle.host_core.specs.declared.unheard.Unheard.{Unheard}
-use Rattle.world3270.specs.Always.{is_negative}
-use Rattle.world3270.specs.Given.{Given}
-use Rattle.world3270.specs.Happens.{verdict_in}
-use Rattle.world3270.specs.Headline.{SentFields}
-use Rattle.world3270.specs.Showing.{WantsItsPanelOn}
-use Rattle.world3270.specs.AsLeft.{ProtectedIsAsLeft}
-use Rattle.world3270.specs.Unreturned.{UnmodifiedIsKept}
-use Rattle.world3270.specs.Link.{Link, sent}
-use Rattle.world3270.specs.Moments.{Kind, Serving, Moment, UnderWay, IsAt, IsHostTalk, IsTermTalk, talk_in, turn_at, pending_at, down_at, up_at}
-use Rattle.world3270.specs.TurnReasons.{IsOpenBy, IsOpenFor, IsCleared}
-use Rattle.world3270.specs.Stages.{scene_of, once_taken, FactsAreExact, Suits, IsPainted, Operates, Sees, IsRead, Fact, Kept, may_differ_at, ShownAt}
-use Rattle.world3270.specs.Terminal.{TermEnd, TermStep, with_talk, is_bound, bound_to, once_bound, paint_came, note_came, read_came, talked, took}
-use Rattle.world3270.specs.View.{view_of}
+use Rattle.world3270.specs.statement.Always.{is_negative}
+use Rattle.world3270.specs.refinement.LowerLaws.{LowerLaws}
+use Rattle.world3270.specs.model.Steps.{verdict_in}
+use Rattle.world3270.specs.statement.Headline.{SentFields}
+use Rattle.world3270.specs.statement.Showing.{WantsItsPanelOn}
+use Rattle.world3270.specs.statement.AsLeft.{ProtectedIsAsLeft}
+use Rattle.world3270.specs.refinement.Unreturned.{UnmodifiedIsKept}
+use Rattle.world3270.specs.model.Link.{Link, sent}
+use Rattle.world3270.specs.refinement.Phases.{Kind, Serving, LinkPhase, UnderWay, IsAt, IsHostTalk, IsTermTalk, talk_in, turn_at, pending_at, down_at, up_at}
+use Rattle.world3270.specs.statement.TurnReasons.{IsOpenBy, IsOpenFor, IsCleared}
+use Rattle.world3270.specs.refinement.Invariant.{local_state_of, once_taken, FactsAreExact, MayBeGranted, IsPainted, Operates, Sees, IsRead, Fact, Kept, may_differ_at, ShownAt}
+use Rattle.world3270.specs.model.Terminal.{TermEnd, TermStep, with_talk, is_bound, bound_to, once_bound, paint_came, note_came, read_came, talked, took}
+use Rattle.world3270.specs.refinement.View.{view_of}
 use Rattle.world3270.proofs.Queues.{more}
 use Rattle.world3270.proofs.Unreturned.{all_as_left, all_kept, as_left_noted, noted_on, kept_noted, kept_bare, still_bare, still_one}
 
@@ -80,13 +80,13 @@ pub record Obeyed (app : Application) (link : Link) (rest : List ToTerminal) (st
 -- ---- from moment to moment
 
 -- what the terminal's step makes of the moment: the host's end stays as it is
-pub record Leads (model : Model) (wanted : Option (List ℕ)) (from to : Moment) (sends : List ToHost) : Type 0 where
+pub record Leads (model : Model) (wanted : Option (List ℕ)) (from to : LinkPhase) (sends : List ToHost) : Type 0 where
   pub host_talk : (talk : Talk HostState) → IsHostTalk model from talk → IsHostTalk model to talk
   pub turn : turn_at to ≡ turn_at from
   pub pending : pending_at to ≡ pending_at from
   pub up : up_at model wanted from ++ sends ≡ up_at model wanted to
 
-leads : (link : Link) (step : TermStep) (rest : List ToTerminal) (wanted : Option (List ℕ)) (from to : Moment) → step.end.display.model ≡ link.term.display.model
+leads : (link : Link) (step : TermStep) (rest : List ToTerminal) (wanted : Option (List ℕ)) (from to : LinkPhase) → step.end.display.model ≡ link.term.display.model
     → IsAt (view_of link) wanted from → Leads link.term.display.model wanted from to step.sends
     → IsTermTalk link.term.display.model wanted to step.end.talk → UnderWay link.lost rest (down_at link.term.display.model to)
     → IsAt (view_of (term_view step rest link)) wanted to
@@ -122,12 +122,12 @@ talk_took link term next saying sends e transition =
     ∙ ap (λ s. record { end = with_talk link.term next; sends = s; closes = None }) transition.sends_is
 
 -- the talk moves on
-pub talks : (app : Application) (link : Link) (rest : List ToTerminal) (k : Kept app (view_of link)) (from to : Moment) (term : Term) (next : Talk TermState) (saying : Saying) (sends : List ToHost) (message : ToTerminal)
-    → (may_differ_at to ≡ false → link.term.display.shape ≡ link.host.shape)
+pub talks : (app : Application) (link : Link) (rest : List ToTerminal) (k : Kept app (view_of link)) (from to : LinkPhase) (term : Term) (next : Talk TermState) (saying : Saying) (sends : List ToHost) (message : ToTerminal)
+    → (may_differ_at to ≡ false → link.term.display.size ≡ link.host.size)
     → IsAt (view_of link) k.wanted from → link.term.talk ≡ term → message ≡ ToTerminal.TalksDown saying → TalkTransition term saying next sends
     → IsTermTalk link.term.display.model k.wanted to (record link.term.talk { talk = next })
     → Leads link.term.display.model k.wanted from to sends → list_any is_negative (filter_map verdict_in sends) ≡ false → UnderWay link.lost rest (down_at link.term.display.model to)
-    → Fact k.wanted (scene_of (view_of (term_view (talk_step link next sends) rest link))) to → ShownAt app link.term.waits link.host link.term.display.before_restored link.term.display.last_restored link.term.display.screen to
+    → Fact k.wanted (local_state_of (view_of (term_view (talk_step link next sends) rest link))) to → ShownAt app link.term.waits link.host link.term.display.before_restored link.term.display.last_restored link.term.display.screen to
     → Obeyed app link rest (took link.term message)
 talks app link rest k from to term next saying sends message same at talk is transition then_talk l positive left fact shown =
     subst (λ m. Obeyed app link rest (took link.term m)) (sym is)
@@ -157,7 +157,7 @@ own_type M3 = refl
 own_type M4 = refl
 own_type M5 = refl
 
-pub granted_transition : Given → (model : Model) (wanted : Option (List ℕ)) (lu : List ℕ) → Suits wanted lu
+pub granted_transition : LowerLaws → (model : Model) (wanted : Option (List ℕ)) (lu : List ℕ) → MayBeGranted wanted lu
     → TalkTransition (talk_in model wanted TypeAsked) (Saying.Sub (TypeIs (device_for model) lu)) (start_at (FunctionsAsked lu)) (ToHost.TalksUp (Saying.Sub FunRequest) ∷ [])
 granted_transition given model None lu suits = record {
   reply = reply.Sub FunRequest Going;
@@ -209,15 +209,15 @@ pub painted-length : (wanted : WantedScreen) (screen : Screen) → length (plain
 painted-length wanted screen =
     length_over wanted.reset wanted.cells wanted.cells (cells_under (length wanted.cells) screen.cells) (length_under (length wanted.cells) screen.cells)
 
-pub bound : (link : Link) (wanted : Option (List ℕ)) (lu : List ℕ) (serving : Serving) → IsAt (view_of link) wanted (Moment.Serves lu serving) → is_bound link.term ≡ true
+pub bound : (link : Link) (wanted : Option (List ℕ)) (lu : List ℕ) (serving : Serving) → IsAt (view_of link) wanted (LinkPhase.Serves lu serving) → is_bound link.term ≡ true
 bound link wanted lu serving at = ap (λ state. is_some (bound_to state)) at.term_talk
 
 -- a step of a session that leaves the talk
 serves : (link : Link) (step : TermStep) (rest : List ToTerminal) (wanted : Option (List ℕ)) (lu : List ℕ) (from to : Serving) → step.end.display.model ≡ link.term.display.model
-    → IsAt (view_of link) wanted (Moment.Serves lu from) → Leads link.term.display.model wanted (Moment.Serves lu from) (Moment.Serves lu to) step.sends
-    → step.end.talk ≡ link.term.talk → UnderWay link.lost rest (down_at link.term.display.model (Moment.Serves lu to))
-    → IsAt (view_of (term_view step rest link)) wanted (Moment.Serves lu to)
-serves link step rest wanted lu from to model at l same left = leads link step rest wanted (Moment.Serves lu from) (Moment.Serves lu to) model at l (ap (λ (t : Term). t.talk.state) same ∙ at.term_talk) left
+    → IsAt (view_of link) wanted (LinkPhase.Serves lu from) → Leads link.term.display.model wanted (LinkPhase.Serves lu from) (LinkPhase.Serves lu to) step.sends
+    → step.end.talk ≡ link.term.talk → UnderWay link.lost rest (down_at link.term.display.model (LinkPhase.Serves lu to))
+    → IsAt (view_of (term_view step rest link)) wanted (LinkPhase.Serves lu to)
+serves link step rest wanted lu from to model at l same left = leads link step rest wanted (LinkPhase.Serves lu from) (LinkPhase.Serves lu to) model at l (ap (λ (t : Term). t.talk.state) same ∙ at.term_talk) left
 
 -- ---- a paint
 
@@ -225,19 +225,19 @@ serves link step rest wanted lu from to model at l same left = leads link step r
 abbrev pub showing : Screen → TermEnd → TermEnd
 showing screen end = record end { display = record end.display { screen = screen } }
 
-pub paints_on : Given → (app : Application) → IsApplication app → (link : Link) (rest : List ToTerminal) (k : Kept app (view_of link)) (lu : List ℕ) (number : ℕ) (command : CommandParts) (wants : WantedScreen) (over : Shadow)
-    → IsAt (view_of link) k.wanted (Moment.Serves lu (Serving.Painting number command wants over)) → IsPainted (scene_of (view_of link)) command wants over → (asked : WantsItsPanelOn app link.term.waits link.host over wants link.term.display.screen)
+pub paints_on : LowerLaws → (app : Application) → IsApplication app → (link : Link) (rest : List ToTerminal) (k : Kept app (view_of link)) (lu : List ℕ) (number : ℕ) (command : CommandParts) (wants : WantedScreen) (over : Shadow)
+    → IsAt (view_of link) k.wanted (LinkPhase.Serves lu (Serving.Painting number command wants over)) → IsPainted (local_state_of (view_of link)) command wants over → (asked : WantsItsPanelOn app link.term.waits link.host over wants link.term.display.screen)
     → UnderWay link.lost rest [] → (screen : Screen) → Meets over screen → (link.term.waits ≡ true → Meets asked.wants.conn.shadow screen) → Kept app (view_of (term_view (paint_came number wants (showing screen link.term)) rest link))
 paints_on given app is link rest k lu number command wants over at f asked left screen meets told =
-    let size : ℕ = cells_in link.host.shape in
+    let size : ℕ = cells_in link.host.size in
     let new : Screen = plainly_painted wants screen in
     let wanted_size : ℕ = cells_in wants.size in
     let base : wanted_size ≡ size = ap (λ (shape : Shape). cells_in shape) f.paintable.showable.size in
     let same : length wants.cells ≡ wanted_size = f.paintable.showable.cells ∙ sym base in
     let fits = f.paintable.fits in
-    let is_taken : taken wanted_size (paint wanted_size over wants) over ≡ once_taken link.host.shape command link.host.shadow =
+    let is_taken : taken wanted_size (paint wanted_size over wants) over ≡ once_taken link.host.size command link.host.shadow =
     ap (λ n. taken n (paint wanted_size over wants) over) base ∙ ap (λ (c : CommandParts). taken size c over) (sym f.command_is) ∙ ap (taken size command) f.over_is in
-    let exact : FactsAreExact (once_taken link.host.shape command link.host.shadow) = record {
+    let exact : FactsAreExact (once_taken link.host.size command link.host.shadow) = record {
       known = given.belief.taken_exact size command link.host.shadow k.exact.known;
       protected = subst ProtectedIsExact is_taken (given.belief.painted_exact over wants screen same fits meets (subst KnownIsExact (sym f.over_is) k.exact.known));
     } in
@@ -248,7 +248,7 @@ paints_on given app is link rest k lu number command wants over at f asked left 
       as_left = λ _. all_as_left (message_place wants.size) new.cells;
       exact = k.exact;
       wanted = k.wanted;
-      moment = Moment.Serves lu (Serving.Answering Kind.APaint number command);
+      moment = LinkPhase.Serves lu (Serving.Answering Kind.APaint number command);
       sizes = record {
         host = k.sizes.host;
         screen = subst (λ (s : Shape). IsSizeOf app link.term.display.model s) (sym f.paintable.showable.size) k.sizes.host;
@@ -263,14 +263,14 @@ paints_on given app is link rest k lu number command wants over at f asked left 
         closed = λ relies. subst NothingIsOpen is_taken (given.belief.paint_opens over wants screen same fits f.paintable.showable.kept meets (subst KnownIsExact (sym f.over_is) k.exact.known) (f.closed relies));
         knows = subst Knows is_taken (given.belief.known wanted_size over wants);
         held = given.keys.at_first new.cells;
-        messages = given.notes.painted_takes link.host.shape over wants screen f.paintable;
+        messages = given.notes.painted_takes link.host.size over wants screen f.paintable;
         noted = record { places = record { size = refl; kinds = λ place. refl }; each = λ place. inr refl; above = λ place before. refl };
       };
       shown = record { wanted = wants; over = over; wanted_for = asked.wants; told = told; meets = meets; fits = fits; is = refl };
     }
 
-pub takes_paint : Given → (app : Application) → IsApplication app → (link : Link) (rest : List ToTerminal) (k : Kept app (view_of link)) (lu : List ℕ) (number : ℕ) (command : CommandParts) (wants : WantedScreen) (over : Shadow)
-    → IsAt (view_of link) k.wanted (Moment.Serves lu (Serving.Painting number command wants over)) → IsPainted (scene_of (view_of link)) command wants over → WantsItsPanelOn app link.term.waits link.host over wants link.term.display.screen
+pub takes_paint : LowerLaws → (app : Application) → IsApplication app → (link : Link) (rest : List ToTerminal) (k : Kept app (view_of link)) (lu : List ℕ) (number : ℕ) (command : CommandParts) (wants : WantedScreen) (over : Shadow)
+    → IsAt (view_of link) k.wanted (LinkPhase.Serves lu (Serving.Painting number command wants over)) → IsPainted (local_state_of (view_of link)) command wants over → WantsItsPanelOn app link.term.waits link.host over wants link.term.display.screen
     → UnderWay link.lost rest [] → Obeyed app link rest (took link.term (ToTerminal.Paint number wants over))
 takes_paint given app is link rest k lu number command wants over at f asked left =
     subst (Obeyed app link rest) (ap (λ b. once_bound b (paint_came number wants link.term) link.term) (sym (bound link k.wanted lu _ at)))
@@ -286,19 +286,19 @@ takes_paint given app is link rest k lu number command wants over at f asked lef
 abbrev pub read_of : Screen → Bool → TermEnd → TermStep
 read_of screen erased end = record {
   end = record end { display = record end.display { screen = record screen { aid = end.display.screen.aid }; erased = erased } };
-  sends = ToHost.Data (buffer_data end.display.shape screen) ∷ [];
+  sends = ToHost.Data (buffer_data end.display.size screen) ∷ [];
   closes = None;
 }
 
-pub reads_on : (app : Application) (link : Link) (rest : List ToTerminal) (k : Kept app (view_of link)) → link.term.display.shape ≡ link.host.shape → (lu : List ℕ) (number : ℕ) → IsAt (view_of link) k.wanted (Moment.Serves lu (Serving.Reading number))
-    → IsRead (scene_of (view_of link)) → ShownAt app link.term.waits link.host link.term.display.before_restored link.term.display.last_restored link.term.display.screen (Moment.Serves lu (Serving.Reading number)) → UnderWay link.lost rest []
-    → (screen : Screen) (erased : Bool) → length screen.cells ≡ cells_in link.term.display.shape → screen.cursor < cells_in link.term.display.shape
-    → UnmodifiedIsKept erased link.term.display.last_restored.cells screen.cells → ProtectedIsAsLeft (message_place link.term.display.shape) link.term.display.last_restored.cells screen.cells
-    → IsOkAnd (heard (length screen.cells) link.host.shadow (buffer_data link.host.shape screen)) (Believed false (record screen { aid = link.term.display.screen.aid }))
+pub reads_on : (app : Application) (link : Link) (rest : List ToTerminal) (k : Kept app (view_of link)) → link.term.display.size ≡ link.host.size → (lu : List ℕ) (number : ℕ) → IsAt (view_of link) k.wanted (LinkPhase.Serves lu (Serving.Reading number))
+    → IsRead (local_state_of (view_of link)) → ShownAt app link.term.waits link.host link.term.display.before_restored link.term.display.last_restored link.term.display.screen (LinkPhase.Serves lu (Serving.Reading number)) → UnderWay link.lost rest []
+    → (screen : Screen) (erased : Bool) → length screen.cells ≡ cells_in link.term.display.size → screen.cursor < cells_in link.term.display.size
+    → UnmodifiedIsKept erased link.term.display.last_restored.cells screen.cells → ProtectedIsAsLeft (message_place link.term.display.size) link.term.display.last_restored.cells screen.cells
+    → IsOkAnd (heard (length screen.cells) link.host.shadow (buffer_data link.host.size screen)) (Believed false (record screen { aid = link.term.display.screen.aid }))
     → rule_break link.host.shadow screen.cells ≡ None
     → Kept app (view_of (term_view (read_of screen erased link.term) rest link))
 reads_on app link rest k same lu number at f shown left screen erased whole on unreturned as_left will unbroken =
-    let parts : InboundParts = buffer_data link.term.display.shape screen in
+    let parts : InboundParts = buffer_data link.term.display.size screen in
     record {
       whole = whole;
       cursor = on;
@@ -306,7 +306,7 @@ reads_on app link rest k same lu number at f shown left screen erased whole on u
       as_left = λ uncleared. as_left;
       exact = k.exact;
       wanted = k.wanted;
-      moment = Moment.Serves lu (Serving.Reported number parts);
+      moment = LinkPhase.Serves lu (Serving.Reported number parts);
       sizes = record { host = k.sizes.host; screen = k.sizes.screen; same = λ steady. same };
       at = serves link (read_of screen erased link.term) rest k.wanted lu _ (Serving.Reported number parts) refl at (record { host_talk = λ talk is. is; turn = refl; pending = refl; up = refl }) refl left;
       fact = record {
@@ -315,20 +315,20 @@ reads_on app link rest k same lu number at f shown left screen erased whole on u
         closed = f.decides.closed;
         not_cleared = f.not_cleared;
         says = ap (λ (size : Shape). buffer_data size screen) same;
-        will = subst (λ (n : ℕ). IsOkAnd (heard n link.host.shadow (buffer_data link.host.shape screen)) (Believed false (record screen { aid = link.term.display.screen.aid }))) (whole ∙ ap (λ (s : Shape). cells_in s) same) will;
+        will = subst (λ (n : ℕ). IsOkAnd (heard n link.host.shadow (buffer_data link.host.size screen)) (Believed false (record screen { aid = link.term.display.screen.aid }))) (whole ∙ ap (λ (s : Shape). cells_in s) same) will;
         unbroken = unbroken;
       };
       shown = shown;
     }
 
-pub takes_read : Given → (app : Application) (link : Link) (rest : List ToTerminal) (k : Kept app (view_of link)) → link.term.display.shape ≡ link.host.shape → (lu : List ℕ) (number : ℕ) → IsAt (view_of link) k.wanted (Moment.Serves lu (Serving.Reading number))
-    → IsRead (scene_of (view_of link)) → ShownAt app link.term.waits link.host link.term.display.before_restored link.term.display.last_restored link.term.display.screen (Moment.Serves lu (Serving.Reading number)) → UnderWay link.lost rest []
+pub takes_read : LowerLaws → (app : Application) (link : Link) (rest : List ToTerminal) (k : Kept app (view_of link)) → link.term.display.size ≡ link.host.size → (lu : List ℕ) (number : ℕ) → IsAt (view_of link) k.wanted (LinkPhase.Serves lu (Serving.Reading number))
+    → IsRead (local_state_of (view_of link)) → ShownAt app link.term.waits link.host link.term.display.before_restored link.term.display.last_restored link.term.display.screen (LinkPhase.Serves lu (Serving.Reading number)) → UnderWay link.lost rest []
     → Obeyed app link rest (took link.term (ToTerminal.ReadBuffer number))
 takes_read given app link rest k same lu number at f shown left =
     subst (Obeyed app link rest) (ap (λ b. once_bound b (read_came link.term) link.term) (sym (bound link k.wanted lu _ at)))
     (record {
       kept = reads_on app link rest k same lu number at f shown left link.term.display.screen link.term.display.erased k.whole k.cursor (k.unreturned f.not_cleared) (k.as_left f.not_cleared)
-          (given.belief.reads link.host.shape link.host.shadow link.term.display.screen f.decides.sees.meets)
+          (given.belief.reads link.host.size link.host.shadow link.term.display.screen f.decides.sees.meets)
           (given.belief.unbroken false link.host.shadow link.term.display.screen link.term.display.screen f.decides.sees.meets (given.keys.at_first link.term.display.screen.cells));
       open_end = refl;
       positive = refl;
@@ -344,7 +344,7 @@ pub record Noted (command : CommandParts) (screen : Screen) : Type 0 where
   pub cursor : (after_command command screen).cursor ≡ screen.cursor
   pub aid : (after_command command screen).aid ≡ screen.aid
 
-pub noted_on_it : Given → (shape : Shape) (command : CommandParts) (screen : Screen) → IsShape shape → IsNoteOf shape command → length screen.cells ≡ cells_in shape → TakesNotes shape screen.cells → Noted command screen
+pub noted_on_it : LowerLaws → (shape : Shape) (command : CommandParts) (screen : Screen) → IsShape shape → IsNoteOf shape command → length screen.cells ≡ cells_in shape → TakesNotes shape screen.cells → Noted command screen
 noted_on_it given shape command screen is note whole takes =
     let bounds = given.notes.bounds command screen (given.notes.are_notes shape command is note).note in
     record {
@@ -362,7 +362,7 @@ behind_row shape command screen is note whole =
     each_noted (λ (at : ℕ). message_place shape < at) shape command (length screen.cells) is note whole (λ place after within. after)
 
 -- what wasn't returned stays, on a screen with a row for messages and on one without fields
-kept_by : Given → (shape : Shape) (command : CommandParts) (screen : Screen) (erased : Bool) (left : List Cell) → IsShape shape → IsNoteOf shape command → length screen.cells ≡ cells_in shape → TakesNotes shape screen.cells
+kept_by : LowerLaws → (shape : Shape) (command : CommandParts) (screen : Screen) (erased : Bool) (left : List Cell) → IsShape shape → IsNoteOf shape command → length screen.cells ≡ cells_in shape → TakesNotes shape screen.cells
     → UnmodifiedIsKept erased left screen.cells → UnmodifiedIsKept erased left (after_command command screen).cells
 kept_by given shape command screen erased left is note whole takes kept = by_form takes
   where
@@ -397,7 +397,7 @@ open_for (turn_reasons.Key aid buffered) old new f o = open_by aid buffered old 
 open_for turn_reasons.Refusal old new f o = absurd o
 
 -- the host will see the screen with the note on it
-pub sees_noted : Given → (unheard : Unheard) (shape : Shape) (command : CommandParts) (screen : Screen) (shadow : Shadow) → IsNoteOf shape command → length screen.cells ≡ cells_in shape → Noted command screen → Sees unheard shape screen shadow
+pub sees_noted : LowerLaws → (unheard : Unheard) (shape : Shape) (command : CommandParts) (screen : Screen) (shadow : Shadow) → IsNoteOf shape command → length screen.cells ≡ cells_in shape → Noted command screen → Sees unheard shape screen shadow
     → Sees unheard shape (after_command command screen) (taken (cells_in shape) command shadow)
 sees_noted given unheard shape command screen shadow note whole noted s =
     subst (λ n. Sees unheard shape (after_command command screen) (taken n command shadow)) whole
@@ -429,39 +429,39 @@ pub shape_of_model : (app : Application) (model : Model) (size : Shape) → IsAp
 shape_of_model app model size is (inl base) = subst IsShape (sym base) is.begins
 shape_of_model app model size is (inr alternate) = subst IsShape (sym alternate) (is.alternates model)
 
-module _ (given : Given) (app : Application) (is : IsApplication app) (link : Link) (rest : List ToTerminal) (k : Kept app (view_of link)) (same : link.term.display.shape ≡ link.host.shape) where
+module _ (given : LowerLaws) (app : Application) (is : IsApplication app) (link : Link) (rest : List ToTerminal) (k : Kept app (view_of link)) (same : link.term.display.size ≡ link.host.size) where
   abbrev screen : Screen
   screen = link.term.display.screen
 
   abbrev shape : Shape
-  shape = link.host.shape
+  shape = link.host.size
 
-  pub is_shape : IsShape link.host.shape
-  is_shape = shape_of_model app link.term.display.model link.host.shape is k.sizes.host
+  pub is_shape : IsShape link.host.size
+  is_shape = shape_of_model app link.term.display.model link.host.size is k.sizes.host
 
   pub whole_here : length screen.cells ≡ cells_in shape
   whole_here = k.whole ∙ ap (λ (s : Shape). cells_in s) same
 
   -- at any moment of the session at which a note goes down
-  pub takes_note : (lu : List ℕ) (number : ℕ) (command : CommandParts) (from to : Serving) → IsAt (view_of link) k.wanted (Moment.Serves lu from) → IsNoteOf shape command → TakesNotes shape screen.cells
-      → Leads link.term.display.model k.wanted (Moment.Serves lu from) (Moment.Serves lu to) (note_came number command link.term).sends
-      → UnderWay link.lost rest (down_at link.term.display.model (Moment.Serves lu to))
-      → Fact k.wanted (scene_of (view_of (term_view (note_came number command link.term) rest link))) (Moment.Serves lu to)
-      → ShownAt app link.term.waits link.host link.term.display.before_restored link.term.display.last_restored (after_command command screen) (Moment.Serves lu to) → Obeyed app link rest (took link.term (ToTerminal.Note number command))
+  pub takes_note : (lu : List ℕ) (number : ℕ) (command : CommandParts) (from to : Serving) → IsAt (view_of link) k.wanted (LinkPhase.Serves lu from) → IsNoteOf shape command → TakesNotes shape screen.cells
+      → Leads link.term.display.model k.wanted (LinkPhase.Serves lu from) (LinkPhase.Serves lu to) (note_came number command link.term).sends
+      → UnderWay link.lost rest (down_at link.term.display.model (LinkPhase.Serves lu to))
+      → Fact k.wanted (local_state_of (view_of (term_view (note_came number command link.term) rest link))) (LinkPhase.Serves lu to)
+      → ShownAt app link.term.waits link.host link.term.display.before_restored link.term.display.last_restored (after_command command screen) (LinkPhase.Serves lu to) → Obeyed app link rest (took link.term (ToTerminal.Note number command))
   takes_note lu number command from to at note takes l left fact shown =
       let noted = noted_on_it given shape command screen is_shape note whole_here takes in
       subst (Obeyed app link rest) (ap (λ b. once_bound b (note_came number command link.term) link.term) (sym (bound link k.wanted lu from at)))
       (record {
         kept = record {
           whole = noted.size ∙ k.whole;
-          cursor = subst (λ n. n < cells_in link.term.display.shape) (sym noted.cursor) k.cursor;
+          cursor = subst (λ n. n < cells_in link.term.display.size) (sym noted.cursor) k.cursor;
           unreturned = λ uncleared. kept_by given shape command screen link.term.display.erased link.term.display.last_restored.cells is_shape note whole_here takes (k.unreturned (λ clear. uncleared (noted.aid ∙ clear)));
-          as_left = λ uncleared. as_left_noted given.notes.form command (message_place link.term.display.shape) link.term.display.last_restored.cells screen noted.characters
+          as_left = λ uncleared. as_left_noted given.notes.form command (message_place link.term.display.size) link.term.display.last_restored.cells screen noted.characters
               (subst (λ (s : Shape). All (λ (at : ℕ). message_place s < at) (places_noted (length screen.cells) command)) (sym same) (behind_row shape command screen is_shape note whole_here))
               (k.as_left (λ clear. uncleared (noted.aid ∙ clear)));
           exact = k.exact;
           wanted = k.wanted;
-          moment = Moment.Serves lu to;
+          moment = LinkPhase.Serves lu to;
           sizes = record { host = k.sizes.host; screen = k.sizes.screen; same = λ steady. same };
           at = serves link (note_came number command link.term) rest k.wanted lu from to refl at l refl left;
           fact = fact;
@@ -472,12 +472,12 @@ module _ (given : Given) (app : Application) (is : IsApplication app) (link : Li
       })
 
   -- while the operator types: the note is written over what was shown, too
-  pub operates_noted : (command : CommandParts) → IsNoteOf shape command → (f : Operates link.host.shadow (scene_of (view_of link))) → (number : ℕ)
-      → Operates (once_taken link.host.shape command link.host.shadow) (scene_of (view_of (term_view (note_came number command link.term) rest link)))
+  pub operates_noted : (command : CommandParts) → IsNoteOf shape command → (f : Operates link.host.shadow (local_state_of (view_of link))) → (number : ℕ)
+      → Operates (once_taken link.host.size command link.host.shadow) (local_state_of (view_of (term_view (note_came number command link.term) rest link)))
   operates_noted command note f number =
       let shown : Screen = f.shown in
-      let whole : length shown.cells ≡ cells_in link.host.shape = sym f.held.same_length ∙ whole_here in
-      let written_on : cells_in command.size ≡ cells_in link.host.shape = ap (λ (c : CommandParts). cells_in c.size) note.is in
+      let whole : length shown.cells ≡ cells_in link.host.size = sym f.held.same_length ∙ whole_here in
+      let written_on : cells_in command.size ≡ cells_in link.host.size = ap (λ (c : CommandParts). cells_in c.size) note.is in
       let noted = noted_on_it given shape command shown is_shape note whole (TakesNotes.formatted f.messages) in
       let writes = given.notes.writes_protected shape command shown.cells is_shape note whole f.messages in
       let both = given.notes.exact command link.host.shadow shown noted.over f.meets f.exact.known f.exact.protected in
@@ -490,7 +490,7 @@ module _ (given : Given) (app : Application) (is : IsApplication app) (link : Li
         };
         meets = subst (λ n. Meets (taken n command link.host.shadow) (after_command command shown)) written_on (given.belief.written command link.host.shadow shown noted.over.spelt noted.over.plain (λ code. whole ∙ sym written_on) f.meets);
         closed = λ relies. subst (λ n. NothingIsOpen (taken n command link.host.shadow)) whole (given.notes.opens command link.host.shadow shown noted.over f.meets (f.closed relies));
-        knows = given.notes.placed (cells_in link.host.shape) command link.host.shadow noted.over.writes noted.over.placed f.knows;
+        knows = given.notes.placed (cells_in link.host.size) command link.host.shadow noted.over.writes noted.over.placed f.knows;
         held = given.notes.held link.term.display.erased command shown screen writes f.held;
         messages = given.notes.same_takes shape shown.cells (after_command command shown).cells (given.notes.form command shown noted.characters).attributes f.messages;
         noted = noted_on given.notes.form command (message_place shape) link.term.display.last_restored.cells shown noted.characters writes (behind_row shape command shown is_shape note whole)

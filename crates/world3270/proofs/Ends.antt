@@ -14,14 +14,14 @@ use Rattle.host_core.specs.Notes.{noted}
 use Rattle.host_core.specs.Takes.{freed_if, HostStep, took as host_took}
 use Rattle.host_core.specs.Questions.{answered_on}
 use Rattle.host_core.specs.declared.terminals.Terminals.{Terminals}
-use Rattle.world3270.specs.Always.{Always}
-use Rattle.world3270.specs.Given.{Given}
-use Rattle.world3270.specs.Happens.{closed_if, came_up, left_alone, came_down, went_down, key_went, host_parted, parted, term_saw, joined, term_anew, host_left_from, host_anew, done, happens, run}
-use Rattle.world3270.specs.Link.{Link, begun, cut, host_left, host_left_if, host_stepped, host_sent, term_left, term_left_if, term_stepped}
-use Rattle.world3270.specs.Placed.{has_place, is_link, is_queued, comes_up, free_number}
-use Rattle.world3270.specs.Places.{IsHeld, UpIsHeld, HoldersAreHere}
-use Rattle.world3270.specs.Terminal.{Display, TermStep, new_display, key_came, took as term_took}
-use Rattle.world3270.specs.World.{Place, World, Event, new_world, with_at, with_link, display_at}
+use Rattle.world3270.specs.statement.Always.{Always}
+use Rattle.world3270.specs.refinement.LowerLaws.{LowerLaws}
+use Rattle.world3270.specs.model.Steps.{closed_if, came_up, left_alone, came_down, went_down, key_went, host_parted, parted, term_saw, joined, term_anew, host_left_from, host_anew, done, stepped_by, run}
+use Rattle.world3270.specs.model.Link.{Link, begun, cut, host_left, host_left_if, host_stepped, host_sent, term_left, term_left_if, term_stepped}
+use Rattle.world3270.specs.model.Enabled.{is_enabled, is_link, is_queued, comes_up, free_number}
+use Rattle.world3270.specs.model.Places.{IsHeld, UpIsHeld, HoldersAreHere}
+use Rattle.world3270.specs.model.Terminal.{Display, TermStep, new_display, key_came, took as term_took}
+use Rattle.world3270.specs.model.World.{Place, World, Event, new_world, with_at, with_link, display_at}
 use Rattle.world3270.proofs.OneOfMany.{all_with}
 use Rattle.world3270.proofs.Others.{back_was, came_up_was, closed_pool}
 
@@ -74,12 +74,12 @@ closed_both (Some cause) world b = b
 
 -- ---- the host
 
-here_after : Given → (pool : List Entry) (number other : ℕ) (lu : List ℕ) (cause : Option Cause) (next : Link) → next.host_here ≡ true → (other == number) ≡ true → holder (freed_if number cause pool) lu ≡ Some other
+here_after : LowerLaws → (pool : List Entry) (number other : ℕ) (lu : List ℕ) (cause : Option Cause) (next : Link) → next.host_here ≡ true → (other == number) ≡ true → holder (freed_if number cause pool) lu ≡ Some other
     → (host_left_if cause next).host_here ≡ true
 here_after given pool number other lu None next here same e = here
 here_after given pool number other lu (Some cause) next here same e = let gone = (back_was given pool number other lu e).0 in absurd (cc)
 
-came_up_both : Given → (world : World) (number : ℕ) (up : List ToHost) → (world.link number).host_here ≡ true → BothHold world → BothHold (came_up number up world)
+came_up_both : LowerLaws → (world : World) (number : ℕ) (up : List ToHost) → (world.link number).host_here ≡ true → BothHold world → BothHold (came_up number up world)
 came_up_both given world number [] here b = b
 came_up_both given world number (message ∷ rest) here b =
     closed_both step.closes (record world { pool = freed_if number step.closes (granted_if number step.grants world.pool); link = with_at number new world.link })
@@ -109,7 +109,7 @@ sends_both world number sending b =
     let link : Link = world.link number in
     changed world.pool world.link number (host_sent sending link) (sends_held sending link (b.held number)) (λ e. sends_here sending link ∙ e) b
 
-host_parted_both : Given → (world : World) (number : ℕ) → BothHold world → BothHold (host_parted number world)
+host_parted_both : LowerLaws → (world : World) (number : ℕ) → BothHold world → BothHold (host_parted number world)
 host_parted_both given world number b =
     record { held = all_with (λ n x. Held x) number new world.link (λ e. absurd (cc)) b.held; here = λ other lu e. by_test other lu e (other == number) refl }
   where
@@ -127,7 +127,7 @@ host_left_from_held link held = by_here link.host_here
     by_here true = λ e. absurd (cc)
     by_here false = held
 
-host_anew_both : Given → (world : World) → BothHold world → BothHold (host_anew world)
+host_anew_both : LowerLaws → (world : World) → BothHold world → BothHold (host_anew world)
 host_anew_both given world b = record {
   held = λ number. host_left_from_held (world.link number) (b.held number);
   here = λ number lu e. let free = given.pool.nobody world.pool lu in absurd (cc);
@@ -172,7 +172,7 @@ joined_both app world terminal model wanted (Some number) b =
 
 -- ---- any event
 
-done_both : Given → (app : Application) (event : Event) (world : World) → has_place app event world ≡ true → BothHold world → BothHold (done app event world)
+done_both : LowerLaws → (app : Application) (event : Event) (world : World) → is_enabled app event world ≡ true → BothHold world → BothHold (done app event world)
 done_both given app (Event.Press terminal key) world here b = key_went_both world terminal key (world.place terminal) b
 done_both given app (Event.Up number) world here b =
     let link : Link = world.link number in
@@ -189,22 +189,22 @@ done_both given app (Event.Connect terminal wanted) world here b = joined_both a
 done_both given app (Event.RestartTerm terminal) world here b = term_anew_both app world terminal (world.place terminal) b
 done_both given app Event.RestartHost world here b = host_anew_both given world b
 
-happens_both : Given → (app : Application) (event : Event) (world : World) → BothHold world → BothHold (happens app event world)
-happens_both given app event world b = by_test (has_place app event world) refl
+happens_both : LowerLaws → (app : Application) (event : Event) (world : World) → BothHold world → BothHold (stepped_by app event world)
+happens_both given app event world b = by_test (is_enabled app event world) refl
   where
-    by_test : (t : Bool) → has_place app event world ≡ t → BothHold (if t then done app event world else world)
+    by_test : (t : Bool) → is_enabled app event world ≡ t → BothHold (if t then done app event world else world)
     by_test true here = done_both given app event world here b
     by_test false here = b
 
-run_both : Given → (app : Application) (events : List Event) (world : World) → BothHold world → BothHold (run app events world)
+run_both : LowerLaws → (app : Application) (events : List Event) (world : World) → BothHold world → BothHold (run app events world)
 run_both given app [] world b = b
-run_both given app (event ∷ events) world b = run_both given app events (happens app event world) (happens_both given app event world b)
+run_both given app (event ∷ events) world b = run_both given app events (stepped_by app event world) (happens_both given app event world b)
 
-new_both : Given → (app : Application) (serves : Terminals) (pool : List Entry) (models : List Model) → BothHold (new_world app serves pool models)
+new_both : LowerLaws → (app : Application) (serves : Terminals) (pool : List Entry) (models : List Model) → BothHold (new_world app serves pool models)
 new_both given app serves pool models = record { held = λ number e. absurd (cc); here = λ number lu e. let free = given.pool.nobody pool lu in absurd (cc) }
 
-pub up_is_held : Given → Always UpIsHeld
+pub up_is_held : LowerLaws → Always UpIsHeld
 up_is_held given app serves pool models events is lists few are = (run_both given app events (new_world app serves pool models) (new_both given app serves pool models)).held
 
-pub holders_are_here : Given → Always HoldersAreHere
+pub holders_are_here : LowerLaws → Always HoldersAreHere
 holders_are_here given app serves pool models events is lists few are = (run_both given app events (new_world app serves pool models) (new_both given app serves pool models)).here

@@ -1,9 +1,9 @@
 -- Events over bytes happen one after another, and one more.
 use Rattle.std.proofs.Common.{◌≡◌, ◌<◌, ◌+◌, ◌++◌, take, ℕ, List, [], ◌∷◌, None, length, get_or, refl, sym, subst}
 use Rattle.std.proofs.lemmas.List.{take_more}
-use Rattle.world3270.specs.ByteRuns.{AllHappen, refused_at}
-use Rattle.world3270.specs.ByteSteps.{Steps}
-use Rattle.world3270.specs.ByteWorld.{ByteWorld}
+use Rattle.world3270.specs.model.ByteRuns.{AllHappen, refused_at}
+use Rattle.world3270.specs.model.ByteSteps.{Steps}
+use Rattle.world3270.specs.model.ByteWorld.{ByteWorld}
 use Rattle.world3270.specs.declared.event.Event.{Event}
 use Rattle.world3270.specs.declared.event.Stepped.{Stepped}
 

@@ -5,7 +5,7 @@ use Rattle.std.proofs.lemmas.List.{length-replicate}
 use Rattle.codes3270.specs.Size.{cells_in}
 use Rattle.codes3270.specs.declared.attribute.Cell.TheVariants.{Char}
 use Rattle.datastream.specs.Fields.{Field, fields}
-use Rattle.datastream.specs.Held.{Held}
+use Rattle.datastream.specs.KeptByKeys.{KeptByKeys}
 use Rattle.datastream.specs.HeldLaws.{HeldIsRound}
 use Rattle.datastream.specs.Screen.{Screen}
 use Rattle.shadow.specs.Belief.{Shadow}
@@ -23,23 +23,23 @@ use Rattle.host_core.specs.Answering.{number_of}
 use Rattle.host_core.specs.Application.{Application, IsApplication, message_place}
 use Rattle.host_core.specs.Messages.{ToHost, ToTerminal}
 use Rattle.host_core.specs.Questions.{question_in}
-use Rattle.host_core.specs.Session.{Conn, agreed_lu, new_conn}
+use Rattle.host_core.specs.Session.{Session, agreed_lu, new_conn}
 use Rattle.host_core.specs.Takes.{may_have_changed}
 use Rattle.host_core.specs.declared.question.Question.{Question}
-use Rattle.world3270.specs.Asked.{AreFieldsAsked, IsSeen}
-use Rattle.world3270.specs.EveryTerminal.{AreByTheRules, Begins, EveryTerminal, IsByTheRules, Move, RightOf, Told, after_moves, came_down, came_up, moved, told_link}
-use Rattle.world3270.specs.Given.{Given}
-use Rattle.world3270.specs.Headline.{Agrees, IsHostsTurn, SeesTheScreen}
-use Rattle.world3270.specs.Link.{Link}
-use Rattle.world3270.specs.Moments.{IsAt, Moment, Serving, Talking, UnderWay}
-use Rattle.world3270.specs.Rules.{Binds}
-use Rattle.world3270.specs.Seen.{HostSeen, SeenLink, TerminalSeen, end_seen, host_seen, seen_link, terminal_seen}
-use Rattle.world3270.specs.Showing.{ShowsItsPanel}
-use Rattle.world3270.specs.Shown.{HasShown, IsPanelShown}
-use Rattle.world3270.specs.ShownFields.{WantsItsFields}
-use Rattle.world3270.specs.Stages.{Fact, FactsAreExact, IsNew, Kept, ShownAt, scene_of}
-use Rattle.world3270.specs.Terminal.{Display, TermEnd, bound_to, new_display}
-use Rattle.world3270.specs.View.{view_of}
+use Rattle.world3270.specs.statement.Asked.{AreFieldsAsked, IsSeen}
+use Rattle.world3270.specs.statement.EveryTerminal.{AreByTheRules, Begins, EveryTerminal, IsByTheRules, Move, RightOf, ReportedLink, after_moves, came_down, came_up, moved, told_link}
+use Rattle.world3270.specs.refinement.LowerLaws.{LowerLaws}
+use Rattle.world3270.specs.statement.Headline.{Agrees, IsHostsTurn, SeesTheScreen}
+use Rattle.world3270.specs.model.Link.{Link}
+use Rattle.world3270.specs.refinement.Phases.{IsAt, LinkPhase, Serving, Talking, UnderWay}
+use Rattle.world3270.specs.statement.Rules.{Binds}
+use Rattle.world3270.specs.statement.Observation.{HostSeen, SeenLink, TerminalSeen, end_seen, host_seen, seen_link, terminal_seen}
+use Rattle.world3270.specs.statement.Showing.{ShowsItsPanel}
+use Rattle.world3270.specs.statement.Shown.{HasShown, IsPanelShown}
+use Rattle.world3270.specs.statement.ShownFields.{WantsItsFields}
+use Rattle.world3270.specs.refinement.Invariant.{Fact, FactsAreExact, IsNew, Kept, ShownAt, local_state_of}
+use Rattle.world3270.specs.model.Terminal.{Display, TermEnd, bound_to, new_display}
+use Rattle.world3270.specs.refinement.View.{view_of}
 use Rattle.world3270.proofs.Asked.{asked_seen, each_asked}
 use Rattle.world3270.proofs.Obeys.{decides_new}
 use Rattle.world3270.proofs.Headline.{Knows, agrees, bound_agrees, host_attached, knows_at, nothing_waits}
@@ -56,11 +56,11 @@ use Rattle.world3270.proofs.Worlds.{some_cells}
 
 -- ---- at agreement
 
-module _ (given : Given) (app : Application) (is : IsApplication app) (lu : List ℕ) (t : Told) (b : Begins app lu t) where
+module _ (given : LowerLaws) (app : Application) (is : IsApplication app) (lu : List ℕ) (t : ReportedLink) (b : Begins app lu t) where
   abbrev blank : Display
   blank = new_display (model_of b.device) app.begins
 
-  abbrev host : Conn
+  abbrev host : Session
   host = record (new_conn b.serves app) { talk = t.link.host.talk }
 
   -- the waiting terminal's link
@@ -70,10 +70,10 @@ module _ (given : Given) (app : Application) (is : IsApplication app) (lu : List
   nothing_known : FactsAreExact Shadow.NothingKnown
   nothing_known = record { known = given.belief.nothing_exact.0; protected = given.belief.nothing_exact.1 }
 
-  is_new : IsNew (scene_of (view_of begun))
+  is_new : IsNew (local_state_of (view_of begun))
   is_new = record { shadow = refl; turn_reason = refl; lock = refl; aid = refl; no_fields = no_field (replicate (cells_in app.begins) (Char 0)) 0 (cells_in app.begins) }
 
-  is_at : (moment : Moment) → IsAt (view_of begun) None moment → Fact None (scene_of (view_of begun)) moment → ShownAt app false host blank.before_restored blank.last_restored blank.screen moment → Kept app (view_of begun)
+  is_at : (moment : LinkPhase) → IsAt (view_of begun) None moment → Fact None (local_state_of (view_of begun)) moment → ShownAt app false host blank.before_restored blank.last_restored blank.screen moment → Kept app (view_of begun)
   is_at moment at fact shown = record {
     whole = length-replicate (cells_in app.begins) (Char 0);
     cursor = some_cells app.begins is.begins;
@@ -96,7 +96,7 @@ module _ (given : Given) (app : Application) (is : IsApplication app) (lu : List
     where
       by_talk : Binds lu t.link.term.talk.talk.state t.link.down → Kept app (view_of begun)
       by_talk (Binds.bound state down) =
-          is_at (Moment.Serves lu Serving.Deciding)
+          is_at (LinkPhase.Serves lu Serving.Deciding)
           (record {
             host_talk = record { device = b.device; state_is = b.agreed; model_is = refl };
             term_talk = state;
@@ -104,9 +104,9 @@ module _ (given : Given) (app : Application) (is : IsApplication app) (lu : List
             pending = refl;
             goes_down = all_of t.link.down [] down;
             goes_up = all_of [] [] refl;
-          }) (decides_new (scene_of (view_of begun)) is_new nothing_known) (λ later. absurd (later refl), tt)
+          }) (decides_new (local_state_of (view_of begun)) is_new nothing_known) (λ later. absurd (later refl), tt)
       by_talk (Binds.about_to state down) =
-          is_at (Moment.Talks (Talking.Agreeing lu))
+          is_at (LinkPhase.Talks (Talking.Agreeing lu))
           (record {
             host_talk = record { device = b.device; state_is = b.agreed; model_is = refl };
             term_talk = state;
@@ -140,19 +140,19 @@ module _ (given : Given) (app : Application) (is : IsApplication app) (lu : List
 
 -- ---- each move
 
-module _ (given : Given) (app : Application) (is : IsApplication app) (lu : List ℕ) where
-  up_still : (t : Told) → Simulated app lu t → (pool : List Entry) → IsSound pool → (up : List ToHost) → t.link.up ≡ up → Simulated app lu (came_up pool up t)
+module _ (given : LowerLaws) (app : Application) (is : IsApplication app) (lu : List ℕ) where
+  up_still : (t : ReportedLink) → Simulated app lu t → (pool : List Entry) → IsSound pool → (up : List ToHost) → t.link.up ≡ up → Simulated app lu (came_up pool up t)
   up_still t s pool sound [] is_up = s
   up_still t s pool sound (message ∷ rest) is_up = hears_still given app lu t s pool sound message rest is_up
 
-  down_still : (t : Told) → Simulated app lu t → (down : List ToTerminal) → t.link.down ≡ down → Simulated app lu (came_down down t)
+  down_still : (t : ReportedLink) → Simulated app lu t → (down : List ToTerminal) → t.link.down ≡ down → Simulated app lu (came_down down t)
   down_still t s [] is_down = s
   down_still t s (ToTerminal.TalksDown saying ∷ rest) is_down = talked_still given app is lu t s saying rest is_down
   down_still t s (ToTerminal.Paint number wanted over ∷ rest) is_down = painted_still given app is lu t s number wanted over rest is_down
   down_still t s (ToTerminal.ReadBuffer number ∷ rest) is_down = read_still given app is lu t s number rest is_down
   down_still t s (ToTerminal.Note number command ∷ rest) is_down = noted_still given app is lu t s number command rest is_down
 
-  pub move_still : (move : Move) (t : Told) → IsByTheRules move t → Simulated app lu t → Simulated app lu (moved app move t)
+  pub move_still : (move : Move) (t : ReportedLink) → IsByTheRules move t → Simulated app lu t → Simulated app lu (moved app move t)
   move_still (Move.Up pool) t sound s = up_still t s pool sound t.link.up refl
   move_still Move.Down t rules s = down_still t s t.link.down refl
   move_still Move.Act t rules s = acts_still given app is lu t s
@@ -161,7 +161,7 @@ module _ (given : Given) (app : Application) (is : IsApplication app) (lu : List
   move_still (Move.Operate step) t rules s = operates_still given app lu t s step rules.0 rules.1
   move_still Move.Lose t rules s = loses_still given app is lu t s
 
-  moves_still : (moves : List Move) (t : Told) → AreByTheRules app moves t → Simulated app lu t → Simulated app lu (after_moves app moves t)
+  moves_still : (moves : List Move) (t : ReportedLink) → AreByTheRules app moves t → Simulated app lu t → Simulated app lu (after_moves app moves t)
   moves_still [] t rules s = s
   moves_still (move ∷ moves) t rules s = moves_still moves (moved app move t) rules.1 (move_still move t rules.0 s)
 
@@ -178,7 +178,7 @@ terminal_alike None one other talk display = refl
 terminal_alike (Some number) one other talk display = ap (λ (t : TerminalSeen). Some t) (seen_alike number one other talk display)
 
 -- in doubt the belief has fields if a screen has that differs in input
-lists_despite : HeldIsRound → (erased : Bool) (shadow : Shadow) (told now : Screen) → ListsFields shadow told → Meets shadow told → Held erased told.cells now.cells → ListsFields (doubted shadow) now
+lists_despite : HeldIsRound → (erased : Bool) (shadow : Shadow) (told now : Screen) → ListsFields shadow told → Meets shadow told → KeptByKeys erased told.cells now.cells → ListsFields (doubted shadow) now
 lists_despite round erased (Shadow.Formatted beliefs) told now lists meets held = λ some. tt
 lists_despite round erased (Shadow.Unformatted known) told now lists meets held = λ some. absurd (some (still_unformatted round erased told.cells now.cells held meets.0))
 lists_despite round erased Shadow.NothingKnown told now lists meets held = λ some. by_fields (fields told.cells) refl some
@@ -187,7 +187,7 @@ lists_despite round erased Shadow.NothingKnown told now lists meets held = λ so
     by_fields [] none some = some (still_unformatted round erased told.cells now.cells held none)
     by_fields (field ∷ more) found some = lists (λ none. let clash = sym found ∙ none in absurd (cc))
 
-module _ (given : Given) (written : WrittenIsThere) (kept : KeptStaysThere) (app : Application) (is : IsApplication app) (lu : List ℕ) (t : Told) (s : Simulated app lu t) where
+module _ (given : LowerLaws) (written : WrittenIsThere) (kept : KeptStaysThere) (app : Application) (is : IsApplication app) (lu : List ℕ) (t : ReportedLink) (s : Simulated app lu t) where
   abbrev end : Link
   end = s.told
 
@@ -201,7 +201,7 @@ module _ (given : Given) (written : WrittenIsThere) (kept : KeptStaysThere) (app
   same_seen : seen_link (told_link t) ≡ seen_link told_here
   same_seen =
       ap (λ (lost : Bool). record (seen_link (told_link t)) { lost = lost }) s.simulates.lost
-      ∙ ap (λ (host : Conn). record (seen_link (told_link t)) { lost = end.lost; host = host_seen t.link.host_here host }) same_host
+      ∙ ap (λ (host : Session). record (seen_link (told_link t)) { lost = end.lost; host = host_seen t.link.host_here host }) same_host
       ∙ ap (λ (terminal : Option TerminalSeen). record { lost = end.lost; host = host_seen t.link.host_here end.host; terminal = terminal })
       (sym (terminal_alike t.link.term_here end.term (told_link t).term (sym s.simulates.talk) s.display))
 
@@ -212,8 +212,8 @@ module _ (given : Given) (written : WrittenIsThere) (kept : KeptStaysThere) (app
   knows_told turn =
       let here = host_attached t.link.host_here t.link.host turn.host turn.host_is in
       knows_at app (view_of end) s.kept
-      (ap (λ (c : Conn). c.turn) (sym same_host) ∙ sym (ap (λ (h : HostSeen). h.turn) here.1) ∙ turn.turn)
-      (nothing_waits end.host.pending (ap (λ (c : Conn). number_of c.pending) (sym same_host) ∙ sym (ap (λ (h : HostSeen). h.pending) here.1) ∙ turn.answered))
+      (ap (λ (c : Session). c.turn) (sym same_host) ∙ sym (ap (λ (h : HostSeen). h.turn) here.1) ∙ turn.turn)
+      (nothing_waits end.host.pending (ap (λ (c : Session). number_of c.pending) (sym same_host) ∙ sym (ap (λ (h : HostSeen). h.pending) here.1) ∙ turn.answered))
 
   sees_now : IsHostsTurn (seen_link t.link) → SeesTheScreen (doubted t.link.host.shadow) t.link.term.display.screen
   sees_now turn =
@@ -222,7 +222,7 @@ module _ (given : Given) (written : WrittenIsThere) (kept : KeptStaysThere) (app
       let told : Screen = end.term.display.screen in
       let now : Screen = t.link.term.display.screen in
       let meets : Meets (doubted end.host.shadow) now = given.belief.doubt_input since.erased end.host.shadow told now known.meets since.held in
-      subst (λ (host : Conn). SeesTheScreen (doubted host.shadow) now) (sym same_host)
+      subst (λ (host : Session). SeesTheScreen (doubted host.shadow) now) (sym same_host)
       (record {
         meets = meets;
         protected = given.belief.seen (doubted end.host.shadow) now meets (lists_despite given.keys.round since.erased end.host.shadow told now known.lists known.meets since.held)
@@ -230,11 +230,11 @@ module _ (given : Given) (written : WrittenIsThere) (kept : KeptStaysThere) (app
       })
 
   is_asked : (session : ℕ) (question : Question) → question_in app session t.link.host ≡ Some question → question_in app session end.host ≡ Some question
-  is_asked session question asked = subst (λ (host : Conn). question_in app session host ≡ Some question) same_host asked
+  is_asked session question asked = subst (λ (host : Session). question_in app session host ≡ Some question) same_host asked
 
   pub right_of : RightOf app lu t
   right_of = record {
-    granted = ap (λ (host : Conn). agreed_lu host.talk.state) same_host ∙ s.agreed;
+    granted = ap (λ (host : Session). agreed_lu host.talk.state) same_host ∙ s.agreed;
     bound = λ mine bound.
         let both : Some mine ≡ Some lu = sym (bound_agrees app (view_of end) mine s.kept (ap (λ (talk : Term). bound_to talk.talk.state) (sym s.simulates.talk) ∙ bound)) ∙ s.agreed in
         cc;
@@ -256,7 +256,7 @@ module _ (given : Given) (written : WrittenIsThere) (kept : KeptStaysThere) (app
           let shown_told : ShowsItsPanel app false end.host end.term.display.before_restored end.term.display.last_restored =
           subst (λ (waits : Bool). ShowsItsPanel app waits end.host end.term.display.before_restored end.term.display.last_restored) s.unsure (shown_now app end s.kept (subst HasShown same_host has)) in
           let shown : ShowsItsPanel app false t.link.host t.link.term.display.before_restored t.link.term.display.last_restored =
-          subst (λ (host : Conn). ShowsItsPanel app false host t.link.term.display.before_restored t.link.term.display.last_restored) (sym same_host)
+          subst (λ (host : Session). ShowsItsPanel app false host t.link.term.display.before_restored t.link.term.display.last_restored) (sym same_host)
           (subst (λ (d : Display). ShowsItsPanel app false end.host d.before_restored d.last_restored) (sym s.simulates.since.rest) shown_told) in
           record {
             shown = shown;
@@ -266,6 +266,6 @@ module _ (given : Given) (written : WrittenIsThere) (kept : KeptStaysThere) (app
 
 -- ---- the theorem
 
-pub every_terminal : Given → WrittenIsThere → KeptStaysThere → EveryTerminal
+pub every_terminal : LowerLaws → WrittenIsThere → KeptStaysThere → EveryTerminal
 every_terminal given written kept app lu begin moves is begins rules =
     right_of given written kept app is lu (after_moves app moves begin) (moves_still given app is lu moves begin rules (begins_simulated given app is lu begin begins))

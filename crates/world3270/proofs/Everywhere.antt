@@ -17,16 +17,16 @@ use Rattle.host_core.specs.Messages.{ToTerminal, ToHost}
 use Rattle.host_core.specs.Notes.{noted}
 use Rattle.host_core.specs.Takes.{Answers, HostStep, took as host_took}
 use Rattle.host_core.specs.Questions.{answered_on}
-use Rattle.host_core.specs.declared.question.Answer.{Answer as Said}
+use Rattle.host_core.specs.declared.question.Answer.{Answer as ApplicationAnswer}
 use Rattle.host_core.specs.declared.terminals.Terminals.{Terminals}
-use Rattle.world3270.specs.Given.{Given}
-use Rattle.world3270.specs.Happens.{closed_if, said, freed_if, came_up, left_alone, place_after, came_down, went_down, key_went, parted, term_saw, joined, term_anew, host_left_from, done, happens, run}
-use Rattle.world3270.specs.Link.{Link, begun, unused, cut, host_left, host_stepped, host_sent, term_left, term_left_if, term_stepped}
-use Rattle.world3270.specs.Placed.{has_place, free_number}
-use Rattle.world3270.specs.Stages.{Kept}
-use Rattle.world3270.specs.Terminal.{Display, TermStep, new_display, after_key, key_came, took as term_took}
-use Rattle.world3270.specs.View.{view_of}
-use Rattle.world3270.specs.World.{Place, World, Event, AreEvents, new_world, with_at, display_at}
+use Rattle.world3270.specs.refinement.LowerLaws.{LowerLaws}
+use Rattle.world3270.specs.model.Steps.{closed_if, said, freed_if, came_up, left_alone, place_after, came_down, went_down, key_went, parted, term_saw, joined, term_anew, host_left_from, done, stepped_by, run}
+use Rattle.world3270.specs.model.Link.{Link, begun, unused, cut, host_left, host_stepped, host_sent, term_left, term_left_if, term_stepped}
+use Rattle.world3270.specs.model.Enabled.{is_enabled, free_number}
+use Rattle.world3270.specs.refinement.Invariant.{Kept}
+use Rattle.world3270.specs.model.Terminal.{Display, TermStep, new_display, after_key, key_came, took as term_took}
+use Rattle.world3270.specs.refinement.View.{view_of}
+use Rattle.world3270.specs.model.World.{Place, World, Event, AreEvents, new_world, with_at, display_at}
 use Rattle.world3270.proofs.Down.{term_view}
 use Rattle.world3270.proofs.Obeys.{obeys}
 use Rattle.world3270.proofs.OneOfMany.{all_with}
@@ -39,7 +39,7 @@ pub record Steps (app : Application) (IsSuch : Event → Type 0) (OfLink : Link 
   pub up : (pool : Answers) (link : Link) (message : ToHost) (rest : List ToHost) → link.up ≡ message ∷ rest → Kept app (view_of link) → OfLink link
       → OfLink (host_stepped (host_took pool link.host message) rest link)
   pub acts : (link : Link) → Kept app (view_of link) → OfLink link → OfLink (host_sent (acted app link.host) link)
-  pub answers : (number : ℕ) (said : Said) (link : Link) → IsSuch (Event.Answer number said) → Kept app (view_of link) → OfLink link
+  pub answers : (number : ℕ) (said : ApplicationAnswer) (link : Link) → IsSuch (Event.Answer number said) → Kept app (view_of link) → OfLink link
       → OfLink (host_sent (answered_on app link.host said) link)
   pub notes : (number : ℕ) (text : List ℕ) (link : Link) → IsSuch (Event.Note number text) → Kept app (view_of link) → OfLink link
       → OfLink (host_sent (noted text link.host) link)
@@ -63,7 +63,7 @@ pub record Everywhere (OfLink : Link → Type 0) (OfDisplay : Display → Type 0
   pub links : (number : ℕ) → OfLink (link number)
   pub places : (terminal : ℕ) → InPlace OfDisplay (place terminal)
 
-module _ (given : Given) (app : Application) (is : IsApplication app) (IsSuch : Event → Type 0) (OfLink : Link → Type 0) (OfDisplay : Display → Type 0) (steps : Steps app IsSuch OfLink OfDisplay) where
+module _ (given : LowerLaws) (app : Application) (is : IsApplication app) (IsSuch : Event → Type 0) (OfLink : Link → Type 0) (OfDisplay : Display → Type 0) (steps : Steps app IsSuch OfLink OfDisplay) where
   abbrev Holds : World → Type 0
   Holds world = Everywhere OfLink OfDisplay world.link world.place
 
@@ -164,8 +164,8 @@ module _ (given : Given) (app : Application) (is : IsApplication app) (IsSuch : 
   done_holds (Event.RestartTerm terminal) world such g h = term_anew_holds world terminal (world.place terminal) h
   done_holds Event.RestartHost world such g h = record { links = λ number. left_from_holds (world.link number) (h.links number); places = h.places }
 
-  happens_holds : (event : Event) (world : World) → IsSuch event → GoodWorld app world → Holds world → Holds (happens app event world)
-  happens_holds event world such g h = by_test (has_place app event world)
+  happens_holds : (event : Event) (world : World) → IsSuch event → GoodWorld app world → Holds world → Holds (stepped_by app event world)
+  happens_holds event world such g h = by_test (is_enabled app event world)
     where
       by_test : (b : Bool) → Holds (if b then done app event world else world)
       by_test true = done_holds event world such g h
@@ -175,7 +175,7 @@ module _ (given : Given) (app : Application) (is : IsApplication app) (IsSuch : 
   run_holds [] world are such g h = h
   run_holds (event ∷ events) world are such g h =
       let here = All-head IsSuch event events such in
-      run_holds events (happens app event world) are.1 (All-tail IsSuch event events such) (happens_good given app is event world are.0 g) (happens_holds event world here g h)
+      run_holds events (stepped_by app event world) are.1 (All-tail IsSuch event events such) (happens_good given app is event world are.0 g) (happens_holds event world here g h)
 
   pub everywhere : (serves : Terminals) (pool : List Entry) (models : List Model) (events : List Event) → IsPool pool → AreEvents events → All IsSuch events → Holds (run app events (new_world app serves pool models))
   everywhere serves pool models events lists are such =

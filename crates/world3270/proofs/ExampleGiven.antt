@@ -19,8 +19,8 @@ use Rattle.panels.specs.declared.message.Message.{Message}
 use Rattle.tn3270e_msg.specs.Lu.{is_lu}
 use Rattle.host_core.specs.Application.{IsApplication, IsShape, IsShowable, KeepsNothing, IsSizeOf}
 use Rattle.host_core.specs.Notes.{IsNoteText, is_graphic, longest_note}
-use Rattle.world3270.specs.ExampleApplication.{example, screen_of, l2, example_pool, alternate, shown_to}
-use Rattle.world3270.specs.World.{Event, IsEvent, AreEvents}
+use Rattle.world3270.specs.examples.ExampleApplication.{example, screen_of, l2, example_pool, alternate, shown_to}
+use Rattle.world3270.specs.model.World.{Event, IsEvent, AreEvents}
 
 -- ---- the application
 

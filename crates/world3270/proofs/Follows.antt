@@ -8,20 +8,20 @@ use Rattle.telnet_wire.specs.Items.{WireItem}
 use Rattle.telnet_wire.specs.Reading.{Rest, IsRest}
 use Rattle.tn3270e_msg.specs.Header.{record_limit}
 use Rattle.host_core.specs.Application.{application_of}
-use Rattle.host_core.specs.declared.question.Answer.{Answer as Said}
+use Rattle.host_core.specs.declared.question.Answer.{Answer as ApplicationAnswer}
 use Rattle.host_core.specs.declared.question.Ticket.{Ticket}
-use Rattle.world3270.specs.ByteRuns.{AllHappen, StopsAt, refused_at}
-use Rattle.world3270.specs.ByteSteps.{HappensIf, Steps, has_place}
-use Rattle.world3270.specs.ByteWorld.{ByteWorld, down_of, up_of}
-use Rattle.world3270.specs.Deliveries.{AreDeliveries, host_rest, taken_by, terminal_rest}
-use Rattle.world3270.specs.Happens.{done, happens}
-use Rattle.world3270.specs.Known.{Known}
-use Rattle.world3270.specs.Placed.{has_place as has_place_over_messages}
-use Rattle.world3270.specs.Refines.{Begin, IsBegin, Reached, IsReached, IsReal, GoesOn, ComesTo, StepsGoOn, SkipsAreThose, ComeTo, NextComesTo, RunGoesOn, RunsGoOn, StepOverMessages, RunOverMessages, AreReal, after, once, once_taken}
-use Rattle.world3270.specs.Sendable.{IsTyped}
-use Rattle.world3270.specs.Standing.{WorldStands}
-use Rattle.world3270.specs.Stands.{all_items, without_nops}
-use Rattle.world3270.specs.World.{World, Event as MessageEvent, IsEvent}
+use Rattle.world3270.specs.model.ByteRuns.{AllHappen, StopsAt, refused_at}
+use Rattle.world3270.specs.model.ByteSteps.{IsStepIf, Steps, is_enabled}
+use Rattle.world3270.specs.model.ByteWorld.{ByteWorld, down_of, up_of}
+use Rattle.world3270.specs.refinement.Deliveries.{AreDeliveries, host_rest, taken_by, terminal_rest}
+use Rattle.world3270.specs.model.Steps.{done, stepped_by}
+use Rattle.world3270.specs.refinement.MessageLaws.{MessageLaws}
+use Rattle.world3270.specs.model.Enabled.{is_enabled as is_enabled_over_messages}
+use Rattle.world3270.specs.refinement.Refines.{Begin, IsBegin, Reached, IsReached, IsReal, GoesOn, ComesTo, StepsGoOn, SkipsAreThose, ComeTo, NextComesTo, RunGoesOn, RunsGoOn, StepOverMessages, RunOverMessages, AreReal, after, once, once_taken}
+use Rattle.world3270.specs.refinement.Sendable.{IsWellFormed}
+use Rattle.world3270.specs.refinement.Representation.{WorldRepresents}
+use Rattle.world3270.specs.refinement.Represents.{all_items, without_nops}
+use Rattle.world3270.specs.model.World.{World, Event as MessageEvent, IsEvent}
 use Rattle.world3270.specs.declared.event.Event.{Event}
 use Rattle.world3270.specs.declared.event.Event.TheVariants as event
 use Rattle.world3270.specs.declared.event.Ran.{Ran}
@@ -36,7 +36,7 @@ pub record EventsGo : Type 0 where
   pub up : (number count : ℕ) → Goes (event.Up number count)
   pub down : (number count : ℕ) → Goes (event.Down number count)
   pub act : (number : ℕ) → Goes (event.Act number)
-  pub answer : (number : ℕ) (ticket : Ticket) (said : Said) → Goes (event.Answer number ticket said)
+  pub answer : (number : ℕ) (ticket : Ticket) (said : ApplicationAnswer) → Goes (event.Answer number ticket said)
   pub note : (number : ℕ) (text : List ℕ) → Goes (event.Note number text)
   pub keep_alive : (number : ℕ) → Goes (event.KeepAlive number)
   pub lose : (number : ℕ) → Goes (event.Lose number)
@@ -65,24 +65,24 @@ goes go event.RestartHost = go.restart_host
 
 module _ (begin : Begin) (events : List MessageEvent) (old new : ByteWorld) (reached : Reached begin events old) (same : new ≡ old) where
   -- what happens over messages is skipped too
-  skipped : (message : MessageEvent) → IsEvent message × IsTyped message → has_place_over_messages (application_of begin.panels) message (after begin events) ≡ false
+  skipped : (message : MessageEvent) → IsEvent message × IsWellFormed message → is_enabled_over_messages (application_of begin.panels) message (after begin events) ≡ false
       → Reached begin (events ++ message ∷ []) new
   skipped message real place =
       let app = application_of begin.panels in
       let world : World = after begin events in
-      let stays : happens app message world ≡ world =
+      let stays : stepped_by app message world ≡ world =
       ap (λ (b : Bool). if b then done app message world else world) place in
-      reached_more begin events (message ∷ []) old new reached (real.0, tt) (All-cons IsTyped message [] real.1 (All-nil IsTyped))
+      reached_more begin events (message ∷ []) old new reached (real.0, tt) (All-cons IsWellFormed message [] real.1 (All-nil IsWellFormed))
       (ap (λ (b : ByteWorld). b.host.panels) same)
-      (subst (λ (w : World). WorldStands new w) (sym stays) (subst (λ (b : ByteWorld). WorldStands b world) (sym same) reached.stands))
+      (subst (λ (w : World). WorldRepresents new w) (sym stays) (subst (λ (b : ByteWorld). WorldRepresents b world) (sym same) reached.stands))
 
-module _ (known : Known) (skips : SkipsAreThose) (begin : Begin) (events : List MessageEvent) (old : ByteWorld) (answer : Stepped) (new : ByteWorld)
+module _ (known : MessageLaws) (skips : SkipsAreThose) (begin : Begin) (events : List MessageEvent) (old : ByteWorld) (answer : Stepped) (new : ByteWorld)
     (is : IsBegin begin) (reached : Reached begin events old) (skip : answer ≡ stepped.Skipped) (same : new ≡ old) where
   is_once : (event : MessageEvent) → event ∷ [] ≡ once event answer
   is_once event = sym (ap (once event) skip)
 
-  skips_once : (event : Event) (message : MessageEvent) → IsEvent message × IsTyped message → has_place event old ≡ has_place_over_messages (application_of begin.panels) message (after begin events)
-      → has_place event old ≡ false → ComesTo event old answer (message ∷ []) → GoesOn begin events event old answer new
+  skips_once : (event : Event) (message : MessageEvent) → IsEvent message × IsWellFormed message → is_enabled event old ≡ is_enabled_over_messages (application_of begin.panels) message (after begin events)
+      → is_enabled event old ≡ false → ComesTo event old answer (message ∷ []) → GoesOn begin events event old answer new
   skips_once event message real alike place comes = record {
     more = message ∷ [];
     comes_to = comes;
@@ -95,7 +95,7 @@ module _ (known : Known) (skips : SkipsAreThose) (begin : Begin) (events : List 
   none_taken spoken rest bytes delivery none held =
       subst (λ (a : Stepped). AreDeliveries spoken rest (taken_by a bytes) delivery []) (sym skip) (none_delivered known spoken rest delivery none held)
 
-  skips_go : (event : Event) → IsReal event → has_place event old ≡ false → GoesOn begin events event old answer new
+  skips_go : (event : Event) → IsReal event → is_enabled event old ≡ false → GoesOn begin events event old answer new
   skips_go (event.Up number count) real place = record {
     more = [];
     comes_to = none_taken all_items (host_rest number old) (take count (up_of number old)) (MessageEvent.Up number) refl (host_rest_is known number old (after begin events) reached.stands);
@@ -122,11 +122,11 @@ module _ (known : Known) (skips : SkipsAreThose) (begin : Begin) (events : List 
 
 -- ---- each event
 
-pub steps_go_on : Known → EventsGo → SkipsAreThose → StepsGoOn
-steps_go_on known go skips begin events event old answer new is reached real steps = by_place (has_place event old) refl steps
+pub steps_go_on : MessageLaws → EventsGo → SkipsAreThose → StepsGoOn
+steps_go_on known go skips begin events event old answer new is reached real steps = by_place (is_enabled event old) refl steps
   where
-    by_place : (b : Bool) → has_place event old ≡ b → HappensIf b event old answer new → GoesOn begin events event old answer new
-    by_place true place happens = goes go event begin events old answer new is reached real place happens
+    by_place : (b : Bool) → is_enabled event old ≡ b → IsStepIf b event old answer new → GoesOn begin events event old answer new
+    by_place true place stepped_by = goes go event begin events old answer new is reached real place stepped_by
     by_place false place nothing = skips_go known skips begin events old answer new is reached nothing.0 nothing.1 event real place
 
 -- So a world that was reached is still one that is.

@@ -7,15 +7,15 @@ use Rattle.datastream.specs.InboundText.{InboundParts}
 use Rattle.datastream.specs.declared.inbound_part.Form.{Form}
 use Rattle.host_core.specs.Application.{Application}
 use Rattle.host_core.specs.Messages.{ToHost}
-use Rattle.world3270.specs.Always.{Always}
+use Rattle.world3270.specs.statement.Always.{Always}
 use Rattle.host_core.specs.Takes.{form_awaited}
-use Rattle.world3270.specs.Forms.{FormsAreAwaited, IsAwaitedBy}
-use Rattle.world3270.specs.Given.{Given}
-use Rattle.world3270.specs.Happens.{run}
-use Rattle.world3270.specs.Moments.{Talking, Serving, Moment, UnderWay, talk_up, served_up, up_at, pending_in, pending_at}
-use Rattle.world3270.specs.Stages.{Scene, scene_of, ServingFact, Fact, Kept}
-use Rattle.world3270.specs.View.{View, view_of}
-use Rattle.world3270.specs.World.{World, new_world}
+use Rattle.world3270.specs.statement.Forms.{FormsAreAwaited, IsAwaitedBy}
+use Rattle.world3270.specs.refinement.LowerLaws.{LowerLaws}
+use Rattle.world3270.specs.model.Steps.{run}
+use Rattle.world3270.specs.refinement.Phases.{Talking, Serving, LinkPhase, UnderWay, talk_up, served_up, up_at, pending_in, pending_at}
+use Rattle.world3270.specs.refinement.Invariant.{LocalState, local_state_of, ServingFact, Fact, Kept}
+use Rattle.world3270.specs.refinement.View.{View, view_of}
+use Rattle.world3270.specs.model.World.{World, new_world}
 use Rattle.world3270.proofs.Queues.{front, nothing}
 use Rattle.world3270.proofs.Worlds.{run_good, new_good}
 
@@ -43,7 +43,7 @@ talk_has form size model wanted (Talking.Agreeing lu) = tt
 talk_has form size model wanted (Talking.Rejecting reason) = tt
 talk_has form size model wanted (Talking.Rejected reason) = tt
 
-served_has : (scene : Scene) (serving : Serving) → ServingFact scene serving → FirstHas (form_awaited (pending_in serving)) scene.shape (served_up serving)
+served_has : (scene : LocalState) (serving : Serving) → ServingFact scene serving → FirstHas (form_awaited (pending_in serving)) scene.size (served_up serving)
 served_has scene Serving.Deciding fact = tt
 served_has scene (Serving.Reading number) fact = tt
 served_has scene (Serving.Reported number parts) fact = (ap (λ (p : InboundParts). p.form) fact.says, ap (λ (p : InboundParts). p.size) fact.says)
@@ -58,17 +58,17 @@ served_has scene (Serving.KeyBehind kind number command parts) fact = tt
 served_has scene (Serving.KeyNoted number command parts) fact = (fact.0.form, fact.0.size)
 served_has scene (Serving.KeyBefore number command parts) fact = (fact.0.form, fact.0.size)
 
-first_has : (scene : Scene) (model : Model) (wanted : Option (List ℕ)) (moment : Moment) → Fact wanted scene moment → FirstHas (form_awaited (pending_at moment)) scene.shape (up_at model wanted moment)
-first_has scene model wanted (Moment.Talks talking) fact = talk_has _ _ model wanted talking
-first_has scene model wanted (Moment.Begins lu number command paints over) fact = tt
-first_has scene model wanted (Moment.Serves lu serving) fact = served_has scene serving fact
+first_has : (scene : LocalState) (model : Model) (wanted : Option (List ℕ)) (moment : LinkPhase) → Fact wanted scene moment → FirstHas (form_awaited (pending_at moment)) scene.size (up_at model wanted moment)
+first_has scene model wanted (LinkPhase.Talks talking) fact = talk_has _ _ model wanted talking
+first_has scene model wanted (LinkPhase.Begins lu number command paints over) fact = tt
+first_has scene model wanted (LinkPhase.Serves lu serving) fact = served_has scene serving fact
 
 pub awaited : (app : Application) (v : View) (parts : InboundParts) (rest : List ToHost) → Kept app v → v.up ≡ ToHost.Data parts ∷ rest → IsAwaitedBy v.host parts
 awaited app v parts rest k e =
-    let both = comes (form_awaited (pending_at k.moment)) v.host.shape v.lost v.up (up_at v.model k.wanted k.moment) parts rest k.at.goes_up e (first_has (scene_of v) v.model k.wanted k.moment k.fact) in
+    let both = comes (form_awaited (pending_at k.moment)) v.host.size v.lost v.up (up_at v.model k.wanted k.moment) parts rest k.at.goes_up e (first_has (local_state_of v) v.model k.wanted k.moment k.fact) in
     record { form = both.0 ∙ sym (ap form_awaited k.at.pending); size = both.1 }
 
-pub forms_awaited : Given → Always FormsAreAwaited
+pub forms_awaited : LowerLaws → Always FormsAreAwaited
 forms_awaited given app serves pool models events is lists few are =
     let world : World = run app events (new_world app serves pool models) in
     let g = run_good given app is events (new_world app serves pool models) are (new_good given app is serves pool models lists) in

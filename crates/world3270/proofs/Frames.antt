@@ -7,15 +7,15 @@ use Rattle.std.proofs.lemmas.Iterator.Adapters.{position_from-zero}
 use Rattle.std.proofs.lemmas.List.{get_or_past, get_or-set_same, get_or-set_other}
 use Rattle.std.proofs.lemmas.List.Quantifiers.{position-Some}
 use Rattle.telnet_wire.specs.Reading.{Rest}
-use Rattle.host_core.specs.Session.{Conn}
+use Rattle.host_core.specs.Session.{Session}
 use Rattle.host_core.specs.State.{Host, Connection, unused, most_connections, connection_at, service_at, with_connection}
-use Rattle.world3270.specs.ByteWorld.{ByteWorld, Transits, TerminalSlot, under_way, is_live, is_there, unused_transits, no_slot, transits_at, slot_at, with_transits, with_slot, is_attached_to, terminal_at, host_there, host_out, out_of}
-use Rattle.world3270.specs.Link.{Link}
-use Rattle.world3270.specs.Places.{EndsAgree}
-use Rattle.world3270.specs.TrackedTerminals.{TrackedTerminal}
-use Rattle.world3270.specs.Standing.{WorldStands, IsFlow, IsAt, IsNotClosed, IsSettled, AreTransits, conn_of, rest_of, with_out, tracked_of, link_with}
-use Rattle.world3270.specs.Stands.{ByteLink, LinkStands}
-use Rattle.world3270.specs.World.{Place, World}
+use Rattle.world3270.specs.model.ByteWorld.{ByteWorld, Transits, TerminalSlot, under_way, is_live, is_there, unused_transits, no_slot, transits_at, slot_at, with_transits, with_slot, is_attached_to, terminal_at, host_there, host_out, out_of}
+use Rattle.world3270.specs.model.Link.{Link}
+use Rattle.world3270.specs.model.Places.{EndsAgree}
+use Rattle.world3270.specs.model.TrackedTerminals.{TrackedTerminal}
+use Rattle.world3270.specs.refinement.Representation.{WorldRepresents, IsFlow, IsAt, IsNotClosed, IsSettled, AreTransits, conn_of, rest_of, with_out, tracked_of, link_with}
+use Rattle.world3270.specs.refinement.Represents.{ByteLink, LinkRepresents}
+use Rattle.world3270.specs.model.World.{Place, World}
 use Rattle.world3270.proofs.OneOfMany.{one_or_another, same_number}
 
 -- ---- one of many
@@ -43,7 +43,7 @@ connection_other number other connection host differs = get_or-set_other host.co
 -- ---- a connection
 
 -- it is made of these parts
-abbrev pub of_parts : Bool → List ℕ → List ℕ → Bool → Conn → Rest → Option ℕ → TrackedTerminal → ByteLink
+abbrev pub of_parts : Bool → List ℕ → List ℕ → Bool → Session → Rest → Option ℕ → TrackedTerminal → ByteLink
 of_parts lost down up there conn rest here tracked =
     record { lost = lost; down = down; up = up; host_here = there; host = conn; host_rest = rest; term_here = here; tracked = tracked }
 
@@ -125,7 +125,7 @@ alone_there slot (Place.At at) number none is = absurd (cc)
 alone_there slot (Place.Alone display) number none is = tt
 
 -- a number beyond all is no terminal's: nobody is there
-pub beyond_is_alone : (number : ℕ) (old : ByteWorld) (was : World) → WorldStands old was → IsHere number (was.place (length old.slots))
+pub beyond_is_alone : (number : ℕ) (old : ByteWorld) (was : World) → WorldRepresents old was → IsHere number (was.place (length old.slots))
 beyond_is_alone number old was stands =
     let beyond : ℕ = length old.slots in
     alone_there (slot_at beyond old) (was.place beyond) number
@@ -134,17 +134,17 @@ beyond_is_alone number old was stands =
 -- ---- what stands on a connection
 
 -- it is one of those that there are
-pub way_within : (number : ℕ) (old : ByteWorld) (was : World) → WorldStands old was → number < most_connections → number < length old.links
+pub way_within : (number : ℕ) (old : ByteWorld) (was : World) → WorldRepresents old was → number < most_connections → number < length old.links
 way_within number old was stands below = subst (λ (n : ℕ). number < n) (sym stands.transits) below
 
-pub connection_within : (number : ℕ) (old : ByteWorld) (was : World) → WorldStands old was → number < most_connections → number < length old.host.connections
+pub connection_within : (number : ℕ) (old : ByteWorld) (was : World) → WorldRepresents old was → number < most_connections → number < length old.host.connections
 connection_within number old was stands below = subst (λ (n : ℕ). number < n) (sym stands.connections) below
 
 -- where the host is nothing is said of what it has to send
 pub there_settled : (connection : Connection) → is_there connection.service ≡ true → IsSettled connection
 there_settled connection there free = absurd (cc)
 
-module _ (number : ℕ) (old : ByteWorld) (was : World) (agree : EndsAgree was) (stands : WorldStands old was) where
+module _ (number : ℕ) (old : ByteWorld) (was : World) (agree : EndsAgree was) (stands : WorldRepresents old was) where
   abbrev here : Option ℕ
   here = (was.link number).term_here
 
@@ -154,8 +154,8 @@ module _ (number : ℕ) (old : ByteWorld) (was : World) (agree : EndsAgree was) 
   pub flow_there : AreTransits here number old
   flow_there = subst (λ (h : Option ℕ). AreTransits h number old) who_was_there (stands.flows number)
 
-  pub link_there : LinkStands (link_with here number old) (was.link number)
-  link_there = subst (λ (h : Option ℕ). LinkStands (link_with h number old) (was.link number)) who_was_there (stands.links number)
+  pub link_there : LinkRepresents (link_with here number old) (was.link number)
+  link_there = subst (λ (h : Option ℕ). LinkRepresents (link_with h number old) (was.link number)) who_was_there (stands.links number)
 
   -- who holds an end is at one of the connections that there are
   pub is_within : (terminal : ℕ) → here ≡ Some terminal → number < length old.links
@@ -196,7 +196,7 @@ pub record Changed (number terminal : ℕ) (old new : ByteWorld) (was now : Worl
   pub none_closed : IsNotClosed (service_at number new.host)
   pub settled : IsSettled (connection_at number new.host)
   pub flow : AreTransits (now.link number).term_here number new
-  pub link : LinkStands (link_with (now.link number).term_here number new) (now.link number)
+  pub link : LinkRepresents (link_with (now.link number).term_here number new) (now.link number)
   pub place : IsAt (slot_at terminal new) (now.place terminal)
 
 -- who is at another connection isn't the terminal that changes
@@ -204,7 +204,7 @@ other_there : (number other : ℕ) (place : Place) → other ≢ number → IsHe
 other_there number other (Place.At at) differs here e = let same : at ≡ other = cc in differs (sym same ∙ here)
 other_there number other (Place.Alone display) differs here e = absurd (cc)
 
-module _ (number terminal : ℕ) (old new : ByteWorld) (was now : World) (c : Changed number terminal old new was now) (agree : EndsAgree was) (stands : WorldStands old was) where
+module _ (number terminal : ℕ) (old new : ByteWorld) (was now : World) (c : Changed number terminal old new was now) (agree : EndsAgree was) (stands : WorldRepresents old was) where
   place_stands : (other : ℕ) → IsAt (slot_at other new) (now.place other)
   place_stands = one_or_another (λ (other : ℕ). IsAt (slot_at other new) (now.place other)) terminal c.place
       (λ other differs. subst (λ (p : Place). IsAt (slot_at other new) p) (sym (c.places other differs))
@@ -246,10 +246,10 @@ module _ (number terminal : ℕ) (old new : ByteWorld) (was now : World) (c : Ch
   now_there : EndsAgree now → (other : ℕ) → terminal_at other new.slots ≡ (now.link other).term_here
   now_there agrees other = who_is_there new now other agrees place_stands
 
-  link_stands : (other : ℕ) → LinkStands (link_with (now.link other).term_here other new) (now.link other)
-  link_stands = one_or_another (λ (other : ℕ). LinkStands (link_with (now.link other).term_here other new) (now.link other)) number c.link
-      (λ other differs. subst (λ (l : Link). LinkStands (link_with l.term_here other new) l) (sym (c.links other differs))
-      (subst (λ (b : ByteLink). LinkStands b (was.link other)) (sym (link_stays other differs (was.link other).term_here refl))
+  link_stands : (other : ℕ) → LinkRepresents (link_with (now.link other).term_here other new) (now.link other)
+  link_stands = one_or_another (λ (other : ℕ). LinkRepresents (link_with (now.link other).term_here other new) (now.link other)) number c.link
+      (λ other differs. subst (λ (l : Link). LinkRepresents (link_with l.term_here other new) l) (sym (c.links other differs))
+      (subst (λ (b : ByteLink). LinkRepresents b (was.link other)) (sym (link_stays other differs (was.link other).term_here refl))
       (link_there other old was agree stands)))
 
   flow_stands : (other : ℕ) → AreTransits (now.link other).term_here other new
@@ -266,7 +266,7 @@ module _ (number terminal : ℕ) (old new : ByteWorld) (was now : World) (c : Ch
       (λ other differs. subst (λ (l : Connection). IsSettled l) (sym (c.connections other differs)) (stands.settled other))
 
   -- So the world stands for the one after the change.
-  pub changed_stands : EndsAgree now → WorldStands new now
+  pub changed_stands : EndsAgree now → WorldRepresents new now
   changed_stands agrees = record {
     connections = c.connection_count ∙ stands.connections;
     transits = c.way_count ∙ stands.transits;
@@ -276,6 +276,6 @@ module _ (number terminal : ℕ) (old new : ByteWorld) (was now : World) (c : Ch
     none_closed = closed_stands;
     settled = settled_stands;
     flows = λ other. subst (λ (h : Option ℕ). AreTransits h other new) (sym (now_there agrees other)) (flow_stands other);
-    links = λ other. subst (λ (h : Option ℕ). LinkStands (link_with h other new) (now.link other)) (sym (now_there agrees other)) (link_stands other);
+    links = λ other. subst (λ (h : Option ℕ). LinkRepresents (link_with h other new) (now.link other)) (sym (now_there agrees other)) (link_stands other);
     places = place_stands;
   }

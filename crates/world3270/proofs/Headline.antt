@@ -7,7 +7,7 @@ use Rattle.codes3270.specs.declared.attention.Aid.{Aid}
 use Rattle.codes3270.specs.declared.attention.Aid.TheVariants.{NoAid, Enter as EnterAid, Clear as ClearAid, Pf as PfAid, Pa as PaAid}
 use Rattle.shadow.specs.Meets.{Meets, ListsFields, IsTold}
 use Rattle.shadow.specs.Belief.{Shadow}
-use Rattle.shadow.specs.Openness.{NothingIsOpen}
+use Rattle.shadow.specs.TextUnknown.{NothingIsOpen}
 use Rattle.tn3270e_msg.specs.HostTable.{granted}
 use Rattle.tn3270e_msg.specs.declared.host_talk.HostState.{HostState}
 use Rattle.tn3270e_msg.specs.declared.host_talk.HostState.TheVariants.{Offered, Asked, Asking, Named, Countered, Agreed, Closed}
@@ -18,19 +18,19 @@ use Rattle.host_core.specs.Messages.{ToHost}
 use Rattle.host_core.specs.declared.turn.Turn.TheVariants as whose
 use Rattle.host_core.specs.declared.turn_reason.TurnReason.{TurnReason}
 use Rattle.host_core.specs.declared.turn_reason.TurnReason.TheVariants as turn_reasons
-use Rattle.host_core.specs.Session.{Conn, Pending, agreed_lu}
-use Rattle.world3270.specs.Always.{Always, HeadlineHolds, is_refusal, NobodyRefuses}
-use Rattle.world3270.specs.Given.{Given}
-use Rattle.world3270.specs.Happens.{run}
-use Rattle.world3270.specs.Headline.{SentFields, OneSessionEach, BoundIsGranted, IsHostsTurn, Agrees}
-use Rattle.world3270.specs.Link.{Link}
-use Rattle.world3270.specs.Moments.{Talking, Serving, Moment, UnderWay, IsAt, turn_at, pending_at, up_at}
-use Rattle.world3270.specs.TurnReasons.{IsOccasion, IsOpenBy, IsOpenFor, IsCleared, ActsOnTheKey, KnowsTheCleared, LeavesNothingOpen}
-use Rattle.world3270.specs.Seen.{HostSeen, TerminalSeen, conn_seen, end_seen, host_seen, seen, seen_link, terminal_seen}
-use Rattle.world3270.specs.Stages.{scene_of, Fact, IfRelies, Kept}
-use Rattle.world3270.specs.Terminal.{TermEnd, bound_to}
-use Rattle.world3270.specs.View.{View, view_of}
-use Rattle.world3270.specs.World.{World, new_world}
+use Rattle.host_core.specs.Session.{Session, Pending, agreed_lu}
+use Rattle.world3270.specs.statement.Always.{Always, HeadlineHolds, is_refusal, NobodyRefuses}
+use Rattle.world3270.specs.refinement.LowerLaws.{LowerLaws}
+use Rattle.world3270.specs.model.Steps.{run}
+use Rattle.world3270.specs.statement.Headline.{SentFields, OneSessionEach, BoundIsGranted, IsHostsTurn, Agrees}
+use Rattle.world3270.specs.model.Link.{Link}
+use Rattle.world3270.specs.refinement.Phases.{Talking, Serving, LinkPhase, UnderWay, IsAt, turn_at, pending_at, up_at}
+use Rattle.world3270.specs.statement.TurnReasons.{IsOccasion, IsOpenBy, IsOpenFor, IsCleared, ActsOnTheKey, KnowsTheCleared, LeavesNothingOpen}
+use Rattle.world3270.specs.statement.Observation.{HostSeen, TerminalSeen, conn_seen, end_seen, host_seen, seen, seen_link, terminal_seen}
+use Rattle.world3270.specs.refinement.Invariant.{local_state_of, Fact, IfRelies, Kept}
+use Rattle.world3270.specs.model.Terminal.{TermEnd, bound_to}
+use Rattle.world3270.specs.refinement.View.{View, view_of}
+use Rattle.world3270.specs.model.World.{World, new_world}
 use Rattle.world3270.proofs.Down.{none_open}
 use Rattle.world3270.proofs.AsLeft.{as_left}
 use Rattle.world3270.proofs.Worlds.{GoodWorld, run_good, new_good}
@@ -42,10 +42,10 @@ use Rattle.world3270.proofs.TalkStates.{agreed_on, talking_unbound}
 pub bound_agrees : (app : Application) (v : View) (mine : List ℕ) → Kept app v → bound_to v.talk.talk.state ≡ Some mine → agreed_lu v.host.talk.state ≡ Some mine
 bound_agrees app v mine k e = by_moment k.moment k.at
   where
-    by_moment : (moment : Moment) → IsAt v k.wanted moment → agreed_lu v.host.talk.state ≡ Some mine
-    by_moment (Moment.Talks talking) at = absurd (talking_unbound v.model k.wanted talking v.talk at.term_talk (ap is_some e))
-    by_moment (Moment.Begins lu number command wanted over) at = absurd (let wrong = sym (ap bound_to at.term_talk) ∙ e in cc)
-    by_moment (Moment.Serves lu serving) at = agreed_on v.host.talk at.host_talk ∙ sym (ap bound_to at.term_talk) ∙ e
+    by_moment : (moment : LinkPhase) → IsAt v k.wanted moment → agreed_lu v.host.talk.state ≡ Some mine
+    by_moment (LinkPhase.Talks talking) at = absurd (talking_unbound v.model k.wanted talking v.talk at.term_talk (ap is_some e))
+    by_moment (LinkPhase.Begins lu number command wanted over) at = absurd (let wrong = sym (ap bound_to at.term_talk) ∙ e in cc)
+    by_moment (LinkPhase.Serves lu serving) at = agreed_on v.host.talk at.host_talk ∙ sym (ap bound_to at.term_talk) ∙ e
 
 -- an LU that was agreed on was granted
 agreed_granted : (state : HostState) (mine : List ℕ) → agreed_lu state ≡ Some mine → granted state ≡ Some mine
@@ -58,7 +58,7 @@ agreed_granted (Countered device lu) mine e = absurd (cc)
 agreed_granted (Closed cause) mine e = absurd (cc)
 
 -- an end that is seen is attached
-pub host_attached : (here : Bool) (conn : Conn) (host : HostSeen) → host_seen here conn ≡ Some host → (here ≡ true) × (host ≡ conn_seen conn)
+pub host_attached : (here : Bool) (conn : Session) (host : HostSeen) → host_seen here conn ≡ Some host → (here ≡ true) × (host ≡ conn_seen conn)
 host_attached true conn host e = (refl, let same : Some host ≡ Some (conn_seen conn) = sym e in cc)
 host_attached false conn host e = absurd (cc)
 
@@ -92,11 +92,11 @@ pub record Knows (v : View) : Type 0 where
   pub told : SentFields v.screen.aid → IsTold v.host.shadow v.screen
   pub turn_reason : IsOccasion v.host.turn_reason v.screen.aid
   pub closed : IfRelies v.host.unheard (IsOpenFor v.host.turn_reason v.host.shadow)
-  pub cleared : v.screen.aid ≡ ClearAid → IsCleared v.host.shape v.host.shadow
+  pub cleared : v.screen.aid ≡ ClearAid → IsCleared v.host.size v.host.shadow
 
 -- the moments at which it holds the turn, with nothing that waits for an answer
-knows_by : (wanted : Option (List ℕ)) (v : View) (moment : Moment) → Fact wanted (scene_of v) moment → turn_at moment ≡ whose.Host → pending_at moment ≡ Pending.Nothing → Knows v
-knows_by wanted v (Moment.Talks talking) f t p = record {
+knows_by : (wanted : Option (List ℕ)) (v : View) (moment : LinkPhase) → Fact wanted (local_state_of v) moment → turn_at moment ≡ whose.Host → pending_at moment ≡ Pending.Nothing → Knows v
+knows_by wanted v (LinkPhase.Talks talking) f t p = record {
   meets = subst (λ s. Meets s v.screen) (sym f.0.shadow) tt;
   lists = λ some. absurd (some f.0.no_fields);
   told = λ sent. absurd (subst SentFields f.0.aid sent);
@@ -104,21 +104,21 @@ knows_by wanted v (Moment.Talks talking) f t p = record {
   closed = λ relies. subst (λ o. IsOpenFor o v.host.shadow) (sym f.0.turn_reason) (none_open v.host.shadow f.0.shadow);
   cleared = λ clear. absurd (let x = sym f.0.aid ∙ clear in cc);
 }
-knows_by wanted v (Moment.Begins lu number command wants over) f t p = absurd (cc)
-knows_by wanted v (Moment.Serves lu Serving.Deciding) f t p =
+knows_by wanted v (LinkPhase.Begins lu number command wants over) f t p = absurd (cc)
+knows_by wanted v (LinkPhase.Serves lu Serving.Deciding) f t p =
     record { meets = f.sees.meets; lists = f.sees.lists; told = f.sees.told; turn_reason = f.turn_reason; closed = f.closed; cleared = f.sees.cleared }
-knows_by wanted v (Moment.Serves lu (Serving.Reading number)) f t p = absurd (cc)
-knows_by wanted v (Moment.Serves lu (Serving.Reported number parts)) f t p = absurd (cc)
-knows_by wanted v (Moment.Serves lu (Serving.NotedLate number command)) f t p = absurd (cc)
-knows_by wanted v (Moment.Serves lu (Serving.AnsweredLate number command)) f t p = absurd (cc)
-knows_by wanted v (Moment.Serves lu (Serving.Painting number command wants over)) f t p = absurd (cc)
-knows_by wanted v (Moment.Serves lu (Serving.Answering kind number command)) f t p = absurd (cc)
-knows_by wanted v (Moment.Serves lu Serving.Operating) f t p = absurd (cc)
-knows_by wanted v (Moment.Serves lu (Serving.Noting number command)) f t p = absurd (cc)
-knows_by wanted v (Moment.Serves lu (Serving.KeyAlone parts)) f t p = absurd (cc)
-knows_by wanted v (Moment.Serves lu (Serving.KeyBehind kind number command parts)) f t p = absurd (cc)
-knows_by wanted v (Moment.Serves lu (Serving.KeyNoted number command parts)) f t p = absurd (cc)
-knows_by wanted v (Moment.Serves lu (Serving.KeyBefore number command parts)) f t p = absurd (cc)
+knows_by wanted v (LinkPhase.Serves lu (Serving.Reading number)) f t p = absurd (cc)
+knows_by wanted v (LinkPhase.Serves lu (Serving.Reported number parts)) f t p = absurd (cc)
+knows_by wanted v (LinkPhase.Serves lu (Serving.NotedLate number command)) f t p = absurd (cc)
+knows_by wanted v (LinkPhase.Serves lu (Serving.AnsweredLate number command)) f t p = absurd (cc)
+knows_by wanted v (LinkPhase.Serves lu (Serving.Painting number command wants over)) f t p = absurd (cc)
+knows_by wanted v (LinkPhase.Serves lu (Serving.Answering kind number command)) f t p = absurd (cc)
+knows_by wanted v (LinkPhase.Serves lu Serving.Operating) f t p = absurd (cc)
+knows_by wanted v (LinkPhase.Serves lu (Serving.Noting number command)) f t p = absurd (cc)
+knows_by wanted v (LinkPhase.Serves lu (Serving.KeyAlone parts)) f t p = absurd (cc)
+knows_by wanted v (LinkPhase.Serves lu (Serving.KeyBehind kind number command parts)) f t p = absurd (cc)
+knows_by wanted v (LinkPhase.Serves lu (Serving.KeyNoted number command parts)) f t p = absurd (cc)
+knows_by wanted v (LinkPhase.Serves lu (Serving.KeyBefore number command parts)) f t p = absurd (cc)
 
 pub knows_at : (app : Application) (v : View) → Kept app v → v.host.turn ≡ whose.Host → v.host.pending ≡ Pending.Nothing → Knows v
 knows_at app v k t p = knows_by k.wanted v k.moment k.fact (sym k.at.turn ∙ t) (sym k.at.pending ∙ p)
@@ -144,7 +144,7 @@ not_clear (PfAid key) sent is = absurd (cc)
 not_clear (PaAid key) sent is = absurd sent
 not_clear ClearAid sent is = absurd sent
 
-pub agrees : Given → (app : Application) (link : Link) → Kept app (view_of link) → (h : IsHostsTurn (seen_link link)) → Agrees h.host h.terminal
+pub agrees : LowerLaws → (app : Application) (link : Link) → Kept app (view_of link) → (h : IsHostsTurn (seen_link link)) → Agrees h.host h.terminal
 agrees given app link k h =
     let v : View = view_of link in
     let known = knows_turn app link k h in
@@ -173,30 +173,30 @@ none_under : (lost : Bool) (queue messages : List ToHost) → UnderWay lost queu
 none_under lost queue messages way h = none_of is_refusal queue way.vanished (ap (list_any is_refusal) way.whole ∙ h)
 
 -- at no moment is a refusal under way
-none_at : (model : Model) (wanted : Option (List ℕ)) (moment : Moment) → list_any is_refusal (up_at model wanted moment) ≡ false
-none_at model wanted (Moment.Talks Talking.Offering) = refl
-none_at model wanted (Moment.Talks Talking.Accepting) = refl
-none_at model wanted (Moment.Talks Talking.AskingType) = refl
-none_at model wanted (Moment.Talks Talking.NamingType) = refl
-none_at model wanted (Moment.Talks (Talking.Granting lu)) = refl
-none_at model wanted (Moment.Talks (Talking.AskingFunctions lu)) = refl
-none_at model wanted (Moment.Talks (Talking.Agreeing lu)) = refl
-none_at model wanted (Moment.Talks (Talking.Rejecting reason)) = refl
-none_at model wanted (Moment.Talks (Talking.Rejected reason)) = refl
-none_at model wanted (Moment.Begins lu number command wants over) = refl
-none_at model wanted (Moment.Serves lu Serving.Deciding) = refl
-none_at model wanted (Moment.Serves lu (Serving.Reading number)) = refl
-none_at model wanted (Moment.Serves lu (Serving.Reported number parts)) = refl
-none_at model wanted (Moment.Serves lu (Serving.NotedLate number command)) = refl
-none_at model wanted (Moment.Serves lu (Serving.AnsweredLate number command)) = refl
-none_at model wanted (Moment.Serves lu (Serving.Painting number command wants over)) = refl
-none_at model wanted (Moment.Serves lu (Serving.Answering kind number command)) = refl
-none_at model wanted (Moment.Serves lu Serving.Operating) = refl
-none_at model wanted (Moment.Serves lu (Serving.Noting number command)) = refl
-none_at model wanted (Moment.Serves lu (Serving.KeyAlone parts)) = refl
-none_at model wanted (Moment.Serves lu (Serving.KeyBehind kind number command parts)) = refl
-none_at model wanted (Moment.Serves lu (Serving.KeyNoted number command parts)) = refl
-none_at model wanted (Moment.Serves lu (Serving.KeyBefore number command parts)) = refl
+none_at : (model : Model) (wanted : Option (List ℕ)) (moment : LinkPhase) → list_any is_refusal (up_at model wanted moment) ≡ false
+none_at model wanted (LinkPhase.Talks Talking.Offering) = refl
+none_at model wanted (LinkPhase.Talks Talking.Accepting) = refl
+none_at model wanted (LinkPhase.Talks Talking.AskingType) = refl
+none_at model wanted (LinkPhase.Talks Talking.NamingType) = refl
+none_at model wanted (LinkPhase.Talks (Talking.Granting lu)) = refl
+none_at model wanted (LinkPhase.Talks (Talking.AskingFunctions lu)) = refl
+none_at model wanted (LinkPhase.Talks (Talking.Agreeing lu)) = refl
+none_at model wanted (LinkPhase.Talks (Talking.Rejecting reason)) = refl
+none_at model wanted (LinkPhase.Talks (Talking.Rejected reason)) = refl
+none_at model wanted (LinkPhase.Begins lu number command wants over) = refl
+none_at model wanted (LinkPhase.Serves lu Serving.Deciding) = refl
+none_at model wanted (LinkPhase.Serves lu (Serving.Reading number)) = refl
+none_at model wanted (LinkPhase.Serves lu (Serving.Reported number parts)) = refl
+none_at model wanted (LinkPhase.Serves lu (Serving.NotedLate number command)) = refl
+none_at model wanted (LinkPhase.Serves lu (Serving.AnsweredLate number command)) = refl
+none_at model wanted (LinkPhase.Serves lu (Serving.Painting number command wants over)) = refl
+none_at model wanted (LinkPhase.Serves lu (Serving.Answering kind number command)) = refl
+none_at model wanted (LinkPhase.Serves lu Serving.Operating) = refl
+none_at model wanted (LinkPhase.Serves lu (Serving.Noting number command)) = refl
+none_at model wanted (LinkPhase.Serves lu (Serving.KeyAlone parts)) = refl
+none_at model wanted (LinkPhase.Serves lu (Serving.KeyBehind kind number command parts)) = refl
+none_at model wanted (LinkPhase.Serves lu (Serving.KeyNoted number command parts)) = refl
+none_at model wanted (LinkPhase.Serves lu (Serving.KeyBefore number command parts)) = refl
 
 -- in the host's turn the reason is agreement or a key
 no_refusal : (reason : TurnReason) (aid : Aid) → IsOccasion reason aid → reason ≡ turn_reasons.Refusal → ⊥
@@ -204,22 +204,22 @@ no_refusal turn_reasons.Agreement aid is e = absurd (cc)
 no_refusal (turn_reasons.Key pressed buffered) aid is e = absurd (cc)
 no_refusal turn_reasons.Refusal aid is e = is
 
-heard_by : (wanted : Option (List ℕ)) (v : View) (moment : Moment) → Fact wanted (scene_of v) moment → turn_at moment ≡ whose.Host → v.host.turn_reason ≡ turn_reasons.Refusal → ⊥
-heard_by wanted v (Moment.Talks talking) f t e = absurd (let first = sym f.0.turn_reason ∙ e in cc)
-heard_by wanted v (Moment.Begins lu number command wants over) f t e = absurd (cc)
-heard_by wanted v (Moment.Serves lu Serving.Deciding) f t e = no_refusal v.host.turn_reason v.screen.aid f.turn_reason e
-heard_by wanted v (Moment.Serves lu (Serving.Reading number)) f t e = no_refusal v.host.turn_reason v.screen.aid f.decides.turn_reason e
-heard_by wanted v (Moment.Serves lu (Serving.Reported number parts)) f t e = no_refusal v.host.turn_reason v.screen.aid f.turn_reason e
-heard_by wanted v (Moment.Serves lu (Serving.NotedLate number command)) f t e = no_refusal v.host.turn_reason v.screen.aid f.0.turn_reason e
-heard_by wanted v (Moment.Serves lu (Serving.AnsweredLate number command)) f t e = no_refusal v.host.turn_reason v.screen.aid f.turn_reason e
-heard_by wanted v (Moment.Serves lu (Serving.Painting number command wants over)) f t e = absurd (cc)
-heard_by wanted v (Moment.Serves lu (Serving.Answering kind number command)) f t e = absurd (cc)
-heard_by wanted v (Moment.Serves lu Serving.Operating) f t e = absurd (cc)
-heard_by wanted v (Moment.Serves lu (Serving.Noting number command)) f t e = absurd (cc)
-heard_by wanted v (Moment.Serves lu (Serving.KeyAlone parts)) f t e = absurd (cc)
-heard_by wanted v (Moment.Serves lu (Serving.KeyBehind kind number command parts)) f t e = absurd (cc)
-heard_by wanted v (Moment.Serves lu (Serving.KeyNoted number command parts)) f t e = absurd (cc)
-heard_by wanted v (Moment.Serves lu (Serving.KeyBefore number command parts)) f t e = absurd (cc)
+heard_by : (wanted : Option (List ℕ)) (v : View) (moment : LinkPhase) → Fact wanted (local_state_of v) moment → turn_at moment ≡ whose.Host → v.host.turn_reason ≡ turn_reasons.Refusal → ⊥
+heard_by wanted v (LinkPhase.Talks talking) f t e = absurd (let first = sym f.0.turn_reason ∙ e in cc)
+heard_by wanted v (LinkPhase.Begins lu number command wants over) f t e = absurd (cc)
+heard_by wanted v (LinkPhase.Serves lu Serving.Deciding) f t e = no_refusal v.host.turn_reason v.screen.aid f.turn_reason e
+heard_by wanted v (LinkPhase.Serves lu (Serving.Reading number)) f t e = no_refusal v.host.turn_reason v.screen.aid f.decides.turn_reason e
+heard_by wanted v (LinkPhase.Serves lu (Serving.Reported number parts)) f t e = no_refusal v.host.turn_reason v.screen.aid f.turn_reason e
+heard_by wanted v (LinkPhase.Serves lu (Serving.NotedLate number command)) f t e = no_refusal v.host.turn_reason v.screen.aid f.0.turn_reason e
+heard_by wanted v (LinkPhase.Serves lu (Serving.AnsweredLate number command)) f t e = no_refusal v.host.turn_reason v.screen.aid f.turn_reason e
+heard_by wanted v (LinkPhase.Serves lu (Serving.Painting number command wants over)) f t e = absurd (cc)
+heard_by wanted v (LinkPhase.Serves lu (Serving.Answering kind number command)) f t e = absurd (cc)
+heard_by wanted v (LinkPhase.Serves lu Serving.Operating) f t e = absurd (cc)
+heard_by wanted v (LinkPhase.Serves lu (Serving.Noting number command)) f t e = absurd (cc)
+heard_by wanted v (LinkPhase.Serves lu (Serving.KeyAlone parts)) f t e = absurd (cc)
+heard_by wanted v (LinkPhase.Serves lu (Serving.KeyBehind kind number command parts)) f t e = absurd (cc)
+heard_by wanted v (LinkPhase.Serves lu (Serving.KeyNoted number command parts)) f t e = absurd (cc)
+heard_by wanted v (LinkPhase.Serves lu (Serving.KeyBefore number command parts)) f t e = absurd (cc)
 
 none_heard : (app : Application) (v : View) → Kept app v → v.host.turn ≡ whose.Host → v.host.turn_reason ≡ turn_reasons.Refusal → ⊥
 none_heard app v k turn reason = heard_by k.wanted v k.moment k.fact (sym k.at.turn ∙ turn) reason
@@ -229,13 +229,13 @@ none_refused app v k = none_under v.lost v.up (up_at v.model k.wanted k.moment) 
 
 -- ---- the theorems
 
-pub headline : Given → Always HeadlineHolds
+pub headline : LowerLaws → Always HeadlineHolds
 headline given app serves pool models events is lists few are =
     let world : World = run app events (new_world app serves pool models) in
     let g = run_good given app is events (new_world app serves pool models) are (new_good given app is serves pool models lists) in
     record { one_session_each = one_session app world g; bound_is_granted = bound_granted app world g; agrees = λ number h. agrees given app (world.link number) (g.links number) h }
 
-pub nobody_refuses : Given → Always NobodyRefuses
+pub nobody_refuses : LowerLaws → Always NobodyRefuses
 nobody_refuses given app serves pool models events is lists few are =
     let world : World = run app events (new_world app serves pool models) in
     let g = run_good given app is events (new_world app serves pool models) are (new_good given app is serves pool models lists) in
@@ -246,7 +246,7 @@ nobody_refuses given app serves pool models events is lists few are =
       none_closed = g.uncaused;
     }
 
-pub acts_on_the_key : Given → Always ActsOnTheKey
+pub acts_on_the_key : LowerLaws → Always ActsOnTheKey
 acts_on_the_key given app serves pool models events is lists few are =
     let world : World = run app events (new_world app serves pool models) in
     let g = run_good given app is events (new_world app serves pool models) are (new_good given app is serves pool models lists) in
@@ -264,7 +264,7 @@ closed_by_key turn_reasons.Agreement aid s is sent o = o
 closed_by_key (turn_reasons.Key pressed buffered) aid s is sent o = sent_closed pressed buffered s (subst SentFields (sym is.0) sent) o
 closed_by_key turn_reasons.Refusal aid s is sent o = absurd is
 
-pub leaves_nothing_open : Given → Always LeavesNothingOpen
+pub leaves_nothing_open : LowerLaws → Always LeavesNothingOpen
 leaves_nothing_open given app serves pool models events is lists few are =
     let world : World = run app events (new_world app serves pool models) in
     let g = run_good given app is events (new_world app serves pool models) are (new_good given app is serves pool models lists) in
@@ -272,7 +272,7 @@ leaves_nothing_open given app serves pool models events is lists few are =
     let known = knows_turn app (world.link number) (g.links number) h in
     closed_by_key (world.link number).host.turn_reason (world.link number).term.display.screen.aid (world.link number).host.shadow known.turn_reason sent (known.closed relies)
 
-pub knows_the_cleared : Given → Always KnowsTheCleared
+pub knows_the_cleared : LowerLaws → Always KnowsTheCleared
 knows_the_cleared given app serves pool models events is lists few are =
     let world : World = run app events (new_world app serves pool models) in
     let g = run_good given app is events (new_world app serves pool models) are (new_good given app is serves pool models lists) in

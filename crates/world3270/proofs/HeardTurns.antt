@@ -13,28 +13,28 @@ use Rattle.shadow.specs.RuleBreaks.{rule_break}
 use Rattle.shadow.specs.declared.fault.HeardFault.{HeardFault}
 use Rattle.host_core.specs.Application.{Application}
 use Rattle.host_core.specs.Messages.{ToHost, Verdict}
-use Rattle.host_core.specs.Session.{Conn, Pending, is_agreed}
+use Rattle.host_core.specs.Session.{Session, Pending, is_agreed}
 use Rattle.host_core.specs.Takes.{Answers, HostStep, believed, hears, once_read, took}
 use Rattle.host_core.specs.declared.turn.Turn.TheVariants as whose
 use Rattle.host_core.specs.declared.turn_reason.TurnReason.{TurnReason}
 use Rattle.host_core.specs.declared.turn_reason.TurnReason.TheVariants as turn_reasons
-use Rattle.world3270.specs.Given.{Given}
-use Rattle.world3270.specs.Link.{Link}
-use Rattle.world3270.specs.Moments.{IsAt, Kind, Moment, Serving, Talking, UnderWay, awaiting}
-use Rattle.world3270.specs.Stages.{Fact, Kept, Sizes, scene_of}
-use Rattle.world3270.specs.View.{view_of}
+use Rattle.world3270.specs.refinement.LowerLaws.{LowerLaws}
+use Rattle.world3270.specs.model.Link.{Link}
+use Rattle.world3270.specs.refinement.Phases.{IsAt, Kind, LinkPhase, Serving, Talking, UnderWay, awaiting}
+use Rattle.world3270.specs.refinement.Invariant.{Fact, Kept, Sizes, local_state_of}
+use Rattle.world3270.specs.refinement.View.{view_of}
 use Rattle.world3270.proofs.Queues.{front, nothing}
 use Rattle.world3270.proofs.SecondKeys.{pending_after, turn_after, unless_read}
 use Rattle.world3270.proofs.Up.{IsKeyTime, buffer_took, key_took, response_took, unbroken_read}
 use Rattle.world3270.proofs.TalkStates.{agreed_there}
 
-pub record GoesOn (pool : Answers) (conn : Conn) (message : ToHost) : Type 0 where
+pub record GoesOn (pool : Answers) (conn : Session) (message : ToHost) : Type 0 where
   pub turn : (took pool conn message).conn.turn ≡ turn_after message conn.turn
   pub pending : (took pool conn message).conn.pending ≡ pending_after message conn.pending
   pub talk : (took pool conn message).conn.talk ≡ conn.talk
 
 -- what is believed leaves the turn to the host
-believed_turn : (P : Shadow → Type 0) (reason : TurnReason) (pending : Pending) (cursor : Option ℕ) (conn : Conn) (r : Result Shadow HeardFault) → IsOkAnd r P
+believed_turn : (P : Shadow → Type 0) (reason : TurnReason) (pending : Pending) (cursor : Option ℕ) (conn : Session) (r : Result Shadow HeardFault) → IsOkAnd r P
     → ((believed reason pending cursor conn r).conn.turn ≡ whose.Host) × ((believed reason pending cursor conn r).conn.pending ≡ pending) × ((believed reason pending cursor conn r).conn.talk ≡ conn.talk)
 believed_turn P reason pending cursor conn (Ok shadow) ok = (refl, refl, refl)
 believed_turn P reason pending cursor conn (Err fault) ok = absurd ok
@@ -43,7 +43,7 @@ no_read : (pending : Pending) → IsKeyTime pending → pending ≡ unless_read 
 no_read pending (IsKeyTime.nothing_waits e) = e ∙ sym (ap unless_read e)
 no_read pending (IsKeyTime.note_waits number command e) = e ∙ sym (ap unless_read e)
 
-key_goes : (P : Shadow → Type 0) (pool : Answers) (conn : Conn) (parts : InboundParts) → is_agreed conn.talk.state ≡ true → conn.turn ≡ whose.Terminal → IsKeyTime conn.pending → parts.form ≡ Modified
+key_goes : (P : Shadow → Type 0) (pool : Answers) (conn : Session) (parts : InboundParts) → is_agreed conn.talk.state ≡ true → conn.turn ≡ whose.Terminal → IsKeyTime conn.pending → parts.form ≡ Modified
     → (parts.aid ≡ NoAid → ⊥) → IsOkAnd (hears parts conn) P → GoesOn pool conn (ToHost.Data parts)
 key_goes P pool conn parts agrees turns time form some ok =
     let is = key_took pool conn parts parts.aid agrees turns time form refl some in
@@ -54,12 +54,12 @@ key_goes P pool conn parts agrees turns time form some ok =
       talk = ap (λ (s : HostStep). s.conn.talk) is ∙ then_this.2;
     }
 
-response_goes : (pool : Answers) (conn : Conn) (kind : Kind) (number : ℕ) (command : CommandParts) → is_agreed conn.talk.state ≡ true → conn.pending ≡ awaiting kind number command → GoesOn pool conn (ToHost.Response number Verdict.Positive)
+response_goes : (pool : Answers) (conn : Session) (kind : Kind) (number : ℕ) (command : CommandParts) → is_agreed conn.talk.state ≡ true → conn.pending ≡ awaiting kind number command → GoesOn pool conn (ToHost.Response number Verdict.Positive)
 response_goes pool conn kind number command agrees pends =
     let is = response_took pool conn kind number command agrees pends in
     record { turn = ap (λ (s : HostStep). s.conn.turn) is; pending = ap (λ (s : HostStep). s.conn.pending) is; talk = ap (λ (s : HostStep). s.conn.talk) is }
 
-buffer_goes : (P : Shadow → Type 0) (pool : Answers) (conn : Conn) (size : Shape) (screen : Screen) (number : ℕ) → is_agreed conn.talk.state ≡ true → conn.pending ≡ Pending.Reading number
+buffer_goes : (P : Shadow → Type 0) (pool : Answers) (conn : Session) (size : Shape) (screen : Screen) (number : ℕ) → is_agreed conn.talk.state ≡ true → conn.pending ≡ Pending.Reading number
     → rule_break conn.shadow screen.cells ≡ None → IsOkAnd (hears (buffer_data size screen) conn) P → GoesOn pool conn (ToHost.Data (buffer_data size screen))
 buffer_goes P pool conn size screen number agrees pends unbroken ok =
     let read : InboundParts = buffer_data size screen in
@@ -71,7 +71,7 @@ buffer_goes P pool conn size screen number agrees pends unbroken ok =
       talk = ap (λ (s : HostStep). s.conn.talk) is ∙ then_this.2;
     }
 
-pub goes_on : Given → (app : Application) (pool : Answers) (link : Link) (message : ToHost) (rest : List ToHost) → link.up ≡ message ∷ rest → Kept app (view_of link) → is_agreed link.host.talk.state ≡ true → GoesOn pool link.host message
+pub goes_on : LowerLaws → (app : Application) (pool : Answers) (link : Link) (message : ToHost) (rest : List ToHost) → link.up ≡ message ∷ rest → Kept app (view_of link) → is_agreed link.host.talk.state ≡ true → GoesOn pool link.host message
 goes_on given app pool link message rest e k agrees = by_moment k.moment k.sizes k.at k.fact
   where
     screen : Screen
@@ -83,12 +83,12 @@ goes_on given app pool link message rest e k agrees = by_moment k.moment k.sizes
     as_it : (one : ToHost) → message ≡ one → GoesOn pool link.host one → GoesOn pool link.host message
     as_it one is goes = subst (GoesOn pool link.host) (sym is) goes
 
-    by_serving : (lu : List ℕ) (serving : Serving) → Sizes app (view_of link) (Moment.Serves lu serving) → IsAt (view_of link) k.wanted (Moment.Serves lu serving) → Fact k.wanted (scene_of (view_of link)) (Moment.Serves lu serving) → GoesOn pool link.host message
+    by_serving : (lu : List ℕ) (serving : Serving) → Sizes app (view_of link) (LinkPhase.Serves lu serving) → IsAt (view_of link) k.wanted (LinkPhase.Serves lu serving) → Fact k.wanted (local_state_of (view_of link)) (LinkPhase.Serves lu serving) → GoesOn pool link.host message
     by_serving lu (Serving.Reported number parts) s at f =
         let first = front link.lost link.up message rest _ [] e at.goes_up in
         let said : Screen = record screen { aid = parts.aid } in
-        as_it (ToHost.Data (buffer_data link.host.shape said)) (first.0 ∙ ap (λ p. ToHost.Data p) f.says)
-        (buffer_goes (Believed false screen) pool link.host link.host.shape said number agrees at.pending f.unbroken f.will)
+        as_it (ToHost.Data (buffer_data link.host.size said)) (first.0 ∙ ap (λ p. ToHost.Data p) f.says)
+        (buffer_goes (Believed false screen) pool link.host link.host.size said number agrees at.pending f.unbroken f.will)
     by_serving lu (Serving.AnsweredLate number command) s at f =
         let first = front link.lost link.up message rest _ [] e at.goes_up in
         as_it (ToHost.Response number Verdict.Positive) first.0 (response_goes pool link.host Kind.ANote number command agrees at.pending)
@@ -114,10 +114,10 @@ goes_on given app pool link message rest e k agrees = by_moment k.moment k.sizes
     by_serving lu Serving.Operating s at f = no_more at.goes_up
     by_serving lu (Serving.Noting number command) s at f = no_more at.goes_up
 
-    by_talk : (talking : Talking) → IsAt (view_of link) k.wanted (Moment.Talks talking) → (lu : List ℕ) × (talking ≡ Talking.Agreeing lu) → GoesOn pool link.host message
-    by_talk talking at is = no_more (subst (λ (t : Talking). IsAt (view_of link) k.wanted (Moment.Talks t)) is.1 at).goes_up
+    by_talk : (talking : Talking) → IsAt (view_of link) k.wanted (LinkPhase.Talks talking) → (lu : List ℕ) × (talking ≡ Talking.Agreeing lu) → GoesOn pool link.host message
+    by_talk talking at is = no_more (subst (λ (t : Talking). IsAt (view_of link) k.wanted (LinkPhase.Talks t)) is.1 at).goes_up
 
-    by_moment : (moment : Moment) → Sizes app (view_of link) moment → IsAt (view_of link) k.wanted moment → Fact k.wanted (scene_of (view_of link)) moment → GoesOn pool link.host message
-    by_moment (Moment.Talks talking) s at f = by_talk talking at (agreed_there link.term.display.model talking link.host.talk at.host_talk agrees)
-    by_moment (Moment.Begins lu number command wants over) s at f = no_more at.goes_up
-    by_moment (Moment.Serves lu serving) s at f = by_serving lu serving s at f
+    by_moment : (moment : LinkPhase) → Sizes app (view_of link) moment → IsAt (view_of link) k.wanted moment → Fact k.wanted (local_state_of (view_of link)) moment → GoesOn pool link.host message
+    by_moment (LinkPhase.Talks talking) s at f = by_talk talking at (agreed_there link.term.display.model talking link.host.talk at.host_talk agrees)
+    by_moment (LinkPhase.Begins lu number command wants over) s at f = no_more at.goes_up
+    by_moment (LinkPhase.Serves lu serving) s at f = by_serving lu serving s at f

@@ -5,10 +5,10 @@ use Rattle.tn3270e_msg.specs.declared.cause.Cause.{Cause}
 use Rattle.lu_pool.specs.Holders.{granted_if}
 use Rattle.host_core.specs.Messages.{ToTerminal, ToHost, Verdict}
 use Rattle.host_core.specs.Takes.{freed_if}
-use Rattle.world3270.specs.Happens.{closed_if, verdict_in, said, place_after}
-use Rattle.world3270.specs.History.{host_step, term_step, verdicts_of, HostsHistoryIsKept, TerminalsHistoryIsKept}
-use Rattle.world3270.specs.Link.{host_stepped, term_stepped}
-use Rattle.world3270.specs.World.{World, with_at}
+use Rattle.world3270.specs.model.Steps.{closed_if, verdict_in, said, place_after}
+use Rattle.world3270.specs.statement.History.{host_step, term_step, verdicts_of, HostsHistoryIsKept, TerminalsHistoryIsKept}
+use Rattle.world3270.specs.model.Link.{host_stepped, term_stepped}
+use Rattle.world3270.specs.model.World.{World, with_at}
 
 verdicts_stay : (closes : Option Cause) (world : World) → (closed_if closes world).verdicts ≡ world.verdicts
 verdicts_stay None world = refl

@@ -6,15 +6,15 @@ use Rattle.lu_pool.specs.Holders.{all_free, given_back}
 use Rattle.lu_pool.specs.Pool.{entry, is_held_by}
 use Rattle.lu_pool.specs.declared.entry.Entry.{Entry}
 use Rattle.host_core.specs.State.{Host, Connection, unused, connection_at, most_connections}
-use Rattle.world3270.specs.ByteSteps.{host_gone, host_gone_below, host_anew}
-use Rattle.world3270.specs.ByteWorld.{ByteWorld, Transit, Transits, TerminalSlot, cut, sender_gone, is_live, is_there, no_slot, transits_at, terminal_at, host_there, host_out, terminal_out, out_of}
-use Rattle.world3270.specs.Happens.{host_left_from, host_anew as host_anew_over_messages}
-use Rattle.world3270.specs.Link.{Link, host_left}
-use Rattle.world3270.specs.Places.{EndsAgree, UpIsHeld}
-use Rattle.world3270.specs.Standing.{WorldStands, IsFlow, IsAt, IsNotClosed, IsSettled, AreTransits, tracked_of, link_with}
-use Rattle.world3270.specs.Stands.{LinkStands}
-use Rattle.world3270.specs.StandsLinks.{HostLeaves}
-use Rattle.world3270.specs.World.{World}
+use Rattle.world3270.specs.model.ByteSteps.{host_gone, host_gone_below, host_anew}
+use Rattle.world3270.specs.model.ByteWorld.{ByteWorld, Transit, Transits, TerminalSlot, cut, sender_gone, is_live, is_there, no_slot, transits_at, terminal_at, host_there, host_out, terminal_out, out_of}
+use Rattle.world3270.specs.model.Steps.{host_left_from, host_anew as host_anew_over_messages}
+use Rattle.world3270.specs.model.Link.{Link, host_left}
+use Rattle.world3270.specs.model.Places.{EndsAgree, UpIsHeld}
+use Rattle.world3270.specs.refinement.Representation.{WorldRepresents, IsFlow, IsAt, IsNotClosed, IsSettled, AreTransits, tracked_of, link_with}
+use Rattle.world3270.specs.refinement.Represents.{LinkRepresents}
+use Rattle.world3270.specs.refinement.RepresentsLinks.{HostLeaves}
+use Rattle.world3270.specs.model.World.{World}
 use Rattle.world3270.proofs.Frames.{transits_same, transits_other, connection_other, flow_there, link_there, sits_same, who_was_there}
 use Rattle.world3270.proofs.OneOfMany.{differs as is_other}
 use Rattle.world3270.proofs.Joinings.{get_or_equal}
@@ -150,7 +150,7 @@ settled_passes out (Transit.Cut zero) lost flow = record { lost = refl; same = r
 settled_passes out (Transit.Cut (suc kept)) lost flow = absurd (omega arith)
 settled_passes out (Transit.SenderGone bytes) lost flow = record { lost = refl; same = refl; flow = flow }
 
-module _ (leaves : HostLeaves) (old : ByteWorld) (was : World) (agree : EndsAgree was) (held : UpIsHeld was) (stands : WorldStands old was) where
+module _ (leaves : HostLeaves) (old : ByteWorld) (was : World) (agree : EndsAgree was) (held : UpIsHeld was) (stands : WorldRepresents old was) where
   abbrev now : ByteWorld
   now = host_gone_below most_connections old
 
@@ -184,7 +184,7 @@ module _ (leaves : HostLeaves) (old : ByteWorld) (was : World) (agree : EndsAgre
     same : (out_of here new ≡ out_of here old) × (tracked_of here new ≡ tracked_of here old)
     same = sits_same here old new left_all.slots
 
-    is_link : LinkStands (link_with here number old) link
+    is_link : LinkRepresents (link_with here number old) link
     is_link = link_there number old was agree stands
 
     abbrev behind : Transits
@@ -223,19 +223,19 @@ module _ (leaves : HostLeaves) (old : ByteWorld) (was : World) (agree : EndsAgre
           up = record { lost = flow.together ∙ is_down e; same = refl; flow = flow.up };
         }
 
-    parts : AreTransits here number new × LinkStands (link_with here number new) (host_left_from link)
+    parts : AreTransits here number new × LinkRepresents (link_with here number new) (host_left_from link)
     parts = by_there (host_there number old) refl
       where
-        by_there : (b : Bool) → host_there number old ≡ b → AreTransits here number new × LinkStands (link_with here number new) (host_left_from link)
+        by_there : (b : Bool) → host_there number old ≡ b → AreTransits here number new × LinkRepresents (link_with here number new) (host_left_from link)
         by_there true e = (
           gone_flow number old new here here unused behind (out_of here old) (was_there e),
-          subst (λ (b : Bool). LinkStands (link_with here number new) (if b then host_left link else link)) (sym e ∙ is_link.host_here)
+          subst (λ (b : Bool). LinkRepresents (link_with here number new) (if b then host_left link else link)) (sym e ∙ is_link.host_here)
               (gone_stands number old new here here unused behind (out_of here old) (was_there e) (host_left link)
               (λ h. absurd (cc)) (λ terminal h. same.1) (leaves (link_with here number old) link is_link)),
         )
         by_there false e = (
           gone_flow number old new here here unused (transits_at number old) (out_of here old) (was_not e),
-          subst (λ (b : Bool). LinkStands (link_with here number new) (if b then host_left link else link)) (sym e ∙ is_link.host_here)
+          subst (λ (b : Bool). LinkRepresents (link_with here number new) (if b then host_left link else link)) (sym e ∙ is_link.host_here)
               (gone_stands number old new here here unused (transits_at number old) (out_of here old) (was_not e) link
               (λ h. let none = is_link.host_here in absurd (cc)) (λ terminal h. same.1)
               (like_stands (link_with here number old) (record (link_with here number old) { lost = true; host_here = false; term_here = here }) link
@@ -254,7 +254,7 @@ module _ (leaves : HostLeaves) (old : ByteWorld) (was : World) (agree : EndsAgre
     there : terminal_at number new.slots ≡ here
     there = ap (λ (s : List TerminalSlot). terminal_at number s) left_all.slots ∙ who_was_there number old was agree stands
 
-  pub host_anew_stands : WorldStands new (host_anew_over_messages was)
+  pub host_anew_stands : WorldRepresents new (host_anew_over_messages was)
   host_anew_stands = record {
     connections = length-replicate most_connections unused;
     transits = left_all.way_count ∙ stands.transits;
@@ -264,7 +264,7 @@ module _ (leaves : HostLeaves) (old : ByteWorld) (was : World) (agree : EndsAgre
     none_closed = λ number. subst (λ (l : Connection). IsNotClosed l.service) (sym (connection number)) tt;
     settled = λ number. subst (λ (l : Connection). IsSettled l) (sym (connection number)) (λ free. refl);
     flows = λ number. subst (λ (h : Option ℕ). AreTransits h number new) (sym (there number)) (parts number).0;
-    links = λ number. subst (λ (h : Option ℕ). LinkStands (link_with h number new) (host_left_from (was.link number))) (sym (there number)) (parts number).1;
+    links = λ number. subst (λ (h : Option ℕ). LinkRepresents (link_with h number new) (host_left_from (was.link number))) (sym (there number)) (parts number).1;
     places = λ terminal. subst (λ (s : List TerminalSlot). IsAt (slice_index_or s terminal no_slot) (was.place terminal)) (sym left_all.slots) (stands.places terminal);
   }
 

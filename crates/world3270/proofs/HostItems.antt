@@ -27,13 +27,13 @@ use Rattle.term_core.specs.declared.outcome.Outcome.{Outcome}
 use Rattle.term_core.specs.declared.outcome.Outcome.TheVariants.{DeviceEnd, Refused}
 use Rattle.host_core.specs.Items.{TakesData, IsNoSecondKey, IsOther, TakesRecord, TakesRecordIf, Talks, TakesItem, is_paint_or_read, second_key_size, verdict_of}
 use Rattle.host_core.specs.Messages.{ToHost, Verdict}
-use Rattle.host_core.specs.Session.{Conn, Pending, is_agreed}
+use Rattle.host_core.specs.Session.{Session, Pending, is_agreed}
 use Rattle.host_core.specs.declared.turn.Turn.{Turn}
 use Rattle.host_core.specs.Takes.{Answers, HostStep, buffer_came, closed_by, form_awaited, data_came, may_have_changed, out_of_turn, response_came, once_agreed, second_key, second_key_data, talked, took}
-use Rattle.world3270.specs.Forms.{IsAwaitedBy}
-use Rattle.world3270.specs.Readings.{HasNoLead, IsReadAs, IsSecondKeyIn, MayComeUp}
-use Rattle.world3270.specs.Stands.{OutcomeIs, StandsUp}
-use Rattle.world3270.specs.StandsEnds.{IsSaid}
+use Rattle.world3270.specs.statement.Forms.{IsAwaitedBy}
+use Rattle.world3270.specs.refinement.Readings.{HasNoLead, IsReadAs, IsSecondKeyIn, MayComeUp}
+use Rattle.world3270.specs.refinement.Represents.{OutcomeIs, RepresentsUp}
+use Rattle.world3270.specs.refinement.RepresentsEnds.{IsSaid}
 
 -- ---- the talk
 
@@ -42,11 +42,11 @@ is_heard (Saying.Opt verb code) h comes k = k
 is_heard (Saying.Sub sending) h comes k = sent_is_heard sending h comes k
 
 -- an option or a subnegotiation is for the talk
-is_talk : (saying : Saying) (answers : Answers) (conn : Conn) (step : HostStep) → TakesItem answers conn (item_of saying) step → Talks answers conn (item_of saying) step
+is_talk : (saying : Saying) (answers : Answers) (conn : Session) (step : HostStep) → TakesItem answers conn (item_of saying) step → Talks answers conn (item_of saying) step
 is_talk (Saying.Opt verb code) answers conn step taken = taken
 is_talk (Saying.Sub sending) answers conn step taken = taken
 
-takes_talk : (saying : Saying) (answers : Answers) (conn : Conn) (step : HostStep) → IsSaid saying → TakesItem answers conn (item_of saying) step
+takes_talk : (saying : Saying) (answers : Answers) (conn : Session) (step : HostStep) → IsSaid saying → TakesItem answers conn (item_of saying) step
     → step ≡ talked answers conn conn.talk (says saying)
 takes_talk saying answers conn step said taken =
     let talks = is_talk saying answers conn step taken in
@@ -158,12 +158,12 @@ both_true true other is = (refl, is)
 both_true false other is = absurd (cc)
 
 -- the host drops it by its AID alone
-is_dropped : (parts : InboundParts) (conn : Conn) → may_have_changed conn.unheard ≡ true → parts.form ≡ Modified → out_of_turn parts conn ≡ second_key parts.aid conn.pending conn
+is_dropped : (parts : InboundParts) (conn : Session) → may_have_changed conn.unheard ≡ true → parts.form ≡ Modified → out_of_turn parts conn ≡ second_key parts.aid conn.pending conn
 is_dropped parts conn changed form =
     ap (λ (b : Bool). if b then second_key_data parts parts.form conn else closed_by BadInbound conn) changed
     ∙ ap (λ (f : Form). second_key_data parts f conn) form
 
-second_key_came : (parts : InboundParts) (conn : Conn) (turn : Turn) (pending : Pending) → (may_have_changed conn.unheard && is_paint_or_read pending) ≡ true → parts.form ≡ Modified
+second_key_came : (parts : InboundParts) (conn : Session) (turn : Turn) (pending : Pending) → (may_have_changed conn.unheard && is_paint_or_read pending) ≡ true → parts.form ≡ Modified
     → data_came parts turn pending conn ≡ second_key parts.aid conn.pending conn
 second_key_came parts conn turn (Pending.Writing number command) may form = is_dropped parts conn (both_true (may_have_changed conn.unheard) true may).0 form
 second_key_came parts conn turn (Pending.Reading number) may form =
@@ -172,11 +172,11 @@ second_key_came parts conn turn Pending.Nothing may form = absurd (let none = (b
 second_key_came parts conn turn (Pending.Noting number command) may form = absurd (let none = (both_true (may_have_changed conn.unheard) false may).1 in cc)
 
 -- where it is read in the form that is awaited, a paint is pending
-heard_as_awaited : (conn : Conn) (body : List ℕ) (parts read : InboundParts) (pending : Pending) → conn.pending ≡ pending → IsSecondKeyIn conn parts → IsInbound parts body
-    → read.form ≡ form_awaited conn.pending → read.size ≡ conn.shape → IsInbound read body → read.form ≡ Modified
+heard_as_awaited : (conn : Session) (body : List ℕ) (parts read : InboundParts) (pending : Pending) → conn.pending ≡ pending → IsSecondKeyIn conn parts → IsInbound parts body
+    → read.form ≡ form_awaited conn.pending → read.size ≡ conn.size → IsInbound read body → read.form ≡ Modified
 heard_as_awaited conn body parts read (Pending.Reading number) pends second is form size is_read =
     let whole : form_awaited conn.pending ≡ Buffer = ap form_awaited pends in
-    absurd (no_buffer conn.shape parts read body second.some second.form (second.no_lead whole) is (form ∙ whole) size is_read)
+    absurd (no_buffer conn.size parts read body second.some second.form (second.no_lead whole) is (form ∙ whole) size is_read)
 heard_as_awaited conn body parts read Pending.Nothing pends second is form size is_read = form ∙ ap form_awaited pends
 heard_as_awaited conn body parts read (Pending.Writing number command) pends second is form size is_read = form ∙ ap form_awaited pends
 heard_as_awaited conn body parts read (Pending.Noting number command) pends second is form size is_read = form ∙ ap form_awaited pends
@@ -185,16 +185,16 @@ heard_as_awaited conn body parts read (Pending.Noting number command) pends seco
 
 module _ (one_header : OneHeader) (fault_or_header : FaultIsNoHeader) (one_inbound : OneInbound) where
   -- data in the form that is awaited is no second key's
-  awaited_is_taken : (conn : Conn) (body : List ℕ) (parts : InboundParts) (step : HostStep) → IsAwaitedBy conn parts → IsInbound parts body → TakesData conn body step → step ≡ data_came parts conn.turn conn.pending conn
+  awaited_is_taken : (conn : Session) (body : List ℕ) (parts : InboundParts) (step : HostStep) → IsAwaitedBy conn parts → IsInbound parts body → TakesData conn body step → step ≡ data_came parts conn.turn conn.pending conn
   awaited_is_taken conn body parts step awaited is (TakesData.hears parts' form size is' e) =
       e ∙ ap (λ (p : InboundParts). data_came p conn.turn conn.pending conn) (one_inbound body parts' parts (form ∙ sym awaited.form) (size ∙ sym awaited.size) is' is)
   awaited_is_taken conn body parts step awaited is (TakesData.is_second_key fault parts' bad may form size is' e) =
-      absurd (no_fault conn.shape (form_awaited conn.pending) parts fault body awaited.form awaited.size is bad)
+      absurd (no_fault conn.size (form_awaited conn.pending) parts fault body awaited.form awaited.size is bad)
   awaited_is_taken conn body parts step awaited is (TakesData.no_data fault bad no_key e) =
-      absurd (no_fault conn.shape (form_awaited conn.pending) parts fault body awaited.form awaited.size is bad)
+      absurd (no_fault conn.size (form_awaited conn.pending) parts fault body awaited.form awaited.size is bad)
 
   -- and a second key's data is dropped by its AID, in whatever form it is read
-  second_is_taken : (conn : Conn) (body : List ℕ) (parts : InboundParts) (step : HostStep) → IsSecondKeyIn conn parts → IsInbound parts body → TakesData conn body step → step ≡ data_came parts conn.turn conn.pending conn
+  second_is_taken : (conn : Session) (body : List ℕ) (parts : InboundParts) (step : HostStep) → IsSecondKeyIn conn parts → IsInbound parts body → TakesData conn body step → step ≡ data_came parts conn.turn conn.pending conn
   second_is_taken conn body parts step second is (TakesData.hears read form size is_read e) =
       let modified = heard_as_awaited conn body parts read conn.pending refl second is form size is_read in
       e ∙ second_key_came read conn conn.turn conn.pending second.may_be modified
@@ -208,11 +208,11 @@ module _ (one_header : OneHeader) (fault_or_header : FaultIsNoHeader) (one_inbou
       let none = subst (λ (b : Bool). IsNoSecondKey b large body) second.may_be no_key in
       absurd (no_fault large Modified (record parts { size = large }) none.0 body second.form refl (on_larger parts body large second.form second.size is) none.1)
 
-  data_is_taken : (conn : Conn) (body : List ℕ) (parts : InboundParts) (step : HostStep) → MayComeUp conn (ToHost.Data parts) → IsInbound parts body → TakesData conn body step → step ≡ data_came parts conn.turn conn.pending conn
+  data_is_taken : (conn : Session) (body : List ℕ) (parts : InboundParts) (step : HostStep) → MayComeUp conn (ToHost.Data parts) → IsInbound parts body → TakesData conn body step → step ≡ data_came parts conn.turn conn.pending conn
   data_is_taken conn body parts step (inl awaited) is takes = awaited_is_taken conn body parts step awaited is takes
   data_is_taken conn body parts step (inr second) is takes = second_is_taken conn body parts step second is takes
 
-  data_taken : (conn : Conn) (bytes body : List ℕ) (header : Header) (parts : InboundParts) (step : HostStep) → header.kind ≡ Data3270 → Begins bytes header body
+  data_taken : (conn : Session) (bytes body : List ℕ) (header : Header) (parts : InboundParts) (step : HostStep) → header.kind ≡ Data3270 → Begins bytes header body
       → MayComeUp conn (ToHost.Data parts) → IsInbound parts body → TakesRecord conn bytes step → step ≡ data_came parts conn.turn conn.pending conn
   data_taken conn bytes body header parts step kind begins awaited is (TakesRecord.no_header fault has e) = absurd (fault_or_header bytes fault header body has begins)
   data_taken conn bytes body header parts step kind begins awaited is (TakesRecord.dropped other rest begins' drops e) =
@@ -225,7 +225,7 @@ module _ (one_header : OneHeader) (fault_or_header : FaultIsNoHeader) (one_inbou
       let both : Response ≡ Data3270 = sym kind' ∙ same ∙ kind in
       absurd (cc)
 
-  response_taken : (conn : Conn) (bytes body : List ℕ) (header : Header) (verdict : Verdict) (step : HostStep) → header.kind ≡ Response → Begins bytes header body
+  response_taken : (conn : Session) (bytes body : List ℕ) (header : Header) (verdict : Verdict) (step : HostStep) → header.kind ≡ Response → Begins bytes header body
       → verdict_of header.flag ≡ verdict → TakesRecord conn bytes step → step ≡ response_came header.seq verdict conn.pending conn
   response_taken conn bytes body header verdict step kind begins says_it (TakesRecord.no_header fault has e) = absurd (fault_or_header bytes fault header body has begins)
   response_taken conn bytes body header verdict step kind begins says_it (TakesRecord.dropped other rest begins' drops e) =
@@ -241,14 +241,14 @@ module _ (one_header : OneHeader) (fault_or_header : FaultIsNoHeader) (one_inbou
       ∙ ap (λ (v : Verdict). response_came header.seq v conn.pending conn) says_it
 
   -- before agreement a record is dropped, whatever it stands for
-  taken_if : (agreed : Bool) (conn : Conn) (bytes : List ℕ) (step wanted : HostStep) → (TakesRecord conn bytes step → step ≡ wanted) → TakesRecordIf agreed conn bytes step
+  taken_if : (agreed : Bool) (conn : Session) (bytes : List ℕ) (step wanted : HostStep) → (TakesRecord conn bytes step → step ≡ wanted) → TakesRecordIf agreed conn bytes step
       → step ≡ once_agreed agreed wanted conn
   taken_if true conn bytes step wanted is taken = is taken
   taken_if false conn bytes step wanted is taken = taken
 
   -- ---- any item
 
-  pub host_reads : (answers : Answers) (conn : Conn) (item : WireItem) (message : ToHost) (step : HostStep)
+  pub host_reads : (answers : Answers) (conn : Session) (item : WireItem) (message : ToHost) (step : HostStep)
       → IsReadAs item message → MayComeUp conn message → TakesItem answers conn item step → step ≡ took answers conn message
   host_reads answers conn item (ToHost.TalksUp saying) step read may taken =
       takes_talk saying answers conn step may (subst (λ (i : WireItem). TakesItem answers conn i step) read taken)
@@ -290,7 +290,7 @@ verdict_is Verdict.Negative DeviceEnd is = absurd (is refl)
 verdict_is Verdict.Negative (Refused sense) is = refl
 
 -- the host reads them as what they stand for
-pub stands_read : (item : WireItem) (message : ToHost) → StandsUp item message → IsReadAs item message
+pub stands_read : (item : WireItem) (message : ToHost) → RepresentsUp item message → IsReadAs item message
 stands_read item (ToHost.TalksUp saying) stands = stands
 stands_read item (ToHost.Data parts) stands = record {
   bytes = spelling (data_header stands.0) ++ stands.1;

@@ -24,15 +24,15 @@ use Rattle.host_core.specs.declared.turn.Turn.TheVariants as whose
 use Rattle.host_core.specs.declared.turn_reason.TurnReason.{TurnReason}
 use Rattle.host_core.specs.declared.turn_reason.TurnReason.TheVariants as turn_reasons
 use Rattle.host_core.specs.declared.unheard.Unheard.TheVariants as unheards
-use Rattle.host_core.specs.Session.{Conn, Pending, is_agreed}
+use Rattle.host_core.specs.Session.{Session, Pending, is_agreed}
 use Rattle.host_core.specs.Rejections.{lu_asked}
 use Rattle.shadow.specs.declared.rule_break.RuleBreak.{RuleBreak}
 use Rattle.host_core.specs.Takes.{buffer_heard, rule_broken_by, unless_broken, Answers, HostStep, quiet, closed_by, replied, granted_by, asked, talked_on, hears, believed, once_read, buffer_came, key_came, key_data_came, data_came, answered, refused, write_refused, if_answers, verdict_came, read_verdict_came, response_came, once_agreed, dropping, second_key, second_key_data, out_of_turn, may_have_changed, took}
 
 -- its command still waits for its answer, or nothing does
-pub record JustTalks (old : Conn) (step : HostStep) : Type 0 where
+pub record JustTalks (old : Session) (step : HostStep) : Type 0 where
   pub number : step.conn.next_seq ≡ old.next_seq
-  pub shape : step.conn.shape ≡ old.shape
+  pub size : step.conn.size ≡ old.size
   pub panel : step.conn.panel ≡ old.panel
   pub values : step.conn.values ≡ old.values
   pub message : step.conn.message ≡ old.message
@@ -43,23 +43,23 @@ pub record JustTalks (old : Conn) (step : HostStep) : Type 0 where
   pub talk : List Saying
   pub says : step.sends ≡ map ToTerminal.TalksDown talk
 
-quietly : (conn : Conn) → JustTalks conn (quiet conn)
-quietly conn = record { number = refl; shape = refl; panel = refl; values = refl; message = refl; turn = λ is. is; pending = inl refl; unheard = inl refl; reason = inl refl; talk = []; says = refl }
+quietly : (conn : Session) → JustTalks conn (quiet conn)
+quietly conn = record { number = refl; size = refl; panel = refl; values = refl; message = refl; turn = λ is. is; pending = inl refl; unheard = inl refl; reason = inl refl; talk = []; says = refl }
 
-closes : (conn : Conn) (cause : Cause) → JustTalks conn (closed_by cause conn)
-closes conn cause = record { number = refl; shape = refl; panel = refl; values = refl; message = refl; turn = λ is. is; pending = inl refl; unheard = inl refl; reason = inl refl; talk = []; says = refl }
+closes : (conn : Session) (cause : Cause) → JustTalks conn (closed_by cause conn)
+closes conn cause = record { number = refl; size = refl; panel = refl; values = refl; message = refl; turn = λ is. is; pending = inl refl; unheard = inl refl; reason = inl refl; talk = []; says = refl }
 
 -- nothing is pending then
-settles : (conn new : Conn) → new.next_seq ≡ conn.next_seq → new.shape ≡ conn.shape → new.panel ≡ conn.panel → new.values ≡ conn.values → new.message ≡ conn.message → (conn.turn ≡ whose.Host → new.turn ≡ whose.Host)
+settles : (conn new : Session) → new.next_seq ≡ conn.next_seq → new.size ≡ conn.size → new.panel ≡ conn.panel → new.values ≡ conn.values → new.message ≡ conn.message → (conn.turn ≡ whose.Host → new.turn ≡ whose.Host)
     → new.pending ≡ Pending.Nothing → new.unheard ≡ conn.unheard → (new.turn_reason ≡ conn.turn_reason) ⊎ (new.turn_reason ≡ turn_reasons.Agreement → ⊥) → JustTalks conn (quiet new)
 settles conn new number shape panel values message turn none unheard reason =
-    record { number = number; shape = shape; panel = panel; values = values; message = message; turn = turn; pending = inr none; unheard = inl unheard; reason = reason; talk = []; says = refl }
+    record { number = number; size = shape; panel = panel; values = values; message = message; turn = turn; pending = inr none; unheard = inl unheard; reason = reason; talk = []; says = refl }
 
-replies : (conn : Conn) (lu grants : Option (List ℕ)) (next : Talk HostState × Reply) → JustTalks conn (replied conn lu grants next)
+replies : (conn : Session) (lu grants : Option (List ℕ)) (next : Talk HostState × Reply) → JustTalks conn (replied conn lu grants next)
 replies conn lu grants next =
-    record { number = refl; shape = refl; panel = refl; values = refl; message = refl; turn = λ is. is; pending = inl refl; unheard = inl refl; reason = inl refl; talk = sayings next.1; says = refl }
+    record { number = refl; size = refl; panel = refl; values = refl; message = refl; turn = λ is. is; pending = inl refl; unheard = inl refl; reason = inl refl; talk = sayings next.1; says = refl }
 
-asks : (conn : Conn) (lu : Option (List ℕ)) (talk : Talk HostState) (answer : Result (List ℕ) Reason) (state : HostState) → JustTalks conn (asked conn lu talk answer state)
+asks : (conn : Session) (lu : Option (List ℕ)) (talk : Talk HostState) (answer : Result (List ℕ) Reason) (state : HostState) → JustTalks conn (asked conn lu talk answer state)
 asks conn lu talk answer (Asking device) = replies conn lu (granted_by answer) (follow Closed talk (answer_transition device answer))
 asks conn lu talk answer Offered = quietly conn
 asks conn lu talk answer Asked = quietly conn
@@ -68,7 +68,7 @@ asks conn lu talk answer (Countered device granted) = quietly conn
 asks conn lu talk answer (Agreed device granted) = quietly conn
 asks conn lu talk answer (Closed cause) = quietly conn
 
-talks : (pool : Answers) (conn : Conn) (lu : Option (List ℕ)) (talk : Talk HostState) (answer : Reply) → JustTalks conn (talked_on pool conn lu talk answer)
+talks : (pool : Answers) (conn : Session) (lu : Option (List ℕ)) (talk : Talk HostState) (answer : Reply) → JustTalks conn (talked_on pool conn lu talk answer)
 talks pool conn lu talk (reply.AskPool name) = asks conn lu talk (pool name) talk.state
 talks pool conn lu talk reply.Nothing = replies conn lu None (talk, reply.Nothing)
 talks pool conn lu talk (reply.Opt verb code) = replies conn lu None (talk, reply.Opt verb code)
@@ -80,31 +80,31 @@ talks pool conn lu talk (reply.Close cause) = replies conn lu None (talk, reply.
 -- ---- data
 
 -- what waits for an answer still does, or nothing does
-believes : (turn_reason : TurnReason) (pending : Pending) (cursor : Option ℕ) (conn : Conn) (result : Result Shadow HeardFault) → (pending ≡ conn.pending) ⊎ (pending ≡ Pending.Nothing)
+believes : (turn_reason : TurnReason) (pending : Pending) (cursor : Option ℕ) (conn : Session) (result : Result Shadow HeardFault) → (pending ≡ conn.pending) ⊎ (pending ≡ Pending.Nothing)
     → (turn_reason ≡ conn.turn_reason) ⊎ (turn_reason ≡ turn_reasons.Agreement → ⊥)
     → JustTalks conn (believed turn_reason pending cursor conn result)
 believes turn_reason pending cursor conn (Ok shadow) waits reason =
-    record { number = refl; shape = refl; panel = refl; values = refl; message = refl; turn = λ is. refl; pending = waits; unheard = inl refl; reason = reason; talk = []; says = refl }
+    record { number = refl; size = refl; panel = refl; values = refl; message = refl; turn = λ is. refl; pending = waits; unheard = inl refl; reason = reason; talk = []; says = refl }
 believes turn_reason pending cursor conn (Err fault) waits reason = closes conn _
 
-hears_key : (parts : InboundParts) (aid : Aid) (conn : Conn) → JustTalks conn (key_came parts aid conn)
+hears_key : (parts : InboundParts) (aid : Aid) (conn : Session) → JustTalks conn (key_came parts aid conn)
 hears_key parts NoAid conn = closes conn _
 hears_key parts Enter conn = believes (turn_reasons.Key Enter false) conn.pending parts.cursor conn (hears parts conn) (inl refl) (inr (λ e. cc))
 hears_key parts Clear conn = believes (turn_reasons.Key Clear false) conn.pending parts.cursor conn (hears parts conn) (inl refl) (inr (λ e. cc))
 hears_key parts (Pf key) conn = believes (turn_reasons.Key (Pf key) false) conn.pending parts.cursor conn (hears parts conn) (inl refl) (inr (λ e. cc))
 hears_key parts (Pa key) conn = believes (turn_reasons.Key (Pa key) false) conn.pending parts.cursor conn (hears parts conn) (inl refl) (inr (λ e. cc))
 
-hears_key_data : (parts : InboundParts) (form : Form) (conn : Conn) → JustTalks conn (key_data_came parts form conn)
+hears_key_data : (parts : InboundParts) (form : Form) (conn : Session) → JustTalks conn (key_data_came parts form conn)
 hears_key_data parts Modified conn = hears_key parts parts.aid conn
 hears_key_data parts AllModified conn = closes conn _
 hears_key_data parts Buffer conn = closes conn _
 
-drops : (conn new : Conn) (aid : Aid) → new.next_seq ≡ conn.next_seq → new.shape ≡ conn.shape → new.panel ≡ conn.panel → new.values ≡ conn.values → new.message ≡ conn.message → new.turn ≡ conn.turn → new.pending ≡ conn.pending
+drops : (conn new : Session) (aid : Aid) → new.next_seq ≡ conn.next_seq → new.size ≡ conn.size → new.panel ≡ conn.panel → new.values ≡ conn.values → new.message ≡ conn.message → new.turn ≡ conn.turn → new.pending ≡ conn.pending
     → (new.unheard ≡ conn.unheard) ⊎ (new.unheard ≡ unheards.Clear) → new.turn_reason ≡ conn.turn_reason → JustTalks conn (dropping aid new)
 drops conn new aid number shape panel values message turn pending unheard reason =
-    record { number = number; shape = shape; panel = panel; values = values; message = message; turn = λ is. turn ∙ is; pending = inl pending; unheard = unheard; reason = inl reason; talk = []; says = refl }
+    record { number = number; size = shape; panel = panel; values = values; message = message; turn = λ is. turn ∙ is; pending = inl pending; unheard = unheard; reason = inl reason; talk = []; says = refl }
 
-drops_key : (aid : Aid) (pending : Pending) (conn : Conn) → JustTalks conn (second_key aid pending conn)
+drops_key : (aid : Aid) (pending : Pending) (conn : Session) → JustTalks conn (second_key aid pending conn)
 drops_key NoAid pending conn = closes conn _
 drops_key Enter pending conn = drops conn conn Enter refl refl refl refl refl refl refl (inl refl) refl
 drops_key Clear Pending.Nothing conn = drops conn (record conn { unheard = unheards.Clear }) Clear refl refl refl refl refl refl refl (inr refl) refl
@@ -114,12 +114,12 @@ drops_key Clear (Pending.Noting number command) conn = closes conn _
 drops_key (Pf key) pending conn = drops conn conn (Pf key) refl refl refl refl refl refl refl (inl refl) refl
 drops_key (Pa key) pending conn = drops conn conn (Pa key) refl refl refl refl refl refl refl (inl refl) refl
 
-drops_key_data : (parts : InboundParts) (form : Form) (conn : Conn) → JustTalks conn (second_key_data parts form conn)
+drops_key_data : (parts : InboundParts) (form : Form) (conn : Session) → JustTalks conn (second_key_data parts form conn)
 drops_key_data parts Modified conn = drops_key parts.aid conn.pending conn
 drops_key_data parts AllModified conn = closes conn _
 drops_key_data parts Buffer conn = closes conn _
 
-comes_out_of_turn : (parts : InboundParts) (conn : Conn) → JustTalks conn (out_of_turn parts conn)
+comes_out_of_turn : (parts : InboundParts) (conn : Session) → JustTalks conn (out_of_turn parts conn)
 comes_out_of_turn parts conn = by_test (may_have_changed conn.unheard)
   where
     by_test : (b : Bool) → JustTalks conn (if b then second_key_data parts parts.form conn else closed_by BadInbound conn)
@@ -131,16 +131,16 @@ read_reason turn_reasons.Agreement = inl refl
 read_reason turn_reasons.Refusal = inl refl
 read_reason (turn_reasons.Key aid buffered) = inr (λ e. cc)
 
-hears_buffer : (parts : InboundParts) (form : Form) (conn : Conn) → JustTalks conn (buffer_came parts form conn)
+hears_buffer : (parts : InboundParts) (form : Form) (conn : Session) → JustTalks conn (buffer_came parts form conn)
 hears_buffer parts Buffer conn = by_break (rule_broken_by parts conn)
   where
     by_break : (broken : Option RuleBreak) → JustTalks conn (unless_broken conn broken (buffer_heard parts conn))
     by_break None = believes (once_read conn.turn_reason) Pending.Nothing parts.cursor conn (hears parts conn) (inr refl) (read_reason conn.turn_reason)
-    by_break (Some broken) = record { shape = refl; number = refl; panel = refl; values = refl; message = refl; turn = λ is. is; pending = inl refl; unheard = inl refl; reason = inl refl; talk = []; says = refl }
+    by_break (Some broken) = record { size = refl; number = refl; panel = refl; values = refl; message = refl; turn = λ is. is; pending = inl refl; unheard = inl refl; reason = inl refl; talk = []; says = refl }
 hears_buffer parts Modified conn = comes_out_of_turn parts conn
 hears_buffer parts AllModified conn = comes_out_of_turn parts conn
 
-hears_data : (parts : InboundParts) (turn : Turn) (pending : Pending) (conn : Conn) → JustTalks conn (data_came parts turn pending conn)
+hears_data : (parts : InboundParts) (turn : Turn) (pending : Pending) (conn : Session) → JustTalks conn (data_came parts turn pending conn)
 hears_data parts turn (Pending.Reading number) conn = hears_buffer parts parts.form conn
 hears_data parts turn (Pending.Writing number command) conn = comes_out_of_turn parts conn
 hears_data parts whose.Host Pending.Nothing conn = comes_out_of_turn parts conn
@@ -150,26 +150,26 @@ hears_data parts whose.Terminal (Pending.Noting number command) conn = hears_key
 
 -- ---- responses
 
-if_it_answers : (b : Bool) (step : HostStep) (conn : Conn) → JustTalks conn step → JustTalks conn (if_answers b step conn)
+if_it_answers : (b : Bool) (step : HostStep) (conn : Session) → JustTalks conn step → JustTalks conn (if_answers b step conn)
 if_it_answers true step conn just = just
 if_it_answers false step conn just = closes conn _
 
-loses_a_write : (command : CommandParts) (conn : Conn) → JustTalks conn (write_refused command conn)
+loses_a_write : (command : CommandParts) (conn : Session) → JustTalks conn (write_refused command conn)
 loses_a_write command conn = by_test (is_erase command.code)
   where
     by_test : (b : Bool) → JustTalks conn (if b then closed_by Negative conn else quiet (refused conn))
     by_test true = closes conn Negative
     by_test false = settles conn (refused conn) refl refl refl refl refl (λ is. refl) refl refl (inr (λ e. cc))
 
-judges : (command : CommandParts) (verdict : Verdict) (conn : Conn) → JustTalks conn (verdict_came command verdict conn)
+judges : (command : CommandParts) (verdict : Verdict) (conn : Session) → JustTalks conn (verdict_came command verdict conn)
 judges command Verdict.Positive conn = settles conn (answered command conn) refl refl refl refl refl (λ is. is) refl refl (inl refl)
 judges command Verdict.Negative conn = loses_a_write command conn
 
-judges_read : (answers : Bool) (verdict : Verdict) (conn : Conn) → JustTalks conn (read_verdict_came answers verdict conn)
+judges_read : (answers : Bool) (verdict : Verdict) (conn : Session) → JustTalks conn (read_verdict_came answers verdict conn)
 judges_read answers Verdict.Positive conn = closes conn _
 judges_read answers Verdict.Negative conn = if_it_answers answers _ conn (settles conn (refused conn) refl refl refl refl refl (λ is. refl) refl refl (inr (λ e. cc)))
 
-is_answered : (number : ℕ) (verdict : Verdict) (pending : Pending) (conn : Conn) → JustTalks conn (response_came number verdict pending conn)
+is_answered : (number : ℕ) (verdict : Verdict) (pending : Pending) (conn : Session) → JustTalks conn (response_came number verdict pending conn)
 is_answered number verdict Pending.Nothing conn = closes conn _
 is_answered number verdict (Pending.Writing pending command) conn = if_it_answers (number == pending) _ conn (judges command verdict conn)
 is_answered number verdict (Pending.Noting pending command) conn = if_it_answers (number == pending) _ conn (judges command verdict conn)
@@ -177,11 +177,11 @@ is_answered number verdict (Pending.Reading pending) conn = judges_read (number 
 
 -- ---- any message
 
-once_it_agreed : (b : Bool) (step : HostStep) (conn : Conn) → JustTalks conn step → JustTalks conn (once_agreed b step conn)
+once_it_agreed : (b : Bool) (step : HostStep) (conn : Session) → JustTalks conn step → JustTalks conn (once_agreed b step conn)
 once_it_agreed true step conn just = just
 once_it_agreed false step conn just = quietly conn
 
-pub just_talks : (pool : Answers) (conn : Conn) (message : ToHost) → JustTalks conn (took pool conn message)
+pub just_talks : (pool : Answers) (conn : Session) (message : ToHost) → JustTalks conn (took pool conn message)
 just_talks pool conn (ToHost.TalksUp saying) =
     let next : Talk HostState × Reply = follow Closed conn.talk (host_transition conn.talk.state (says saying)) in
     talks pool conn (lu_asked (says saying)) next.0 next.1

@@ -20,17 +20,17 @@ use Rattle.host_core.specs.Messages.{ToTerminal}
 use Rattle.host_core.specs.NoteLaws.{IsNoteOf}
 use Rattle.host_core.specs.Notes.{note_orders, note_command}
 use Rattle.host_core.specs.Says.{written, read_buffer_bytes, command_header, command_record, item_sent}
-use Rattle.world3270.specs.Numbers.{IsNumber}
-use Rattle.world3270.specs.Sendable.{PaintsAScreen, IsSpelt}
-use Rattle.world3270.specs.Stands.{StandsDown}
-use Rattle.world3270.specs.StandsEnds.{PaintStands}
+use Rattle.world3270.specs.statement.Numbers.{IsNumber}
+use Rattle.world3270.specs.refinement.Sendable.{PaintsAScreen, IsSpelt}
+use Rattle.world3270.specs.refinement.Represents.{RepresentsDown}
+use Rattle.world3270.specs.refinement.RepresentsEnds.{PaintRepresents}
 
 -- what fits where it is sent: a paint what is believed, and a note a screen of some size
-abbrev pub Suits : ToTerminal → Type 0
-Suits (ToTerminal.TalksDown saying) = ⊥
-Suits (ToTerminal.Paint number wanted believed) = is_paintable believed wanted ≡ true
-Suits (ToTerminal.ReadBuffer number) = ⊤
-Suits (ToTerminal.Note number command) = (size : Shape) × IsShape size × (size.columns ≤ most_columns) × IsNoteOf size command
+abbrev pub MayBeGranted : ToTerminal → Type 0
+MayBeGranted (ToTerminal.TalksDown saying) = ⊥
+MayBeGranted (ToTerminal.Paint number wanted believed) = is_paintable believed wanted ≡ true
+MayBeGranted (ToTerminal.ReadBuffer number) = ⊤
+MayBeGranted (ToTerminal.Note number command) = (size : Shape) × IsShape size × (size.columns ≤ most_columns) × IsNoteOf size command
 
 -- what is known of a command under way
 pub record IsSound (message : ToTerminal) : Type 0 where
@@ -40,7 +40,7 @@ pub record IsSound (message : ToTerminal) : Type 0 where
 
 -- its item stands for it, and may come
 pub record Spells (message : ToTerminal) : Type 0 where
-  pub stands : StandsDown (item_sent message) message
+  pub stands : RepresentsDown (item_sent message) message
   pub comes : CanCome record_limit (item_sent message)
 
 begins : (flag number : ℕ) (body : List ℕ) → flag ≤ always_response → IsNumber number
@@ -68,7 +68,7 @@ note_comes size number command text narrow is =
     let fits = note_record_fits size number text (command_record always_response number (note_command size text)) narrow refl in
     subst (λ (c : CommandParts). length (command_record always_response number c) ≤ record_limit) (sym is) (omega arith)
 
-pub spells : PaintStands → PaintIsBounded → (message : ToTerminal) → Suits message → IsSound message → Spells message
+pub spells : PaintRepresents → PaintIsBounded → (message : ToTerminal) → MayBeGranted message → IsSound message → Spells message
 spells stands bounded (ToTerminal.TalksDown saying) suits sound = absurd suits
 spells stands bounded (ToTerminal.Paint number wanted believed) suits sound =
     let body : List ℕ = written (paint (cells_in wanted.size) believed wanted) in

@@ -12,17 +12,17 @@ use Rattle.lu_pool.specs.declared.entry.Entry.{Entry}
 use Rattle.panels.specs.Panel.{Panels}
 use Rattle.host_core.specs.Application.{application_of}
 use Rattle.host_core.specs.State.{Connection, unused, opened, connection_at, most_connections, with_opened}
-use Rattle.world3270.specs.ByteSteps.{is_held, free_from}
-use Rattle.world3270.specs.ByteWorld.{ByteWorld, Transits, TerminalSlot, under_way, is_live, is_there, unused_transits, begun_transits, model_at, new_slot, attached_slot, is_attached_to, new_byte_world, transits_at, slot_at, with_transits, with_slot, with_host, terminal_at, host_there, host_out, out_of}
-use Rattle.world3270.specs.Link.{Link, begun, unused as unused_link}
-use Rattle.world3270.specs.Places.{EndsAgree}
-use Rattle.world3270.specs.Standing.{WorldStands, IsFlow, IsAt, IsNotClosed, IsSettled, AreTransits, conn_of, rest_of, with_out, link_with}
+use Rattle.world3270.specs.model.ByteSteps.{is_held, free_from}
+use Rattle.world3270.specs.model.ByteWorld.{ByteWorld, Transits, TerminalSlot, under_way, is_live, is_there, unused_transits, begun_transits, model_at, new_slot, attached_slot, is_attached_to, new_byte_world, transits_at, slot_at, with_transits, with_slot, with_host, terminal_at, host_there, host_out, out_of}
+use Rattle.world3270.specs.model.Link.{Link, begun, unused as unused_link}
+use Rattle.world3270.specs.model.Places.{EndsAgree}
+use Rattle.world3270.specs.refinement.Representation.{WorldRepresents, IsFlow, IsAt, IsNotClosed, IsSettled, AreTransits, conn_of, rest_of, with_out, link_with}
 use Rattle.host_core.specs.declared.terminals.Terminals.{Terminals}
-use Rattle.world3270.specs.Stands.{StandsUp, BytesUp, LinkStands, all_items}
-use Rattle.world3270.specs.StandsLinks.{NothingStands, BeginStands, begun_bytes}
-use Rattle.world3270.specs.Terminal.{new_display}
-use Rattle.world3270.specs.World.{Place, World, new_world, with_at}
-use Rattle.world3270.specs.TrackedTerminals.{newly_tracked}
+use Rattle.world3270.specs.refinement.Represents.{RepresentsUp, BytesUp, LinkRepresents, all_items}
+use Rattle.world3270.specs.refinement.RepresentsLinks.{NothingRepresents, BeginRepresents, begun_bytes}
+use Rattle.world3270.specs.model.Terminal.{new_display}
+use Rattle.world3270.specs.model.World.{Place, World, new_world, with_at}
+use Rattle.world3270.specs.model.TrackedTerminals.{newly_tracked}
 use Rattle.world3270.proofs.Frames.{transits_same, transits_other, slot_same, slot_other, connection_same, connection_other, IsHere, alone_there, changed_stands}
 use Rattle.world3270.proofs.OneOfMany.{with_other, with_same}
 use Rattle.world3270.proofs.Partings.{like_stands}
@@ -46,8 +46,8 @@ module _ (model : Model) (number terminal : ℕ) (wanted : Option (List ℕ)) (o
   connected = with_transits number begun_transits (with_slot terminal (attached_slot (model_at terminal old) wanted number) (with_host (with_opened number old.host) old))
 
   -- the connection that begins
-  begun_link : (serves : Terminals) → BeginStands → transits_at number connected ≡ begun_transits → connection_at number connected.host ≡ opened serves old.host.panels → slot_at terminal connected ≡ attached_slot (model_at terminal old) wanted number → model_at terminal old ≡ model
-      → LinkStands (link_with (Some terminal) number connected) (begun (application_of old.host.panels) serves model terminal wanted)
+  begun_link : (serves : Terminals) → BeginRepresents → transits_at number connected ≡ begun_transits → connection_at number connected.host ≡ opened serves old.host.panels → slot_at terminal connected ≡ attached_slot (model_at terminal old) wanted number → model_at terminal old ≡ model
+      → LinkRepresents (link_with (Some terminal) number connected) (begun (application_of old.host.panels) serves model terminal wanted)
   begun_link serves begins transits connection slot is =
       like_stands (begun_bytes serves old.host.panels model terminal wanted) (link_with (Some terminal) number connected) (begun (application_of old.host.panels) serves model terminal wanted)
       (record {
@@ -68,10 +68,10 @@ module _ (model : Model) (number terminal : ℕ) (wanted : Option (List ℕ)) (o
     up = subst (λ (w : Transits). IsFlow true (out_of (Some terminal) connected) w.up) (sym transits) tt;
   }
 
-  pub connected_stands : (was : World) → BeginStands → EndsAgree was → WorldStands old was → number < length old.links → terminal < length old.slots
+  pub connected_stands : (was : World) → BeginRepresents → EndsAgree was → WorldRepresents old was → number < length old.links → terminal < length old.slots
       → (slot_at terminal old).at ≡ None → model_at terminal old ≡ model
       → EndsAgree (record was { link = with_at number (begun (application_of old.host.panels) was.serves model terminal wanted) was.link; place = with_at terminal (Place.At number) was.place })
-      → WorldStands connected (record was { link = with_at number (begun (application_of old.host.panels) was.serves model terminal wanted) was.link; place = with_at terminal (Place.At number) was.place })
+      → WorldRepresents connected (record was { link = with_at number (begun (application_of old.host.panels) was.serves model terminal wanted) was.link; place = with_at terminal (Place.At number) was.place })
   connected_stands was begins agree stands below there_is alone modelled agrees =
       let now : World = record was { link = with_at number (begun (application_of old.host.panels) was.serves model terminal wanted) was.link; place = with_at terminal (Place.At number) was.place } in
       let hosted : ByteWorld = with_host (with_opened number old.host) old in
@@ -102,7 +102,7 @@ module _ (model : Model) (number terminal : ℕ) (wanted : Option (List ℕ)) (o
         none_closed = subst (λ (l : Connection). IsNotClosed l.service) (sym connection) tt;
         settled = subst (λ (l : Connection). IsSettled l) (sym connection) (λ free. absurd (cc));
         flow = subst (λ (l : Link). AreTransits l.term_here number connected) (sym is) (begun_flow transits);
-        link = subst (λ (l : Link). LinkStands (link_with l.term_here number connected) l) (sym is) (begun_link was.serves begins transits connection slot modelled);
+        link = subst (λ (l : Link). LinkRepresents (link_with l.term_here number connected) l) (sym is) (begun_link was.serves begins transits connection slot modelled);
         place = subst (λ (p : Place). IsAt (slot_at terminal connected) p) (sym goes) (ap (λ (s : TerminalSlot). s.at) slot);
       })
       agree stands agrees
@@ -137,7 +137,7 @@ slot_of_model [] terminal = refl
 slot_of_model (model ∷ models) zero = refl
 slot_of_model (model ∷ models) (suc terminal) = slot_of_model models terminal
 
-module _ (empty : NothingStands all_items StandsUp) (serves : Terminals) (panels : Panels) (pool : List Entry) (models : List Model) where
+module _ (empty : NothingRepresents all_items RepresentsUp) (serves : Terminals) (panels : Panels) (pool : List Entry) (models : List Model) where
   abbrev begins : ByteWorld
   begins = new_byte_world serves panels pool models
 
@@ -158,7 +158,7 @@ module _ (empty : NothingStands all_items StandsUp) (serves : Terminals) (panels
     up = subst (λ (w : Transits). IsFlow false [] w.up) (sym (transits_begun number)) refl;
   }
 
-  link_begun : (number : ℕ) → LinkStands (link_with None number begins) (unused_link (application_of panels) serves)
+  link_begun : (number : ℕ) → LinkRepresents (link_with None number begins) (unused_link (application_of panels) serves)
   link_begun number = record {
     lost = ap (λ (w : Transits). not (is_live w.down)) (transits_begun number);
     host_here = ap (λ (l : Connection). is_there l.service) (connection_begun number);
@@ -169,7 +169,7 @@ module _ (empty : NothingStands all_items StandsUp) (serves : Terminals) (panels
     term = λ terminal e. absurd (cc);
   }
 
-  pub begin_stands : WorldStands begins (new_world (application_of panels) serves pool models)
+  pub begin_stands : WorldRepresents begins (new_world (application_of panels) serves pool models)
   begin_stands = record {
     connections = length-replicate most_connections unused;
     transits = length-replicate most_connections unused_transits;
@@ -179,7 +179,7 @@ module _ (empty : NothingStands all_items StandsUp) (serves : Terminals) (panels
     none_closed = λ number. subst (λ (l : Connection). IsNotClosed l.service) (sym (connection_begun number)) tt;
     settled = λ number. subst (λ (l : Connection). IsSettled l) (sym (connection_begun number)) (λ free. refl);
     flows = λ number. subst (λ (h : Option ℕ). AreTransits h number begins) (sym (nobody number)) (flow_begun number);
-    links = λ number. subst (λ (h : Option ℕ). LinkStands (link_with h number begins) (unused_link (application_of panels) serves)) (sym (nobody number)) (link_begun number);
+    links = λ number. subst (λ (h : Option ℕ). LinkRepresents (link_with h number begins) (unused_link (application_of panels) serves)) (sym (nobody number)) (link_begun number);
     places = λ terminal. subst (λ (s : TerminalSlot). IsAt s (Place.Alone (new_display (slice_index_or models terminal M2) model_2))) (sym (slot_of_model models terminal))
         (new_is_alone (slice_index_or models terminal M2));
   }

@@ -3,7 +3,7 @@ use Rattle.std.proofs.Common.{◌≡◌, ◌<◌, ◌||◌, ℕ, Bool, true, fal
 use Rattle.codes3270.specs.declared.attention.Aid.{Aid}
 use Rattle.codes3270.specs.declared.attention.Aid.TheVariants.{NoAid, Enter as EnterAid, Clear as ClearAid, Pf as PfAid, Pa as PaAid}
 use Rattle.codes3270.specs.declared.attribute.Cell.{Cell}
-use Rattle.datastream.specs.Held.{Held}
+use Rattle.datastream.specs.KeptByKeys.{KeptByKeys}
 use Rattle.datastream.specs.HeldLaws.{HeldAtFirst, EraseInputHolds}
 use Rattle.datastream.specs.Screen.{Screen}
 use Rattle.keyboard.specs.Edits.{typed, with_deleted, with_field_erased}
@@ -21,14 +21,14 @@ use Rattle.keyboard.specs.declared.key.Pressed.TheVariants.{Done, Refused, Send}
 use Rattle.keyboard.specs.declared.key.Refusal.{Refusal}
 use Rattle.host_core.specs.Messages.{ToHost}
 use Rattle.world3270.proofs.Keys.{or_false, quiet_done, quiet_refused}
-use Rattle.world3270.specs.RuleLaws.{KeepsTheRules}
-use Rattle.world3270.specs.Rules.{Operates, with_aid}
-use Rattle.world3270.specs.Terminal.{Display, TermEnd, TermStep, data_of, erases_if, is_bound, key_came, outcome_of}
+use Rattle.world3270.specs.statement.RuleLaws.{KeepsTheRules}
+use Rattle.world3270.specs.statement.Rules.{Operates, with_aid}
+use Rattle.world3270.specs.model.Terminal.{Display, TermEnd, TermStep, data_of, erases_if, is_bound, key_came, outcome_of}
 
 -- ---- what a key that is done leaves
 
-done_held : EraseInputHolds → (key : Key) (left now : List Cell) → LeavesDone key left now → Held (erases key) left now
-done_held holds EraseInput left now e = subst (Held true left) (sym e) (holds left)
+done_held : EraseInputHolds → (key : Key) (left now : List Cell) → LeavesDone key left now → KeptByKeys (erases key) left now
+done_held holds EraseInput left now e = subst (KeptByKeys true left) (sym e) (holds left)
 done_held holds (Char letter) left now held = held
 done_held holds Tab left now held = held
 done_held holds BackTab left now held = held
@@ -106,19 +106,19 @@ module _ (leave : KeysLeave) (on_screen : KeysStayOnTheScreen) (keep_aid : Silen
   display = end.display
 
   abbrev columns : ℕ
-  columns = display.shape.columns
+  columns = display.size.columns
 
   abbrev outcome : Outcome
   outcome = outcome_of key display
 
   abbrev after : Pressed → Screen → TermStep
-  after answer screen = stepped end outcome.keyboard screen (display.erased || erases_if answer key) (data_of (is_bound end) answer display.shape screen)
+  after answer screen = stepped end outcome.keyboard screen (display.erased || erases_if answer key) (data_of (is_bound end) answer display.size screen)
 
   left : Leaves key outcome.answer display.screen.cells outcome.screen.cells
   left = leave columns key display.keyboard display.screen below
 
   -- a key that sends nothing
-  silent : (answer : Pressed) → outcome.answer ≡ answer → IsSilent answer → data_of (is_bound end) answer display.shape outcome.screen ≡ [] → Held (erases_if answer key) display.screen.cells outcome.screen.cells
+  silent : (answer : Pressed) → outcome.answer ≡ answer → IsSilent answer → data_of (is_bound end) answer display.size outcome.screen ≡ [] → KeptByKeys (erases_if answer key) display.screen.cells outcome.screen.cells
       → Operates end (key_came key end)
   silent answer e quiet nothing held =
       let stays = on_screen columns key display.keyboard display.screen below in
@@ -130,17 +130,17 @@ module _ (leave : KeysLeave) (on_screen : KeysStayOnTheScreen) (keep_aid : Silen
 
   by_answer : (answer : Pressed) → outcome.answer ≡ answer → Operates end (key_came key end)
   by_answer Done e =
-      silent Done e (λ aid sent. absurd (cc)) (quiet_done (is_bound end) display.shape outcome.screen)
+      silent Done e (λ aid sent. absurd (cc)) (quiet_done (is_bound end) display.size outcome.screen)
       (done_held holds key display.screen.cells outcome.screen.cells (subst (λ a. Leaves key a display.screen.cells outcome.screen.cells) e left))
   by_answer (Refused why) e =
-      silent (Refused why) e (λ aid sent. absurd (cc)) (quiet_refused (is_bound end) why display.shape outcome.screen)
-      (subst (Held false display.screen.cells) (sym (subst (λ a. Leaves key a display.screen.cells outcome.screen.cells) e left)) (at_first display.screen.cells))
+      silent (Refused why) e (λ aid sent. absurd (cc)) (quiet_refused (is_bound end) why display.size outcome.screen)
+      (subst (KeptByKeys false display.screen.cells) (sym (subst (λ a. Leaves key a display.screen.cells outcome.screen.cells) e left)) (at_first display.screen.cells))
   by_answer (Send aid) e =
       let sent = sending columns key display.keyboard display.screen aid e in
       Operates.sends outcome.keyboard aid sent.1
       (ap (λ a. after a outcome.screen) e
       ∙ ap (λ screen. after (Send aid) screen) (sent_screen none columns key display.keyboard display.screen aid display.keyboard.lock refl e)
-      ∙ ap (λ erased. stepped end outcome.keyboard (with_aid aid display.screen) erased (data_of (is_bound end) (Send aid) display.shape (with_aid aid display.screen))) (or_false display.erased))
+      ∙ ap (λ erased. stepped end outcome.keyboard (with_aid aid display.screen) erased (data_of (is_bound end) (Send aid) display.size (with_aid aid display.screen))) (or_false display.erased))
 
   key_operates : Operates end (key_came key end)
   key_operates = by_answer outcome.answer refl

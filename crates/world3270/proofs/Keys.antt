@@ -9,7 +9,7 @@ use Rattle.codes3270.specs.declared.attention.Aid.{Aid}
 use Rattle.codes3270.specs.declared.attention.Aid.TheVariants.{NoAid, Enter as EnterAid, Clear as ClearAid, Pf as PfAid, Pa as PaAid}
 use Rattle.codes3270.specs.declared.attribute.Cell.{Cell}
 use Rattle.codes3270.specs.declared.attribute.Cell.TheVariants.{Char as CharCell}
-use Rattle.datastream.specs.Held.{Held}
+use Rattle.datastream.specs.KeptByKeys.{KeptByKeys}
 use Rattle.datastream.specs.InboundFields.{modified_data}
 use Rattle.datastream.specs.InboundText.{InboundParts}
 use Rattle.datastream.specs.Screen.{Screen, is_char}
@@ -31,23 +31,23 @@ use Rattle.shadow.specs.Exactness.{KnownIsExact, ProtectedIsExact}
 use Rattle.shadow.specs.Heard.{heard}
 use Rattle.shadow.specs.Laws.{Believed, IsSentFrom}
 use Rattle.shadow.specs.Meets.{Meets, Knows}
-use Rattle.shadow.specs.Openness.{IsClearedBelief, IsLong, IsNotOpen, NothingIsOpen}
+use Rattle.shadow.specs.TextUnknown.{IsClearedBelief, IsLong, IsNotOpen, NothingIsOpen}
 use Rattle.shadow.specs.declared.fault.HeardFault.{HeardFault}
 use Rattle.host_core.specs.Application.{Application, message_place}
 use Rattle.host_core.specs.Messages.{ToHost}
 use Rattle.host_core.specs.NoteLaws.{HasMessageRow, TakesNotes}
-use Rattle.world3270.specs.Given.{Given}
-use Rattle.world3270.specs.Link.{Link, sent, term_stepped}
-use Rattle.world3270.specs.Moments.{Serving, Moment, UnderWay, IsAt, turn_at, pending_at, served_down, served_up}
-use Rattle.world3270.specs.TurnReasons.{IsCleared, IsOpenBy}
+use Rattle.world3270.specs.refinement.LowerLaws.{LowerLaws}
+use Rattle.world3270.specs.model.Link.{Link, sent, term_stepped}
+use Rattle.world3270.specs.refinement.Phases.{Serving, LinkPhase, UnderWay, IsAt, turn_at, pending_at, served_down, served_up}
+use Rattle.world3270.specs.statement.TurnReasons.{IsCleared, IsOpenBy}
 use Rattle.host_core.specs.declared.unheard.Unheard.{Unheard}
-use Rattle.world3270.specs.Stages.{Scene, scene_of, once_taken, FactsAreExact, IfRelies, Operates, Sees, IsPressed, WillSee, Fact, Kept, Sizes, ShownAt}
-use Rattle.world3270.specs.Terminal.{Display, is_bound, bound_to, data_of, erases_if, outcome_of, key_came}
-use Rattle.world3270.specs.View.{View, view_of}
+use Rattle.world3270.specs.refinement.Invariant.{LocalState, local_state_of, once_taken, FactsAreExact, IfRelies, Operates, Sees, IsPressed, WillSee, Fact, Kept, Sizes, ShownAt}
+use Rattle.world3270.specs.model.Terminal.{Display, is_bound, bound_to, data_of, erases_if, outcome_of, key_came}
+use Rattle.world3270.specs.refinement.View.{View, view_of}
 use Rattle.world3270.proofs.Down.{ok_map}
 use Rattle.world3270.proofs.Queues.{more, nothing_sent}
 use Rattle.world3270.proofs.Sent.{key_form, key_aid, key_cursor, key_size, sent_long, nulls_known}
-use Rattle.world3270.specs.Unreturned.{NotedSince}
+use Rattle.world3270.specs.refinement.Unreturned.{NotedSince}
 use Rattle.world3270.proofs.Unreturned.{as_left_of, kept_of}
 
 -- ---- in Wait
@@ -179,11 +179,11 @@ or_false false = refl
 -- a key in Wait changes nothing that the headline speaks of
 key_waits : (key : Key) (link : Link) → link.term.display.keyboard.lock ≡ Wait → view_of (key_view key link) ≡ view_of link
 key_waits key link e =
-    let w = waits link.term.display.shape.columns key link.term.display.keyboard link.term.display.screen e in
+    let w = waits link.term.display.size.columns key link.term.display.keyboard link.term.display.screen e in
     let outcome : Outcome = outcome_of key link.term.display in
     let v : View = view_of link in
     ap (λ up. seen_as v up outcome.screen outcome.keyboard.lock (v.erased || erases_if outcome.answer key))
-    (ap (λ says. sent link.lost link.up says) (w.silent (is_bound link.term) v.shape outcome.screen) ∙ nothing_sent link.lost link.up)
+    (ap (λ says. sent link.lost link.up says) (w.silent (is_bound link.term) v.size outcome.screen) ∙ nothing_sent link.lost link.up)
     ∙ ap (λ s. seen_as v v.up s outcome.keyboard.lock (v.erased || erases_if outcome.answer key)) w.same
     ∙ ap (λ l. seen_as v v.up v.screen l (v.erased || erases_if outcome.answer key)) (w.lock ∙ sym e)
     ∙ ap (λ b. seen_as v v.up v.screen v.lock b) (ap (λ b. v.erased || b) w.keeps ∙ or_false v.erased)
@@ -199,7 +199,7 @@ sent_from erased left now (PaAid key) k = k
 sent_from erased left now ClearAid k = k
 
 -- but for Clear, each key was sent of a screen that keys kept
-held_fields : (erased : Bool) (left now : List Cell) (aid : Aid) → KeepsSent erased aid left now → (aid ≡ ClearAid → ⊥) → Held erased left now
+held_fields : (erased : Bool) (left now : List Cell) (aid : Aid) → KeepsSent erased aid left now → (aid ≡ ClearAid → ⊥) → KeptByKeys erased left now
 held_fields erased left now NoAid k s = absurd k
 held_fields erased left now EnterAid k s = k
 held_fields erased left now (PfAid key) k s = k
@@ -211,7 +211,7 @@ all_chars zero = refl
 all_chars (suc count) = all_chars count
 
 -- notes may be written on it
-takes_notes : Given → (shape : Shape) (erased : Bool) (left now : List Cell) (aid : Aid) → KeepsSent erased aid left now → HasMessageRow shape left → TakesNotes shape now
+takes_notes : LowerLaws → (shape : Shape) (erased : Bool) (left now : List Cell) (aid : Aid) → KeepsSent erased aid left now → HasMessageRow shape left → TakesNotes shape now
 takes_notes given shape erased left now NoAid k row = absurd k
 takes_notes given shape erased left now EnterAid k row = TakesNotes.formatted (given.notes.held_takes shape erased left now k row)
 takes_notes given shape erased left now (PfAid key) k row = TakesNotes.formatted (given.notes.held_takes shape erased left now k row)
@@ -227,7 +227,7 @@ opens_by EnterAid s size clear long = long refl
 opens_by (PfAid key) s size clear long = long refl
 
 -- the host will hear it, and then see the screen
-will_see : Given → (unheard : Unheard) (erased : Bool) (shape size : Shape) (shadow : Shadow) (left screen : Screen) (aid : Aid) → screen.aid ≡ aid → length screen.cells ≡ cells_in shape → FactsAreExact shadow → Knows shadow → IfRelies unheard (NothingIsOpen shadow) → Meets shadow left
+will_see : LowerLaws → (unheard : Unheard) (erased : Bool) (shape size : Shape) (shadow : Shadow) (left screen : Screen) (aid : Aid) → screen.aid ≡ aid → length screen.cells ≡ cells_in shape → FactsAreExact shadow → Knows shadow → IfRelies unheard (NothingIsOpen shadow) → Meets shadow left
     → KeepsSent erased aid left.cells screen.cells → IsOkAnd (heard (cells_in shape) shadow (modified_data Modified size screen)) (Sees unheard shape screen)
 will_see given unheard erased shape size shadow left screen aid is whole exact knows closed meets keeps =
     subst (λ n. IsOkAnd (heard n shadow parts) (Sees unheard shape screen)) whole
@@ -257,13 +257,13 @@ will_see given unheard erased shape size shadow left screen aid is whole exact k
 
 -- ---- what the operator does at a moment at which he types
 
-module _ (given : Given) (app : Application) (link : Link) (k : Kept app (view_of link)) (lu : List ℕ) (from : Serving) (shadow : Shadow)
-    (at : IsAt (view_of link) k.wanted (Moment.Serves lu from)) (same : link.term.display.shape ≡ link.host.shape) (f : Operates shadow (scene_of (view_of link))) where
+module _ (given : LowerLaws) (app : Application) (link : Link) (k : Kept app (view_of link)) (lu : List ℕ) (from : Serving) (shadow : Shadow)
+    (at : IsAt (view_of link) k.wanted (LinkPhase.Serves lu from)) (same : link.term.display.size ≡ link.host.size) (f : Operates shadow (local_state_of (view_of link))) where
   abbrev v : View
   v = view_of link
 
   -- where nothing is sent, it is the same moment
-  stays_at : (screen : Screen) (lock : Lock) (erased : Bool) → IsAt (seen_as v (sent v.lost v.up []) screen lock erased) k.wanted (Moment.Serves lu from)
+  stays_at : (screen : Screen) (lock : Lock) (erased : Bool) → IsAt (seen_as v (sent v.lost v.up []) screen lock erased) k.wanted (LinkPhase.Serves lu from)
   stays_at screen lock erased = record {
     host_talk = at.host_talk;
     term_talk = at.term_talk;
@@ -273,9 +273,9 @@ module _ (given : Given) (app : Application) (link : Link) (k : Kept app (view_o
     goes_up = subst (UnderWay v.lost (sent v.lost v.up [])) (append-nil (served_up from)) (more v.lost v.up (served_up from) [] at.goes_up);
   }
 
-  sends_at : (to : Serving) (parts : InboundParts) (screen : Screen) (lock : Lock) (erased : Bool) → turn_at (Moment.Serves lu to) ≡ turn_at (Moment.Serves lu from) → pending_at (Moment.Serves lu to) ≡ pending_at (Moment.Serves lu from)
+  sends_at : (to : Serving) (parts : InboundParts) (screen : Screen) (lock : Lock) (erased : Bool) → turn_at (LinkPhase.Serves lu to) ≡ turn_at (LinkPhase.Serves lu from) → pending_at (LinkPhase.Serves lu to) ≡ pending_at (LinkPhase.Serves lu from)
       → served_down to ≡ served_down from → served_up from ++ ToHost.Data parts ∷ [] ≡ served_up to
-      → IsAt (seen_as v (sent v.lost v.up (ToHost.Data parts ∷ [])) screen lock erased) k.wanted (Moment.Serves lu to)
+      → IsAt (seen_as v (sent v.lost v.up (ToHost.Data parts ∷ [])) screen lock erased) k.wanted (LinkPhase.Serves lu to)
   sends_at to parts screen lock erased turn pending down up = record {
     host_talk = at.host_talk;
     term_talk = at.term_talk;
@@ -285,34 +285,34 @@ module _ (given : Given) (app : Application) (link : Link) (k : Kept app (view_o
     goes_up = subst (UnderWay v.lost (sent v.lost v.up (ToHost.Data parts ∷ []))) up (more v.lost v.up (served_up from) (ToHost.Data parts ∷ []) at.goes_up);
   }
 
-  abbrev scene_now : Screen → Lock → Bool → Scene
-  scene_now screen lock erased = scene_of (seen_as v v.up screen lock erased)
+  abbrev scene_now : Screen → Lock → Bool → LocalState
+  scene_now screen lock erased = local_state_of (seen_as v v.up screen lock erased)
 
   -- what a moment has of an operator who types, and of a key that was pressed
   pub record Typing : Type 0 where
     pub to : InboundParts → Serving
-    pub stay : (screen : Screen) (lock : Lock) (erased : Bool) → Operates shadow (scene_now screen lock erased) → Fact k.wanted (scene_now screen lock erased) (Moment.Serves lu from)
-    pub press : (parts : InboundParts) (screen : Screen) (lock : Lock) (erased : Bool) → IsPressed (scene_now screen lock erased) parts → WillSee (scene_now screen lock erased) shadow parts → TakesNotes v.host.shape screen.cells
-        → Fact k.wanted (scene_now screen lock erased) (Moment.Serves lu (to parts))
-    pub at_to : (parts : InboundParts) (screen : Screen) (lock : Lock) (erased : Bool) → IsAt (seen_as v (sent v.lost v.up (ToHost.Data parts ∷ [])) screen lock erased) k.wanted (Moment.Serves lu (to parts))
-    pub shown : (screen : Screen) → ShownAt app v.waits v.host v.before_restored v.last_restored screen (Moment.Serves lu from)
-    pub shown_to : (parts : InboundParts) (screen : Screen) → ShownAt app v.waits v.host v.before_restored v.last_restored screen (Moment.Serves lu (to parts))
+    pub stay : (screen : Screen) (lock : Lock) (erased : Bool) → Operates shadow (scene_now screen lock erased) → Fact k.wanted (scene_now screen lock erased) (LinkPhase.Serves lu from)
+    pub press : (parts : InboundParts) (screen : Screen) (lock : Lock) (erased : Bool) → IsPressed (scene_now screen lock erased) parts → WillSee (scene_now screen lock erased) shadow parts → TakesNotes v.host.size screen.cells
+        → Fact k.wanted (scene_now screen lock erased) (LinkPhase.Serves lu (to parts))
+    pub at_to : (parts : InboundParts) (screen : Screen) (lock : Lock) (erased : Bool) → IsAt (seen_as v (sent v.lost v.up (ToHost.Data parts ∷ [])) screen lock erased) k.wanted (LinkPhase.Serves lu (to parts))
+    pub shown : (screen : Screen) → ShownAt app v.waits v.host v.before_restored v.last_restored screen (LinkPhase.Serves lu from)
+    pub shown_to : (parts : InboundParts) (screen : Screen) → ShownAt app v.waits v.host v.before_restored v.last_restored screen (LinkPhase.Serves lu (to parts))
 
   -- what was noted, on the screen of this size
-  noted_here : NotedSince (message_place v.shape) v.last_restored.cells f.shown.cells
+  noted_here : NotedSince (message_place v.size) v.last_restored.cells f.shown.cells
   noted_here = subst (λ (s : Shape). NotedSince (message_place s) v.last_restored.cells f.shown.cells) (sym same) f.noted
 
   -- a key that sends nothing
-  pub stays : Typing → (screen : Screen) (lock : Lock) (erased : Bool) → length screen.cells ≡ cells_in v.shape → screen.cursor < cells_in v.shape → (lock ≡ Wait → ⊥) → Held erased f.shown.cells screen.cells
+  pub stays : Typing → (screen : Screen) (lock : Lock) (erased : Bool) → length screen.cells ≡ cells_in v.size → screen.cursor < cells_in v.size → (lock ≡ Wait → ⊥) → KeptByKeys erased f.shown.cells screen.cells
       → Kept app (seen_as v (sent v.lost v.up []) screen lock erased)
   stays typing screen lock erased whole cursor free held = record {
     whole = whole;
     cursor = cursor;
-    unreturned = λ _. kept_of given.notes.still_protected erased (message_place v.host.shape) v.last_restored.cells f.shown.cells screen.cells held f.noted;
-    as_left = λ _. as_left_of erased (message_place v.shape) v.last_restored.cells f.shown.cells screen.cells held noted_here;
+    unreturned = λ _. kept_of given.notes.still_protected erased (message_place v.host.size) v.last_restored.cells f.shown.cells screen.cells held f.noted;
+    as_left = λ _. as_left_of erased (message_place v.size) v.last_restored.cells f.shown.cells screen.cells held noted_here;
     exact = k.exact;
     wanted = k.wanted;
-    moment = Moment.Serves lu from;
+    moment = LinkPhase.Serves lu from;
     sizes = record { host = k.sizes.host; screen = k.sizes.screen; same = λ steady. same };
     at = stays_at screen lock erased;
     fact = typing.stay screen lock erased (record { shown = f.shown; lock = free; exact = f.exact; meets = f.meets; closed = f.closed; knows = f.knows; held = held; messages = f.messages; noted = f.noted });
@@ -320,48 +320,48 @@ module _ (given : Given) (app : Application) (link : Link) (k : Kept app (view_o
   }
 
   -- a key that sends
-  pub sends : Typing → (screen : Screen) (lock : Lock) (erased : Bool) (aid : Aid) → length screen.cells ≡ cells_in v.shape → screen.cursor < cells_in v.shape → lock ≡ Wait → screen.aid ≡ aid → (aid ≡ NoAid → ⊥)
-      → KeepsSent erased aid f.shown.cells screen.cells → Kept app (seen_as v (sent v.lost v.up (ToHost.Data (modified_data Modified v.shape screen) ∷ [])) screen lock erased)
+  pub sends : Typing → (screen : Screen) (lock : Lock) (erased : Bool) (aid : Aid) → length screen.cells ≡ cells_in v.size → screen.cursor < cells_in v.size → lock ≡ Wait → screen.aid ≡ aid → (aid ≡ NoAid → ⊥)
+      → KeepsSent erased aid f.shown.cells screen.cells → Kept app (seen_as v (sent v.lost v.up (ToHost.Data (modified_data Modified v.size screen) ∷ [])) screen lock erased)
   sends typing screen lock erased aid whole cursor waits is some keeps =
-      let parts : InboundParts = modified_data Modified v.shape screen in
-      let still : (screen.aid ≡ ClearAid → ⊥) → Held erased f.shown.cells screen.cells =
+      let parts : InboundParts = modified_data Modified v.size screen in
+      let still : (screen.aid ≡ ClearAid → ⊥) → KeptByKeys erased f.shown.cells screen.cells =
       λ uncleared. held_fields erased f.shown.cells screen.cells aid keeps (λ clear. uncleared (is ∙ clear)) in
       record {
         whole = whole;
         cursor = cursor;
-        unreturned = λ uncleared. kept_of given.notes.still_protected erased (message_place v.host.shape) v.last_restored.cells f.shown.cells screen.cells (still uncleared) f.noted;
-        as_left = λ uncleared. as_left_of erased (message_place v.shape) v.last_restored.cells f.shown.cells screen.cells (still uncleared) noted_here;
+        unreturned = λ uncleared. kept_of given.notes.still_protected erased (message_place v.host.size) v.last_restored.cells f.shown.cells screen.cells (still uncleared) f.noted;
+        as_left = λ uncleared. as_left_of erased (message_place v.size) v.last_restored.cells f.shown.cells screen.cells (still uncleared) noted_here;
         exact = k.exact;
         wanted = k.wanted;
-        moment = Moment.Serves lu (typing.to parts);
+        moment = LinkPhase.Serves lu (typing.to parts);
         sizes = record { host = k.sizes.host; screen = k.sizes.screen; same = λ steady. same };
         at = typing.at_to parts screen lock erased;
         fact = typing.press parts screen lock erased
-            (record { lock = waits; form = key_form v.shape screen; size = key_size v.shape screen ∙ same; pressed = key_aid v.shape screen; cursor = key_cursor v.shape screen; some = λ none. some (sym is ∙ none) })
-            (will_see given v.host.unheard erased v.host.shape v.shape shadow f.shown screen aid is (whole ∙ ap (λ (s : Shape). cells_in s) same) f.exact f.knows f.closed f.meets keeps)
-            (takes_notes given v.host.shape erased f.shown.cells screen.cells aid keeps f.messages);
+            (record { lock = waits; form = key_form v.size screen; size = key_size v.size screen ∙ same; pressed = key_aid v.size screen; cursor = key_cursor v.size screen; some = λ none. some (sym is ∙ none) })
+            (will_see given v.host.unheard erased v.host.size v.size shadow f.shown screen aid is (whole ∙ ap (λ (s : Shape). cells_in s) same) f.exact f.knows f.closed f.meets keeps)
+            (takes_notes given v.host.size erased f.shown.cells screen.cells aid keeps f.messages);
         shown = typing.shown_to parts screen;
       }
 
 -- ---- the moments at which he types
 
 -- the terminal has the turn, and takes keys
-pub record TypingNow (given : Given) (app : Application) (link : Link) (k : Kept app (view_of link)) : Type 0 where
+pub record TypingNow (given : LowerLaws) (app : Application) (link : Link) (k : Kept app (view_of link)) : Type 0 where
   pub lu : List ℕ
   pub from : Serving
   pub shadow : Shadow
-  pub at : IsAt (view_of link) k.wanted (Moment.Serves lu from)
-  pub same : link.term.display.shape ≡ link.host.shape
-  pub operates : Operates shadow (scene_of (view_of link))
+  pub at : IsAt (view_of link) k.wanted (LinkPhase.Serves lu from)
+  pub same : link.term.display.size ≡ link.host.size
+  pub operates : Operates shadow (local_state_of (view_of link))
   pub typing : Typing given app link k lu from shadow at same operates
 
-pub types_now : (given : Given) (app : Application) (link : Link) (k : Kept app (view_of link)) → (link.term.display.keyboard.lock ≡ Wait → ⊥) → TypingNow given app link k
+pub types_now : (given : LowerLaws) (app : Application) (link : Link) (k : Kept app (view_of link)) → (link.term.display.keyboard.lock ≡ Wait → ⊥) → TypingNow given app link k
 types_now given app link k free = by_moment k.moment k.sizes k.at k.fact k.shown
   where
-    by_serving : (lu : List ℕ) (serving : Serving) → Sizes app (view_of link) (Moment.Serves lu serving) → IsAt (view_of link) k.wanted (Moment.Serves lu serving) → Fact k.wanted (scene_of (view_of link)) (Moment.Serves lu serving)
-        → ShownAt app link.term.waits link.host link.term.display.before_restored link.term.display.last_restored link.term.display.screen (Moment.Serves lu serving) → TypingNow given app link k
+    by_serving : (lu : List ℕ) (serving : Serving) → Sizes app (view_of link) (LinkPhase.Serves lu serving) → IsAt (view_of link) k.wanted (LinkPhase.Serves lu serving) → Fact k.wanted (local_state_of (view_of link)) (LinkPhase.Serves lu serving)
+        → ShownAt app link.term.waits link.host link.term.display.before_restored link.term.display.last_restored link.term.display.screen (LinkPhase.Serves lu serving) → TypingNow given app link k
     by_serving lu (Serving.Answering kind number command) s at f shown =
-        let shadow : Shadow = once_taken link.host.shape command link.host.shadow in
+        let shadow : Shadow = once_taken link.host.size command link.host.shadow in
         record {
           lu = lu;
           from = Serving.Answering kind number command;
@@ -423,15 +423,15 @@ types_now given app link k free = by_moment k.moment k.sizes k.at k.fact k.shown
     by_serving lu (Serving.KeyNoted number command parts) s at f shown = absurd (free f.0.lock)
     by_serving lu (Serving.KeyBefore number command parts) s at f shown = absurd (free f.0.lock)
 
-    by_moment : (moment : Moment) → Sizes app (view_of link) moment → IsAt (view_of link) k.wanted moment → Fact k.wanted (scene_of (view_of link)) moment
+    by_moment : (moment : LinkPhase) → Sizes app (view_of link) moment → IsAt (view_of link) k.wanted moment → Fact k.wanted (local_state_of (view_of link)) moment
         → ShownAt app link.term.waits link.host link.term.display.before_restored link.term.display.last_restored link.term.display.screen moment → TypingNow given app link k
-    by_moment (Moment.Talks talking) s at f shown = absurd (free f.0.lock)
-    by_moment (Moment.Begins lu number command wants over) s at f shown = absurd (free f.lock)
-    by_moment (Moment.Serves lu serving) s at f shown = by_serving lu serving s at f shown
+    by_moment (LinkPhase.Talks talking) s at f shown = absurd (free f.0.lock)
+    by_moment (LinkPhase.Begins lu number command wants over) s at f shown = absurd (free f.lock)
+    by_moment (LinkPhase.Serves lu serving) s at f shown = by_serving lu serving s at f shown
 
 -- ---- by what a key is answered
 
-module _ (given : Given) (app : Application) (link : Link) (key : Key) (k : Kept app (view_of link)) (now : TypingNow given app link k) where
+module _ (given : LowerLaws) (app : Application) (link : Link) (key : Key) (k : Kept app (view_of link)) (now : TypingNow given app link k) where
   abbrev here : View
   here = view_of link
 
@@ -441,25 +441,25 @@ module _ (given : Given) (app : Application) (link : Link) (key : Key) (k : Kept
   -- the connection with what was said, by the answer
   abbrev said : Outcome → Pressed → View
   said outcome answer =
-      seen_as here (sent here.lost here.up (data_of (is_bound link.term) answer here.shape outcome.screen)) outcome.screen outcome.keyboard.lock (here.erased || erases_if answer key)
+      seen_as here (sent here.lost here.up (data_of (is_bound link.term) answer here.size outcome.screen)) outcome.screen outcome.keyboard.lock (here.erased || erases_if answer key)
 
   bound : is_bound link.term ≡ true
   bound = ap (λ state. is_some (bound_to state)) now.at.term_talk
 
-  pub stay : (screen : Screen) (lock : Lock) (erased : Bool) → length screen.cells ≡ cells_in here.shape → screen.cursor < cells_in here.shape → (lock ≡ Wait → ⊥) → Held erased left screen.cells
+  pub stay : (screen : Screen) (lock : Lock) (erased : Bool) → length screen.cells ≡ cells_in here.size → screen.cursor < cells_in here.size → (lock ≡ Wait → ⊥) → KeptByKeys erased left screen.cells
       → Kept app (seen_as here (sent here.lost here.up []) screen lock erased)
   stay screen lock erased whole cursor free held = stays given app link k now.lu now.from now.shadow now.at now.same now.operates now.typing screen lock erased whole cursor free held
 
-  by_answer : (outcome : Outcome) (answer : Pressed) → length outcome.screen.cells ≡ cells_in here.shape → outcome.screen.cursor < cells_in here.shape → ActsBy answer outcome
+  by_answer : (outcome : Outcome) (answer : Pressed) → length outcome.screen.cells ≡ cells_in here.size → outcome.screen.cursor < cells_in here.size → ActsBy answer outcome
       → Keeps here.erased key answer left outcome.screen.cells → Kept app (said outcome answer)
   by_answer outcome Done whole cursor a keeps =
-      subst (λ says. Kept app (seen_as here (sent here.lost here.up says) outcome.screen outcome.keyboard.lock (here.erased || erases key))) (sym (quiet_done (is_bound link.term) here.shape outcome.screen))
+      subst (λ says. Kept app (seen_as here (sent here.lost here.up says) outcome.screen outcome.keyboard.lock (here.erased || erases key))) (sym (quiet_done (is_bound link.term) here.size outcome.screen))
       (stay outcome.screen outcome.keyboard.lock (here.erased || erases key) whole cursor a keeps)
   by_answer outcome (Refused why) whole cursor a keeps =
-      subst (λ says. Kept app (seen_as here (sent here.lost here.up says) outcome.screen outcome.keyboard.lock (here.erased || false))) (sym (quiet_refused (is_bound link.term) why here.shape outcome.screen))
-      (stay outcome.screen outcome.keyboard.lock (here.erased || false) whole cursor a (subst (λ b. Held b left outcome.screen.cells) (sym (or_false here.erased)) keeps))
+      subst (λ says. Kept app (seen_as here (sent here.lost here.up says) outcome.screen outcome.keyboard.lock (here.erased || false))) (sym (quiet_refused (is_bound link.term) why here.size outcome.screen))
+      (stay outcome.screen outcome.keyboard.lock (here.erased || false) whole cursor a (subst (λ b. KeptByKeys b left outcome.screen.cells) (sym (or_false here.erased)) keeps))
   by_answer outcome (Send aid) whole cursor a keeps =
-      subst (λ b. Kept app (seen_as here (sent here.lost here.up (data_of b (Send aid) here.shape outcome.screen)) outcome.screen outcome.keyboard.lock (here.erased || false))) (sym bound)
+      subst (λ b. Kept app (seen_as here (sent here.lost here.up (data_of b (Send aid) here.size outcome.screen)) outcome.screen outcome.keyboard.lock (here.erased || false))) (sym bound)
       (sends given app link k now.lu now.from now.shadow now.at now.same now.operates now.typing outcome.screen outcome.keyboard.lock (here.erased || false) aid whole cursor a.0 a.1 a.2
       (subst (λ b. KeepsSent b aid left outcome.screen.cells) (sym (or_false here.erased)) keeps))
 
@@ -467,7 +467,7 @@ module _ (given : Given) (app : Application) (link : Link) (key : Key) (k : Kept
   types =
       let display : Display = link.term.display in
       let outcome : Outcome = outcome_of key display in
-      let columns : ℕ = display.shape.columns in
+      let columns : ℕ = display.size.columns in
       let on : display.screen.cursor < length display.screen.cells = subst (λ n. display.screen.cursor < n) (sym k.whole) k.cursor in
       let stayed = given.keys.on_screen columns key display.keyboard display.screen on in
       by_answer outcome outcome.answer (stayed.0 ∙ k.whole) (subst (λ n. outcome.screen.cursor < n) k.whole stayed.1)
@@ -476,7 +476,7 @@ module _ (given : Given) (app : Application) (link : Link) (key : Key) (k : Kept
 
 -- ---- any key, at any moment
 
-pub keys : Given → (app : Application) (link : Link) (key : Key) → Kept app (view_of link) → Kept app (view_of (key_view key link))
+pub keys : LowerLaws → (app : Application) (link : Link) (key : Key) → Kept app (view_of link) → Kept app (view_of (key_view key link))
 keys given app link key k = by_lock link.term.display.keyboard.lock refl
   where
     types_at : (lock : Lock) → link.term.display.keyboard.lock ≡ lock → (lock ≡ Wait → ⊥) → Kept app (view_of (key_view key link))

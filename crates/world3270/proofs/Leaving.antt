@@ -7,17 +7,17 @@ use Rattle.host_core.specs.Acts.{Sent, acted}
 use Rattle.host_core.specs.Application.{Application, application_of}
 use Rattle.host_core.specs.Notes.{noted}
 use Rattle.host_core.specs.Questions.{answered_on}
-use Rattle.host_core.specs.declared.question.Answer.{Answer as Said}
+use Rattle.host_core.specs.declared.question.Answer.{Answer as ApplicationAnswer}
 use Rattle.std.specs.Prelude.{◌⊎◌}
-use Rattle.world3270.specs.ByteWorld.{ByteWorld, host_there, terminal_at}
-use Rattle.world3270.specs.Happens.{done, happens, joined, key_went, run, term_anew, term_saw}
-use Rattle.world3270.specs.Known.{KnownWorlds}
-use Rattle.world3270.specs.Link.{Link, host_sent}
-use Rattle.world3270.specs.Placed.{free_number, has_place, is_terminal, may_connect}
-use Rattle.world3270.specs.Refines.{Begin, IsBegin, Reached, GoesOn, after, once, once_taken}
-use Rattle.world3270.specs.Unbroken.{EndsStay, NobodyCloses}
-use Rattle.world3270.specs.Terminal.{Display, after_key}
-use Rattle.world3270.specs.World.{Place, World, Event, with_at, display_at}
+use Rattle.world3270.specs.model.ByteWorld.{ByteWorld, host_there, terminal_at}
+use Rattle.world3270.specs.model.Steps.{done, stepped_by, joined, key_went, run, term_anew, term_saw}
+use Rattle.world3270.specs.refinement.MessageLaws.{WorldLaws}
+use Rattle.world3270.specs.model.Link.{Link, host_sent}
+use Rattle.world3270.specs.model.Enabled.{free_number, is_enabled, is_terminal, may_connect}
+use Rattle.world3270.specs.refinement.Refines.{Begin, IsBegin, Reached, GoesOn, after, once, once_taken}
+use Rattle.world3270.specs.statement.Unbroken.{EndsStay, NobodyCloses}
+use Rattle.world3270.specs.model.Terminal.{Display, after_key}
+use Rattle.world3270.specs.model.World.{Place, World, Event, with_at, display_at}
 use Rattle.world3270.specs.declared.event.Event.{Event as ByteEvent}
 use Rattle.world3270.specs.declared.event.Event.TheVariants as event
 use Rattle.world3270.specs.declared.event.Stepped.{Stepped}
@@ -50,7 +50,7 @@ IsHere link = link.host_here ≡ true
 
 -- the host is still there after the event
 abbrev HostKept : Application → Event → ℕ → Type 0
-HostKept app event number = (world : World) → IsHere (world.link number) → IsHere ((happens app event world).link number)
+HostKept app event number = (world : World) → IsHere (world.link number) → IsHere ((stepped_by app event world).link number)
 
 abbrev HostIs : ℕ → World → Type 0
 HostIs number world = IsHere (world.link number)
@@ -61,7 +61,7 @@ still_sends (Some sending) link is = is
 
 key_host : (app : Application) (terminal : ℕ) (key : Key) (number : ℕ) → HostKept app (Event.Press terminal key) number
 key_host app terminal key number world is =
-    if_placed (HostIs number) (has_place app (Event.Press terminal key) world) (done app (Event.Press terminal key) world) world is (by_place (world.place terminal))
+    if_placed (HostIs number) (is_enabled app (Event.Press terminal key) world) (done app (Event.Press terminal key) world) world is (by_place (world.place terminal))
   where
     by_place : (place : Place) → HostIs number (key_went terminal key place world)
     by_place (Place.At at) = one_kept IsHere at _ world.link (λ (h : IsHere (world.link at)). h) number is
@@ -69,33 +69,33 @@ key_host app terminal key number world is =
 
 act_host : (app : Application) (at number : ℕ) → HostKept app (Event.Act at) number
 act_host app at number world is =
-    if_placed (HostIs number) (has_place app (Event.Act at) world) (done app (Event.Act at) world) world is
+    if_placed (HostIs number) (is_enabled app (Event.Act at) world) (done app (Event.Act at) world) world is
     (one_kept IsHere at (host_sent (acted app (world.link at).host) (world.link at)) world.link (still_sends (acted app (world.link at).host) (world.link at)) number is)
 
-answer_host : (app : Application) (at : ℕ) (said : Said) (number : ℕ) → HostKept app (Event.Answer at said) number
+answer_host : (app : Application) (at : ℕ) (said : ApplicationAnswer) (number : ℕ) → HostKept app (Event.Answer at said) number
 answer_host app at said number world is =
-    if_placed (HostIs number) (has_place app (Event.Answer at said) world) (done app (Event.Answer at said) world) world is
+    if_placed (HostIs number) (is_enabled app (Event.Answer at said) world) (done app (Event.Answer at said) world) world is
     (one_kept IsHere at (host_sent (answered_on app (world.link at).host said) (world.link at)) world.link
     (still_sends (answered_on app (world.link at).host said) (world.link at)) number is)
 
 note_host : (app : Application) (at : ℕ) (text : List ℕ) (number : ℕ) → HostKept app (Event.Note at text) number
 note_host app at text number world is =
-    if_placed (HostIs number) (has_place app (Event.Note at text) world) (done app (Event.Note at text) world) world is
+    if_placed (HostIs number) (is_enabled app (Event.Note at text) world) (done app (Event.Note at text) world) world is
     (one_kept IsHere at (host_sent (noted text (world.link at).host) (world.link at)) world.link (still_sends (noted text (world.link at).host) (world.link at)) number is)
 
 lose_host : (app : Application) (at number : ℕ) → HostKept app (Event.Lose at) number
 lose_host app at number world is =
-    if_placed (HostIs number) (has_place app (Event.Lose at) world) (done app (Event.Lose at) world) world is
+    if_placed (HostIs number) (is_enabled app (Event.Lose at) world) (done app (Event.Lose at) world) world is
     (one_kept IsHere at _ world.link (λ (h : IsHere (world.link at)). h) number is)
 
 sees_host : (app : Application) (at number : ℕ) → (number == at) ≡ false → HostKept app (Event.HostSees at) number
 sees_host app at number differs world is =
-    if_placed (HostIs number) (has_place app (Event.HostSees at) world) (done app (Event.HostSees at) world) world is
+    if_placed (HostIs number) (is_enabled app (Event.HostSees at) world) (done app (Event.HostSees at) world) world is
     (other_kept IsHere at _ world.link number differs is)
 
 saw_host : (app : Application) (terminal number : ℕ) → HostKept app (Event.TermSees terminal) number
 saw_host app terminal number world is =
-    if_placed (HostIs number) (has_place app (Event.TermSees terminal) world) (done app (Event.TermSees terminal) world) world is (by_place (world.place terminal))
+    if_placed (HostIs number) (is_enabled app (Event.TermSees terminal) world) (done app (Event.TermSees terminal) world) world is (by_place (world.place terminal))
   where
     by_place : (place : Place) → HostIs number (term_saw terminal place world)
     by_place (Place.At at) = one_kept IsHere at _ world.link (λ (h : IsHere (world.link at)). h) number is
@@ -103,7 +103,7 @@ saw_host app terminal number world is =
 
 connect_host : (app : Application) (terminal : ℕ) (wanted : Option (List ℕ)) (number : ℕ) → HostKept app (Event.Connect terminal wanted) number
 connect_host app terminal wanted number world is =
-    if_placed (HostIs number) (has_place app (Event.Connect terminal wanted) world) (done app (Event.Connect terminal wanted) world) world is (by_free (free_number world.link))
+    if_placed (HostIs number) (is_enabled app (Event.Connect terminal wanted) world) (done app (Event.Connect terminal wanted) world) world is (by_free (free_number world.link))
   where
     by_free : (free : Option ℕ) → HostIs number (joined app terminal (display_at world (world.place terminal)).model wanted free world)
     by_free None = is
@@ -111,7 +111,7 @@ connect_host app terminal wanted number world is =
 
 anew_host : (app : Application) (terminal number : ℕ) → HostKept app (Event.RestartTerm terminal) number
 anew_host app terminal number world is =
-    if_placed (HostIs number) (has_place app (Event.RestartTerm terminal) world) (done app (Event.RestartTerm terminal) world) world is (by_place (world.place terminal))
+    if_placed (HostIs number) (is_enabled app (Event.RestartTerm terminal) world) (done app (Event.RestartTerm terminal) world) world is (by_place (world.place terminal))
   where
     by_place : (place : Place) → HostIs number (term_anew app terminal place world)
     by_place (Place.At at) = one_kept IsHere at _ world.link (λ (h : IsHere (world.link at)). h) number is
@@ -127,7 +127,7 @@ SitsAt terminal number world = IsAt number (world.place terminal)
 
 -- the terminal is still there after the event
 abbrev TerminalKept : Application → Event → ℕ → ℕ → Type 0
-TerminalKept app event terminal number = (world : World) → SitsAt terminal number world → SitsAt terminal number (happens app event world)
+TerminalKept app event terminal number = (world : World) → SitsAt terminal number world → SitsAt terminal number (stepped_by app event world)
 
 not_alone : (number : ℕ) (display : Display) (place : Place) → place ≡ Place.Alone display → place ≡ Place.At number → ⊥
 not_alone number display place alone at = let both : Place.Alone display ≡ Place.At number = sym alone ∙ at in absurd (cc)
@@ -140,7 +140,7 @@ alone_kept terminal number at before after world alone is =
 
 key_terminal : (app : Application) (at : ℕ) (key : Key) (terminal number : ℕ) → TerminalKept app (Event.Press at key) terminal number
 key_terminal app at key terminal number world is =
-    if_placed (SitsAt terminal number) (has_place app (Event.Press at key) world) (done app (Event.Press at key) world) world is (by_place (world.place at) refl)
+    if_placed (SitsAt terminal number) (is_enabled app (Event.Press at key) world) (done app (Event.Press at key) world) world is (by_place (world.place at) refl)
   where
     by_place : (place : Place) → world.place at ≡ place → SitsAt terminal number (key_went at key place world)
     by_place (Place.At link) e = is
@@ -149,11 +149,11 @@ key_terminal app at key terminal number world is =
 same_places : (app : Application) (event : Event) (terminal number : ℕ) → ((world : World) → SitsAt terminal number world → SitsAt terminal number (done app event world))
     → TerminalKept app event terminal number
 same_places app event terminal number keeps world is =
-    if_placed (SitsAt terminal number) (has_place app event world) (done app event world) world is (keeps world is)
+    if_placed (SitsAt terminal number) (is_enabled app event world) (done app event world) world is (keeps world is)
 
 saw_terminal : (app : Application) (at terminal number : ℕ) → (terminal == at) ≡ false → TerminalKept app (Event.TermSees at) terminal number
 saw_terminal app at terminal number differs world is =
-    if_placed (SitsAt terminal number) (has_place app (Event.TermSees at) world) (done app (Event.TermSees at) world) world is (by_place (world.place at))
+    if_placed (SitsAt terminal number) (is_enabled app (Event.TermSees at) world) (done app (Event.TermSees at) world) world is (by_place (world.place at))
   where
     by_place : (place : Place) → SitsAt terminal number (term_saw at place world)
     by_place (Place.At link) = other_kept (IsAt number) at _ world.place terminal differs is
@@ -161,7 +161,7 @@ saw_terminal app at terminal number differs world is =
 
 anew_terminal : (app : Application) (at terminal number : ℕ) → (terminal == at) ≡ false → TerminalKept app (Event.RestartTerm at) terminal number
 anew_terminal app at terminal number differs world is =
-    if_placed (SitsAt terminal number) (has_place app (Event.RestartTerm at) world) (done app (Event.RestartTerm at) world) world is (by_place (world.place at))
+    if_placed (SitsAt terminal number) (is_enabled app (Event.RestartTerm at) world) (done app (Event.RestartTerm at) world) world is (by_place (world.place at))
   where
     by_place : (place : Place) → SitsAt terminal number (term_anew app at place world)
     by_place (Place.At link) = other_kept (IsAt number) at _ world.place terminal differs is
@@ -169,7 +169,7 @@ anew_terminal app at terminal number differs world is =
 
 -- who connects was alone
 connect_terminal : (app : Application) (at : ℕ) (wanted : Option (List ℕ)) (terminal number : ℕ) → TerminalKept app (Event.Connect at wanted) terminal number
-connect_terminal app at wanted terminal number world is = by_has (has_place app (Event.Connect at wanted) world) refl
+connect_terminal app at wanted terminal number world is = by_has (is_enabled app (Event.Connect at wanted) world) refl
   where
     by_place : (place : Place) → world.place at ≡ place → may_connect world place ≡ true → (free : Option ℕ) → SitsAt terminal number (joined app at (display_at world (world.place at)).model wanted free world)
     by_place (Place.At link) e may free = absurd (cc)
@@ -177,7 +177,7 @@ connect_terminal app at wanted terminal number world is = by_has (has_place app 
     by_place (Place.Alone display) e may (Some link) =
         one_kept (IsAt number) at (Place.At link) world.place (λ (was : IsAt number (world.place at)). absurd (not_alone number display (world.place at) e was)) terminal is
 
-    by_has : (b : Bool) → has_place app (Event.Connect at wanted) world ≡ b
+    by_has : (b : Bool) → is_enabled app (Event.Connect at wanted) world ≡ b
         → SitsAt terminal number (if b then done app (Event.Connect at wanted) world else world)
     by_has true e =
         by_place (world.place at) refl (and_parts (is_terminal world at) (may_connect world (world.place at)) e).1 (free_number world.link)
@@ -185,7 +185,7 @@ connect_terminal app at wanted terminal number world is = by_has (has_place app 
 
 -- ---- over bytes
 
-module _ (known : KnownWorlds) (begin : Begin) (events : List Event) (old : ByteWorld) (answer : Stepped) (new : ByteWorld) (is : IsBegin begin) (reached : Reached begin events old) where
+module _ (known : WorldLaws) (begin : Begin) (events : List Event) (old : ByteWorld) (answer : Stepped) (new : ByteWorld) (is : IsBegin begin) (reached : Reached begin events old) where
   abbrev app : Application
   app = application_of begin.panels
 
@@ -194,7 +194,7 @@ module _ (known : KnownWorlds) (begin : Begin) (events : List Event) (old : Byte
   Comes it more = (more ≡ once it answer) ⊎ (more ≡ once_taken it answer)
 
   -- what holds of the world over messages still does, where the event keeps it
-  over : (P : World → Type 0) (it : Event) (more : List Event) → ((world : World) → P world → P (happens app it world)) → Comes it more
+  over : (P : World → Type 0) (it : Event) (more : List Event) → ((world : World) → P world → P (stepped_by app it world)) → Comes it more
       → P (after begin events) → P (after begin (events ++ more))
   over P it more keeps (inl comes) was =
       subst P (sym (after_more begin events more)) (subst (λ (es : List Event). P (run app es (after begin events))) (sym comes) (by_answer answer))
@@ -297,5 +297,5 @@ module _ (known : KnownWorlds) (begin : Begin) (events : List Event) (old : Byte
         (same_places app Event.RestartHost terminal number (λ world same. same)) (inl goes.comes_to) goes.reached;
   }
 
-pub nobody_closes : KnownWorlds → NobodyCloses
+pub nobody_closes : WorldLaws → NobodyCloses
 nobody_closes known begin events event old answer new is reached goes = ends_stay known begin events old answer new is reached event goes

@@ -38,12 +38,12 @@ pub mod RunsOfTargets
 pub mod RunsOfQuestions
 pub mod RunsOfLosses
 pub mod Runs
-pub mod StandsFits
-pub mod Stands
-pub mod StandsLinks
-pub mod StandsScreens
-pub mod StandsSizes
-pub mod StandsComing
+pub mod RepresentsFits
+pub mod Represents
+pub mod RepresentsLinks
+pub mod RepresentsScreens
+pub mod RepresentsSizes
+pub mod RepresentsComing
 pub mod Places
 pub mod OtherTerminals
 pub mod Others
@@ -72,7 +72,7 @@ pub mod Steps
 pub mod Known
 pub mod UnderWay
 pub mod Frames
-pub mod SeenStands
+pub mod SeenRepresents
 pub mod Completed
 pub mod Follows
 pub mod EventRuns

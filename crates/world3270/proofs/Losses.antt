@@ -12,12 +12,12 @@ use Rattle.host_core.specs.Messages.{ToTerminal, ToHost}
 use Rattle.host_core.specs.Notes.{noted}
 use Rattle.host_core.specs.Takes.{HostStep, took as host_took}
 use Rattle.host_core.specs.Questions.{answered_on}
-use Rattle.world3270.specs.Happens.{freed_if, came_up, came_down, went_down, key_went, term_saw, joined, term_anew, host_left_from, done}
-use Rattle.world3270.specs.Link.{Link, begun, cut, sent, host_left, host_left_if, host_stepped, host_sent, term_left, term_left_if, term_stepped}
-use Rattle.world3270.specs.Losses.{IsRest, NothingNew, LostTakesNothing}
-use Rattle.world3270.specs.Placed.{has_place, free_number}
-use Rattle.world3270.specs.Terminal.{TermStep, key_came, took as term_took}
-use Rattle.world3270.specs.World.{Place, World, Event, with_at, display_at}
+use Rattle.world3270.specs.model.Steps.{freed_if, came_up, came_down, went_down, key_went, term_saw, joined, term_anew, host_left_from, done}
+use Rattle.world3270.specs.model.Link.{Link, begun, cut, sent, host_left, host_left_if, host_stepped, host_sent, term_left, term_left_if, term_stepped}
+use Rattle.world3270.specs.statement.Losses.{IsRest, NothingNew, LostTakesNothing}
+use Rattle.world3270.specs.model.Enabled.{is_enabled, free_number}
+use Rattle.world3270.specs.model.Terminal.{TermStep, key_came, took as term_took}
+use Rattle.world3270.specs.model.World.{Place, World, Event, with_at, display_at}
 use Rattle.world3270.proofs.Others.{closed_link}
 
 abbrev Fades : Link → Link → Type 0
@@ -131,7 +131,7 @@ done_fades app (Event.RestartTerm terminal) world number = term_anew_fades app w
 done_fades app Event.RestartHost world number = host_anew_fades (world.link number)
 
 pub lost_takes_nothing : LostTakesNothing
-lost_takes_nothing app event world number = by_test (has_place app event world)
+lost_takes_nothing app event world number = by_test (is_enabled app event world)
   where
     by_test : (b : Bool) → Fades (world.link number) (World.link (if b then done app event world else world) number)
     by_test true = done_fades app event world number

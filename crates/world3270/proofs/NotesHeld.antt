@@ -7,14 +7,14 @@ use Rattle.codes3270.specs.declared.attribute.Attr.{Attr as Attribute}
 use Rattle.codes3270.specs.declared.attribute.Cell.{Cell}
 use Rattle.codes3270.specs.declared.attribute.Cell.TheVariants.{Char, Attr}
 use Rattle.datastream.specs.Grammar.{CommandParts}
-use Rattle.datastream.specs.Held.{Held, Hold, hold_under}
+use Rattle.datastream.specs.KeptByKeys.{KeptByKeys, Hold, hold_under}
 use Rattle.datastream.specs.HeldLaws.{HeldIsRound}
 use Rattle.datastream.specs.HeldRound.{HeldFrom}
 use Rattle.datastream.specs.Meaning.{after_command}
 use Rattle.datastream.specs.Screen.{Screen, attribute_in, is_char, last_attribute}
 use Rattle.host_core.specs.Application.{IsShape}
 use Rattle.host_core.specs.NoteLaws.{IsNoteOf, TakesNotes}
-use Rattle.world3270.specs.Given.{Given}
+use Rattle.world3270.specs.refinement.LowerLaws.{LowerLaws}
 
 -- ---- screens without fields
 
@@ -53,8 +53,8 @@ chars_held erased (Attr left ∷ lefts) (now ∷ nows) left_chars now_chars same
 
 -- ---- any screen that takes notes
 
-pub note_held : Given → HeldIsRound → (shape : Shape) (command : CommandParts) (erased : Bool) (left now : Screen) → IsShape shape → IsNoteOf shape command → length left.cells ≡ cells_in shape → TakesNotes shape left.cells
-    → Held erased left.cells now.cells → Held erased (after_command command left).cells (after_command command now).cells
+pub note_held : LowerLaws → HeldIsRound → (shape : Shape) (command : CommandParts) (erased : Bool) (left now : Screen) → IsShape shape → IsNoteOf shape command → length left.cells ≡ cells_in shape → TakesNotes shape left.cells
+    → KeptByKeys erased left.cells now.cells → KeptByKeys erased (after_command command left).cells (after_command command now).cells
 note_held given round shape command erased left now is note whole takes held = by_form takes
   where
     now_whole : length now.cells ≡ cells_in shape
@@ -67,7 +67,7 @@ note_held given round shape command erased left now is note whole takes held = b
     still_chars screen whole chars =
         no_attributes screen.cells (after_command command screen).cells (given.notes.form command screen (given.notes.over_characters shape command screen.cells is note whole (TakesNotes.unformatted chars))).attributes chars
 
-    by_form : TakesNotes shape left.cells → Held erased (after_command command left).cells (after_command command now).cells
+    by_form : TakesNotes shape left.cells → KeptByKeys erased (after_command command left).cells (after_command command now).cells
     by_form (TakesNotes.formatted row) = given.notes.held erased command left now (given.notes.writes_protected shape command left.cells is note whole row) held
     by_form (TakesNotes.unformatted chars) =
         let now_chars : list_all is_char now.cells ≡ true = chars_stay erased (hold_under erased (last_attribute now.cells)) left.cells now.cells ((round erased left.cells now.cells).0 held) chars in

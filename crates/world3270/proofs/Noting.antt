@@ -1,7 +1,7 @@
 -- The host sends a note.
 use Rattle.std.proofs.Common.{◌≡◌, ℕ, Bool, true, false, None, Some, List, [], ◌∷◌, ◌++◌, refl, sym, ◌∙◌, if◌then◌else◌}
 use Rattle.datastream.specs.Grammar.{CommandParts}
-use Rattle.host_core.specs.Acts.{Sent as Sending}
+use Rattle.host_core.specs.Acts.{Sent as SentValue}
 use Rattle.host_core.specs.Application.{Application}
 use Rattle.host_core.specs.Messages.{ToTerminal}
 use Rattle.host_core.specs.NoteLaws.{IsNoteOf}
@@ -9,39 +9,39 @@ use Rattle.host_core.specs.Notes.{IsNoteText, note_command, may_note, noted_as, 
 use Rattle.host_core.specs.declared.turn.Turn.{Turn}
 use Rattle.host_core.specs.declared.turn.Turn.TheVariants as whose
 use Rattle.host_core.specs.Session.{Pending, is_agreed}
-use Rattle.world3270.specs.Link.{Link, host_sent}
-use Rattle.world3270.specs.Moments.{Kind, Serving, Moment, IsAt, turn_at, pending_at, served_down, served_up}
-use Rattle.world3270.specs.Stages.{scene_of, Fact, Kept, Sizes, ShownAt, ShownIn}
-use Rattle.world3270.specs.View.{view_of}
+use Rattle.world3270.specs.model.Link.{Link, host_sent}
+use Rattle.world3270.specs.refinement.Phases.{Kind, Serving, LinkPhase, IsAt, turn_at, pending_at, served_down, served_up}
+use Rattle.world3270.specs.refinement.Invariant.{local_state_of, Fact, Kept, Sizes, ShownAt, ShownIn}
+use Rattle.world3270.specs.refinement.View.{view_of}
 use Rattle.world3270.proofs.Acting.{Sends, kept_sent, sent_at, sent_view}
 
 module _ (app : Application) (text : List ℕ) (is : IsNoteText text) (link : Link) (k : Kept app (view_of link)) where
-  abbrev noting : Sending
+  abbrev noting : SentValue
   noting = noted_as text link.host
 
   abbrev command : CommandParts
-  command = note_command link.host.shape text
+  command = note_command link.host.size text
 
   same_end : Sends link noting
   same_end = record { talk = refl; exact = k.exact }
 
-  is_note : IsNoteOf link.host.shape command
+  is_note : IsNoteOf link.host.size command
   is_note = record { text = text; is_text = is; is = refl }
 
-  notes_at : (lu : List ℕ) (from to : Serving) → link.term.display.shape ≡ link.host.shape → IsAt (view_of link) k.wanted (Moment.Serves lu from) → turn_at (Moment.Serves lu from) ≡ turn_at (Moment.Serves lu to)
-      → Pending.Noting link.host.next_seq command ≡ pending_at (Moment.Serves lu to)
+  notes_at : (lu : List ℕ) (from to : Serving) → link.term.display.size ≡ link.host.size → IsAt (view_of link) k.wanted (LinkPhase.Serves lu from) → turn_at (LinkPhase.Serves lu from) ≡ turn_at (LinkPhase.Serves lu to)
+      → Pending.Noting link.host.next_seq command ≡ pending_at (LinkPhase.Serves lu to)
       → served_down from ++ ToTerminal.Note link.host.next_seq command ∷ [] ≡ served_down to → served_up to ≡ served_up from
-      → Fact k.wanted (scene_of (view_of (sent_view noting link))) (Moment.Serves lu to) → ShownIn app link.term.waits noting.conn link.term.display.before_restored link.term.display.last_restored link.term.display.screen to → Kept app (view_of (sent_view noting link))
+      → Fact k.wanted (local_state_of (view_of (sent_view noting link))) (LinkPhase.Serves lu to) → ShownIn app link.term.waits noting.conn link.term.display.before_restored link.term.display.last_restored link.term.display.screen to → Kept app (view_of (sent_view noting link))
   notes_at lu from to steady at turn pending down up fact showing =
-      kept_sent app link noting k (Moment.Serves lu to) same_end k.sizes.host (λ s. steady) (sent_at link noting k.wanted (Moment.Serves lu from) (Moment.Serves lu to) same_end at (λ talk is. is) (λ is. is) (at.turn ∙ turn) pending down up) fact showing
+      kept_sent app link noting k (LinkPhase.Serves lu to) same_end k.sizes.host (λ s. steady) (sent_at link noting k.wanted (LinkPhase.Serves lu from) (LinkPhase.Serves lu to) same_end at (λ talk is. is) (λ is. is) (at.turn ∙ turn) pending down up) fact showing
 
   -- it may do so at two moments alone
   may_note_at : link.host.turn ≡ whose.Terminal → link.host.pending ≡ Pending.Nothing → Kept app (view_of (sent_view noting link))
   may_note_at turns pends = by_moment k.moment k.sizes k.at k.fact k.shown
     where
-      by_serving : (lu : List ℕ) (serving : Serving) → Sizes app (view_of link) (Moment.Serves lu serving) → IsAt (view_of link) k.wanted (Moment.Serves lu serving) → Fact k.wanted (scene_of (view_of link)) (Moment.Serves lu serving)
-          → ShownIn app link.term.waits link.host link.term.display.before_restored link.term.display.last_restored link.term.display.screen serving → turn_at (Moment.Serves lu serving) ≡ whose.Terminal
-          → pending_at (Moment.Serves lu serving) ≡ Pending.Nothing → Kept app (view_of (sent_view noting link))
+      by_serving : (lu : List ℕ) (serving : Serving) → Sizes app (view_of link) (LinkPhase.Serves lu serving) → IsAt (view_of link) k.wanted (LinkPhase.Serves lu serving) → Fact k.wanted (local_state_of (view_of link)) (LinkPhase.Serves lu serving)
+          → ShownIn app link.term.waits link.host link.term.display.before_restored link.term.display.last_restored link.term.display.screen serving → turn_at (LinkPhase.Serves lu serving) ≡ whose.Terminal
+          → pending_at (LinkPhase.Serves lu serving) ≡ Pending.Nothing → Kept app (view_of (sent_view noting link))
       by_serving lu Serving.Operating s at f showing t p =
           notes_at lu Serving.Operating (Serving.Noting link.host.next_seq command) (s.same refl) at refl refl refl refl
           (f, is_note) showing
@@ -62,11 +62,11 @@ module _ (app : Application) (text : List ℕ) (is : IsNoteText text) (link : Li
       by_serving lu (Serving.KeyNoted number command parts) s at f showing t p = absurd (cc)
       by_serving lu (Serving.KeyBefore number command parts) s at f showing t p = absurd (cc)
 
-      by_moment : (moment : Moment) → Sizes app (view_of link) moment → IsAt (view_of link) k.wanted moment → Fact k.wanted (scene_of (view_of link)) moment
+      by_moment : (moment : LinkPhase) → Sizes app (view_of link) moment → IsAt (view_of link) k.wanted moment → Fact k.wanted (local_state_of (view_of link)) moment
           → ShownAt app link.term.waits link.host link.term.display.before_restored link.term.display.last_restored link.term.display.screen moment → Kept app (view_of (sent_view noting link))
-      by_moment (Moment.Talks talking) s at f showing = let t = sym at.turn ∙ turns in absurd (cc)
-      by_moment (Moment.Begins lu number command wants over) s at f showing = let p = sym at.pending ∙ pends in absurd (cc)
-      by_moment (Moment.Serves lu serving) s at f showing = by_serving lu serving s at f showing (sym at.turn ∙ turns) (sym at.pending ∙ pends)
+      by_moment (LinkPhase.Talks talking) s at f showing = let t = sym at.turn ∙ turns in absurd (cc)
+      by_moment (LinkPhase.Begins lu number command wants over) s at f showing = let p = sym at.pending ∙ pends in absurd (cc)
+      by_moment (LinkPhase.Serves lu serving) s at f showing = by_serving lu serving s at f showing (sym at.turn ∙ turns) (sym at.pending ∙ pends)
 
   notes_by : (turn : Turn) (pending : Pending) (agreed : Bool) → link.host.turn ≡ turn → link.host.pending ≡ pending
       → Kept app (view_of (host_sent (if may_note turn pending agreed then Some (noted_as text link.host) else None) link))

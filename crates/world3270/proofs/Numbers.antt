@@ -16,14 +16,14 @@ use Rattle.host_core.specs.Answering.{number_of, number_in}
 use Rattle.host_core.specs.Application.{Application}
 use Rattle.host_core.specs.Messages.{ToTerminal, ToHost, Verdict}
 use Rattle.host_core.specs.Notes.{noted_as, may_note, noted}
-use Rattle.host_core.specs.Session.{Conn, Pending, is_agreed}
+use Rattle.host_core.specs.Session.{Session, Pending, is_agreed}
 use Rattle.host_core.specs.Takes.{Answers, HostStep, took as host_took}
 use Rattle.host_core.specs.Questions.{act_by, answered_on, has_its_panel, is_asking}
-use Rattle.world3270.specs.Always.{Always}
-use Rattle.world3270.specs.Given.{Given}
-use Rattle.world3270.specs.Link.{Link, sent, host_left_if, host_sent}
-use Rattle.world3270.specs.Numbers.{IsNumber, number_answered, AreNumbered, NumbersFit}
-use Rattle.world3270.specs.Terminal.{TermEnd, is_bound, data_of, once_bound, outcome_of, took as term_took}
+use Rattle.world3270.specs.statement.Always.{Always}
+use Rattle.world3270.specs.refinement.LowerLaws.{LowerLaws}
+use Rattle.world3270.specs.model.Link.{Link, sent, host_left_if, host_sent}
+use Rattle.world3270.specs.statement.Numbers.{IsNumber, number_answered, AreNumbered, NumbersFit}
+use Rattle.world3270.specs.model.Terminal.{TermEnd, is_bound, data_of, once_bound, outcome_of, took as term_took}
 use Rattle.world3270.proofs.HostSteps.{just_talks}
 use Rattle.world3270.proofs.Everywhere.{Steps, everywhere}
 
@@ -46,7 +46,7 @@ next_fits number = by_test (nat_lt number 32767) refl
 
 -- ---- what a host makes of a message
 
-pub record Numbered (conn : Conn) : Type 0 where
+pub record Numbered (conn : Session) : Type 0 where
   pub next : IsNumber conn.next_seq
   pub pending : IfSome (number_of conn.pending) IsNumber
 
@@ -58,7 +58,7 @@ still_pending : (old new : Pending) → (new ≡ old) ⊎ (new ≡ Pending.Nothi
 still_pending old new (inl same) fits = subst (λ p. IfSome (number_of p) IsNumber) (sym same) fits
 still_pending old new (inr none) fits = subst (λ p. IfSome (number_of p) IsNumber) (sym none) tt
 
-pub host_fits : (pool : Answers) (conn : Conn) (message : ToHost) → Numbered conn → StepFits (host_took pool conn message)
+pub host_fits : (pool : Answers) (conn : Session) (message : ToHost) → Numbered conn → StepFits (host_took pool conn message)
 host_fits pool conn message n =
     let step : HostStep = host_took pool conn message in
     let just = just_talks pool conn message in
@@ -73,11 +73,11 @@ pub record SendingFits (sending : Sent) : Type 0 where
   pub conn : Numbered sending.conn
   pub message : FitsDown sending.message
 
-pub done_fits : (app : Application) (conn : Conn) (act : Act) → Numbered conn → SendingFits (done app conn act)
+pub done_fits : (app : Application) (conn : Session) (act : Act) → Numbered conn → SendingFits (done app conn act)
 done_fits app conn Act.Read n = record { conn = record { next = next_fits conn.next_seq; pending = n.next }; message = n.next }
 done_fits app conn (Act.Show panel message keep values) n = record { conn = record { next = next_fits conn.next_seq; pending = n.next }; message = n.next }
 
-pub note_fits : (text : List ℕ) (conn : Conn) → Numbered conn → SendingFits (noted_as text conn)
+pub note_fits : (text : List ℕ) (conn : Session) → Numbered conn → SendingFits (noted_as text conn)
 note_fits text conn n = record { conn = record { next = next_fits conn.next_seq; pending = n.next }; message = n.next }
 
 -- ---- what a terminal makes of a message, and of a key
@@ -159,8 +159,8 @@ steps app = record {
         next = n.next;
         pending = n.pending;
         down = n.down;
-        up = sent_all FitsUp link.lost link.up (data_of (is_bound link.term) outcome.answer link.term.display.shape outcome.screen) n.up
-            (data_fits_up (is_bound link.term) outcome.answer link.term.display.shape outcome.screen);
+        up = sent_all FitsUp link.lost link.up (data_of (is_bound link.term) outcome.answer link.term.display.size outcome.screen) n.up
+            (data_fits_up (is_bound link.term) outcome.answer link.term.display.size outcome.screen);
       };
   loses = λ link n. record { next = n.next; pending = n.pending; down = n.down; up = n.up };
   host_leaves = λ link n. record { next = n.next; pending = n.pending; down = n.down; up = n.up };
@@ -170,6 +170,6 @@ steps app = record {
   key_alone = λ terminal key display such is. tt;
 }
 
-pub numbers_fit : Given → Always NumbersFit
+pub numbers_fit : LowerLaws → Always NumbersFit
 numbers_fit given app serves pool models events is lists few are =
     (everywhere given app is (λ event. ⊤) AreNumbered (λ display. ⊤) (steps app) serves pool models events lists are (λ k d below. tt)).links

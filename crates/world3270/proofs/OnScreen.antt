@@ -22,7 +22,7 @@ use Rattle.shadow.specs.Meets.{Meets}
 use Rattle.shadow.specs.Painted.{plainly_painted}
 use Rattle.shadow.specs.Pairs.{Pairwise}
 use Rattle.shadow.proofs.PaintedFields.{IsAsWanted, painted_as_wanted, wanted_at}
-use Rattle.world3270.specs.Unreturned.{SamePlaces}
+use Rattle.world3270.specs.refinement.Unreturned.{SamePlaces}
 
 -- ---- a field among cells
 

@@ -2,7 +2,7 @@
 use Rattle.std.proofs.Common.{◌≡◌, ◌≢◌, ◌==◌, ℕ, Bool, true, false, eq-eqb, ne_eqb, refl, ap, sym, subst, if◌then◌else◌}
 use Rattle.std.proofs.lemmas.Bool.{eqb-true}
 use Rattle.std.proofs.lemmas.Bool.Decides.{Decides-eqb}
-use Rattle.world3270.specs.World.{with_at}
+use Rattle.world3270.specs.model.World.{with_at}
 
 -- what holds of each number, after one changed
 pub all_with : {X : Type 0} (P : ℕ → X → Type 0) (number : ℕ) (x : X) (old : ℕ → X) → P number x → ((other : ℕ) → P other (old other)) → (other : ℕ) → P other (with_at number x old other)

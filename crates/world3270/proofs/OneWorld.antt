@@ -9,26 +9,26 @@ use Rattle.tn3270e_msg.specs.declared.cause.Stop.{Stop}
 use Rattle.tn3270e_msg.specs.declared.cause.Stop.TheVariants as stop
 use Rattle.host_core.specs.Acts.{Sent}
 use Rattle.host_core.specs.Application.{Application, application_of}
-use Rattle.host_core.specs.Bytes.{Counter, TakesByte, TakesBytes}
+use Rattle.host_core.specs.Bytes.{ConnectionAndPool, TakesByte, TakesBytes}
 use Rattle.host_core.specs.Does.{Does as HostDoes, acted_by, noted_by, DoesAnswer}
-use Rattle.host_core.specs.Feeds.{Feeds, IsOpen, StopsFor as HostStopsFor, counter_at, with_counter}
-use Rattle.host_core.specs.Machine.{OneOutcome as OneHost}
+use Rattle.host_core.specs.Feeds.{Feeds, IsOpen, StopsFor as HostStopsFor, connection_and_pool_at, with_connection_and_pool}
+use Rattle.host_core.specs.Machine.{OneOutcome as OneOutcomeOfHost}
 use Rattle.host_core.specs.State.{Host, Connection, Service, connection_at, service_at, with_connection, session_at}
 use Rattle.host_core.specs.declared.acted.Acted.{Acted}
-use Rattle.host_core.specs.declared.question.Answer.{Answer as Said}
+use Rattle.host_core.specs.declared.question.Answer.{Answer as ApplicationAnswer}
 use Rattle.host_core.specs.declared.acted.Acted.TheVariants as acted
 use Rattle.term_core.specs.Bytes.{TakesByte as TermTakesByte}
 use Rattle.term_core.specs.Feeds.{IsAttached, StopsFor as TermStopsFor}
-use Rattle.term_core.specs.Laws.{OneOutcome as OneTerminal}
+use Rattle.term_core.specs.Laws.{OneOutcome as OneOutcomeOfTerminal}
 use Rattle.term_core.specs.Room.{out_room}
 use Rattle.term_core.specs.State.{Link, Terminal, Detached, Closed}
 use Rattle.host_core.specs.Questions.{answered_by}
 use Rattle.world3270.proofs.Answered.{IsDone, by_act, by_answer}
-use Rattle.world3270.specs.ByteRuns.{AllHappen, Runs, StopsAt, refused_at}
-use Rattle.world3270.specs.ByteSteps.{OnConnection, ComesDown, ComesUp, Connects, ConnectsIf, GoesDown, Happens, HappensIf, Is, Presses, TrackedFeeds, answer_acted, answer_fed, down_came, free_number, has_place, host_gone_if, terminal_gone_if, up_came}
-use Rattle.world3270.specs.ByteWorld.{ByteWorld, down_of, slot_at, terminal_at, up_of, with_host, with_slot}
-use Rattle.world3270.specs.OneOutcome.{EventsAreOne, RunsAreOne, StepsAreOne}
-use Rattle.world3270.specs.TrackedTerminals.{History, TrackedTerminal, TrackedTakes, TrackedTakesByte, marked}
+use Rattle.world3270.specs.model.ByteRuns.{AllHappen, Runs, StopsAt, refused_at}
+use Rattle.world3270.specs.model.ByteSteps.{OnConnection, ComesDown, ComesUp, Connects, ConnectsIf, GoesDown, IsStep, IsStepIf, Is, Presses, TrackedFeeds, answer_acted, answer_fed, down_came, free_number, is_enabled, host_gone_if, terminal_gone_if, up_came}
+use Rattle.world3270.specs.model.ByteWorld.{ByteWorld, down_of, slot_at, terminal_at, up_of, with_host, with_slot}
+use Rattle.world3270.specs.statement.OneOutcome.{EventsAreOne, RunsAreOne, StepsAreOne}
+use Rattle.world3270.specs.model.TrackedTerminals.{History, TrackedTerminal, TrackedTakes, TrackedTakesByte, marked}
 use Rattle.world3270.specs.declared.event.Event.{Event}
 use Rattle.world3270.specs.declared.event.Event.TheVariants as event
 use Rattle.world3270.specs.declared.event.Ran.{Ran}
@@ -56,17 +56,17 @@ no_stop (stop.Closed cause) taken none is = cc
 abbrev fed_of : ℕ → Stop → Fed
 fed_of taken why = record { taken = taken; stop = why }
 
-abbrev up_made : ℕ → ByteWorld → Fed → Counter → ByteWorld
-up_made number old fed counter = host_gone_if fed.stop number (up_came fed.taken number (with_host (with_counter number counter old.host) old))
+abbrev up_made : ℕ → ByteWorld → Fed → ConnectionAndPool → ByteWorld
+up_made number old fed counter = host_gone_if fed.stop number (up_came fed.taken number (with_host (with_connection_and_pool number counter old.host) old))
 
-byte_wants_open : (number : ℕ) (old new : Counter) (byte : ℕ) → TakesByte number old byte new → IsOpen old.connection.service
+byte_wants_open : (number : ℕ) (old new : ConnectionAndPool) (byte : ℕ) → TakesByte number old byte new → IsOpen old.connection.service
 byte_wants_open number old new byte (TakesByte.goes_on rest to conn is delivers new_is) = subst IsOpen (sym is) tt
 byte_wants_open number old new byte (TakesByte.completes rest to conn item step is delivers takes new_is) = subst IsOpen (sym is) tt
 byte_wants_open number old new byte (TakesByte.breaks rest conn fault is wrong new_is) = subst IsOpen (sym is) tt
 
 -- where more bytes were taken, the line was open behind the fewer
-open_behind : (number : ℕ) (old new : Counter) (bytes : List ℕ) (fewer more : ℕ) → fewer < more → more ≤ length bytes → TakesBytes number old (take more bytes) new
-    → (mid : Counter) × TakesBytes number old (take fewer bytes) mid × IsOpen mid.connection.service
+open_behind : (number : ℕ) (old new : ConnectionAndPool) (bytes : List ℕ) (fewer more : ℕ) → fewer < more → more ≤ length bytes → TakesBytes number old (take more bytes) new
+    → (mid : ConnectionAndPool) × TakesBytes number old (take fewer bytes) mid × IsOpen mid.connection.service
 open_behind number old new bytes fewer zero less few takes = absurd (omega arith)
 open_behind number old new [] fewer (suc more) less few takes = absurd (omega arith)
 open_behind number old new (byte ∷ bytes) zero (suc more) less few takes = (old, refl, byte_wants_open number old takes.0 byte takes.1)
@@ -86,9 +86,9 @@ free_or_closed service cause free closed = cc
 same_cause : (service : Service) (cause other : Cause) → service ≡ Service.Closed cause → service ≡ Service.Closed other → cause ≡ other
 same_cause service cause other is also = cc
 
-module _ (one_host : OneHost) where
+module _ (one_host : OneOutcomeOfHost) where
   -- it doesn't stop while another goes on from the same line with the same bytes
-  host_stops : (number : ℕ) (old one other : Counter) (bytes : List ℕ) (m n : ℕ) (why : Stop) → n ≤ length bytes → TakesBytes number old (take m bytes) one
+  host_stops : (number : ℕ) (old one other : ConnectionAndPool) (bytes : List ℕ) (m n : ℕ) (why : Stop) → n ≤ length bytes → TakesBytes number old (take m bytes) one
       → TakesBytes number old (take n bytes) other → HostStopsFor why old bytes m one → (why ≡ stop.Memory → ⊥) → m < n → ⊥
   host_stops number old one other bytes m n stop.Going few takes also (inl at_end) going less =
       let whole = at_end.0 in
@@ -96,17 +96,17 @@ module _ (one_host : OneHost) where
   host_stops number old one other bytes m n stop.Going few takes also (inr free) going less =
       let begin : 0 < n = omega arith in
       let (mid, none, is) = open_behind number old other bytes 0 n begin few also in
-      open_or_free old.connection.service (subst (λ (c : Counter). IsOpen c.connection.service) none is) free.1
+      open_or_free old.connection.service (subst (λ (c : ConnectionAndPool). IsOpen c.connection.service) none is) free.1
   host_stops number old one other bytes m n stop.Memory few takes also stops going less = going refl
   host_stops number old one other bytes m n (stop.Closed cause) few takes also stops going less =
       let (mid, mid_takes, is) = open_behind number old other bytes m n less few also in
-      open_or_closed one.connection.service cause (subst (λ (c : Counter). IsOpen c.connection.service) (one_host number old mid one (take m bytes) mid_takes takes) is) stops
+      open_or_closed one.connection.service cause (subst (λ (c : ConnectionAndPool). IsOpen c.connection.service) (one_host number old mid one (take m bytes) mid_takes takes) is) stops
 
   -- of a line that is free no byte is taken
-  free_stays : (number : ℕ) (old one : Counter) (bytes : List ℕ) (m : ℕ) → m ≡ 0 → TakesBytes number old (take m bytes) one → one ≡ old
+  free_stays : (number : ℕ) (old one : ConnectionAndPool) (bytes : List ℕ) (m : ℕ) → m ≡ 0 → TakesBytes number old (take m bytes) one → one ≡ old
   free_stays number old one bytes m none takes = subst (λ (n : ℕ). TakesBytes number old (take n bytes) one) none takes
 
-  host_stops_so : (number : ℕ) (old one : Counter) (bytes : List ℕ) (m : ℕ) (why also : Stop) → TakesBytes number old (take m bytes) one → HostStopsFor why old bytes m one
+  host_stops_so : (number : ℕ) (old one : ConnectionAndPool) (bytes : List ℕ) (m : ℕ) (why also : Stop) → TakesBytes number old (take m bytes) one → HostStopsFor why old bytes m one
       → HostStopsFor also old bytes m one → (why ≡ stop.Memory → ⊥) → (also ≡ stop.Memory → ⊥) → why ≡ also
   host_stops_so number old one bytes m stop.Memory also takes is other_is going also_going = absurd (going refl)
   host_stops_so number old one bytes m stop.Going stop.Memory takes is other_is going also_going = absurd (also_going refl)
@@ -114,14 +114,14 @@ module _ (one_host : OneHost) where
   host_stops_so number old one bytes m stop.Going stop.Going takes is other_is going also_going = refl
   host_stops_so number old one bytes m stop.Going (stop.Closed cause) takes (inl is) other_is going also_going = absurd (open_or_closed one.connection.service cause is.1 other_is)
   host_stops_so number old one bytes m stop.Going (stop.Closed cause) takes (inr is) other_is going also_going =
-      absurd (free_or_closed old.connection.service cause is.1 (subst (λ (c : Counter). c.connection.service ≡ Service.Closed cause) (free_stays number old one bytes m is.0 takes) other_is))
+      absurd (free_or_closed old.connection.service cause is.1 (subst (λ (c : ConnectionAndPool). c.connection.service ≡ Service.Closed cause) (free_stays number old one bytes m is.0 takes) other_is))
   host_stops_so number old one bytes m (stop.Closed cause) stop.Going takes is (inl other_is) going also_going = absurd (open_or_closed one.connection.service cause other_is.1 is)
   host_stops_so number old one bytes m (stop.Closed cause) stop.Going takes is (inr other_is) going also_going =
-      absurd (free_or_closed old.connection.service cause other_is.1 (subst (λ (c : Counter). c.connection.service ≡ Service.Closed cause) (free_stays number old one bytes m other_is.0 takes) is))
+      absurd (free_or_closed old.connection.service cause other_is.1 (subst (λ (c : ConnectionAndPool). c.connection.service ≡ Service.Closed cause) (free_stays number old one bytes m other_is.0 takes) is))
   host_stops_so number old one bytes m (stop.Closed cause) (stop.Closed other) takes is other_is going also_going =
       ap stop.Closed (same_cause one.connection.service cause other is other_is)
 
-  one_count : (number : ℕ) (old one other : Counter) (bytes : List ℕ) (fed run : Fed) → Feeds number old bytes fed one → Feeds number old bytes run other
+  one_count : (number : ℕ) (old one other : ConnectionAndPool) (bytes : List ℕ) (fed run : Fed) → Feeds number old bytes fed one → Feeds number old bytes run other
       → (fed.stop ≡ stop.Memory → ⊥) → (run.stop ≡ stop.Memory → ⊥) → fed.taken ≡ run.taken
   one_count number old one other bytes fed run is also going also_going =
       elim (cases_order fed.taken run.taken) [
@@ -130,7 +130,7 @@ module _ (one_host : OneHost) where
         | inr (inr more) ↦ absurd (host_stops number old other one bytes run.taken fed.taken run.stop is.few also.takes is.takes also.stops also_going more)
       ]
 
-  one_feeding : (number : ℕ) (old one other : Counter) (bytes : List ℕ) (fed run : Fed) → Feeds number old bytes fed one → Feeds number old bytes run other
+  one_feeding : (number : ℕ) (old one other : ConnectionAndPool) (bytes : List ℕ) (fed run : Fed) → Feeds number old bytes fed one → Feeds number old bytes run other
       → (fed.stop ≡ stop.Memory → ⊥) → (run.stop ≡ stop.Memory → ⊥) → (fed ≡ run) × (one ≡ other)
   one_feeding number old one other bytes fed run is also going also_going =
       let count : fed.taken ≡ run.taken = one_count number old one other bytes fed run is also going also_going in
@@ -138,7 +138,7 @@ module _ (one_host : OneHost) where
       let same : one ≡ other = one_host number old one other (take fed.taken bytes) is.takes here in
       let stops : HostStopsFor run.stop old bytes fed.taken other = subst (λ (n : ℕ). HostStopsFor run.stop old bytes n other) (sym count) also.stops in
       let why : fed.stop ≡ run.stop =
-      host_stops_so number old one bytes fed.taken fed.stop run.stop is.takes is.stops (subst (λ (c : Counter). HostStopsFor run.stop old bytes fed.taken c) (sym same) stops) going also_going in
+      host_stops_so number old one bytes fed.taken fed.stop run.stop is.takes is.stops (subst (λ (c : ConnectionAndPool). HostStopsFor run.stop old bytes fed.taken c) (sym same) stops) going also_going in
       (ap (λ (taken : ℕ). fed_of taken fed.stop) count ∙ ap (λ (s : Stop). fed_of run.taken s) why, same)
 
   one_up : (number : ℕ) (bytes : List ℕ) (old new other : ByteWorld) (answer reply : Stepped) → ComesUp number bytes old answer new → refused_at answer ≡ None
@@ -146,9 +146,9 @@ module _ (one_host : OneHost) where
   one_up number bytes old new other answer reply is none also other_none =
       let going = no_stop is.fed.stop is.fed.taken (sym (ap refused_at is.answers) ∙ none) in
       let also_going = no_stop also.fed.stop also.fed.taken (sym (ap refused_at also.answers) ∙ other_none) in
-      let same = one_feeding number (counter_at number old.host) is.counter also.counter bytes is.fed also.fed is.feeds also.feeds going also_going in (
+      let same = one_feeding number (connection_and_pool_at number old.host) is.counter also.counter bytes is.fed also.fed is.feeds also.feeds going also_going in (
         is.answers ∙ ap (λ (fed : Fed). answer_fed fed.stop fed.taken) same.0 ∙ sym also.answers,
-        is.leaves ∙ ap (λ (fed : Fed). up_made number old fed is.counter) same.0 ∙ ap (λ (counter : Counter). up_made number old also.fed counter) same.1 ∙ sym also.leaves,
+        is.leaves ∙ ap (λ (fed : Fed). up_made number old fed is.counter) same.0 ∙ ap (λ (counter : ConnectionAndPool). up_made number old also.fed counter) same.1 ∙ sym also.leaves,
       )
 
 -- ---- bytes come down
@@ -187,7 +187,7 @@ abbrev down_made : ℕ → ℕ → ByteWorld → Fed → TrackedTerminal → Byt
 down_made terminal number old fed tracked =
     terminal_gone_if fed.stop terminal number (down_came fed.taken number (with_slot terminal (record (slot_at terminal old) { tracked = tracked }) old))
 
-module _ (one_terminal : OneTerminal) where
+module _ (one_terminal : OneOutcomeOfTerminal) where
   one_tracked_byte : (old one other : TrackedTerminal) (byte : ℕ) → TrackedTakesByte old byte one → TrackedTakesByte old byte other → one ≡ other
   one_tracked_byte old one other byte is also =
       let same : one.terminal ≡ other.terminal = one_terminal old.terminal one.terminal other.terminal (byte ∷ []) (one.terminal, is.takes, refl) (other.terminal, also.takes, refl) in
@@ -308,12 +308,12 @@ one_act : (does : Option Sent) (number : ℕ) (old new other : ByteWorld) (answe
 one_act does number old new other answer reply =
     one_call (HostDoes does) number old new other answer reply (one_doing does (connection_at number old.host))
 
-one_said : (app : Application) (said : Said) (does : Option Sent) (old one other : Connection) (act reply : Acted) → DoesAnswer app said does old act one → refused_at (answer_acted act) ≡ None
+one_said : (app : Application) (said : ApplicationAnswer) (does : Option Sent) (old one other : Connection) (act reply : Acted) → DoesAnswer app said does old act one → refused_at (answer_acted act) ≡ None
     → DoesAnswer app said does old reply other → refused_at (answer_acted reply) ≡ None → (act ≡ reply) × (one ≡ other)
 one_said app said does old one other act reply is none also other_none =
     one_answering does old one other act reply (by_answer app said does old act one is) none (by_answer app said does old reply other also) other_none
 
-one_answer : (app : Application) (said : Said) (does : Option Sent) (number : ℕ) (old new other : ByteWorld) (answer reply : Stepped) → OnConnection (DoesAnswer app said does) number old answer new
+one_answer : (app : Application) (said : ApplicationAnswer) (does : Option Sent) (number : ℕ) (old new other : ByteWorld) (answer reply : Stepped) → OnConnection (DoesAnswer app said does) number old answer new
     → refused_at answer ≡ None → OnConnection (DoesAnswer app said does) number old reply other → refused_at reply ≡ None → Alike answer reply new other
 one_answer app said does number old new other answer reply =
     one_call (DoesAnswer app said does) number old new other answer reply (one_said app said does (connection_at number old.host))
@@ -340,9 +340,9 @@ one_made made new other answer reply is also = (is.0 ∙ sym also.0, is.1 ∙ sy
 abbrev ran_of : ℕ → ℕ → Ran
 ran_of whole part = record { whole = whole; part = part }
 
-module _ (one_host : OneHost) (one_terminal : OneTerminal) where
-  one_happening : (event : Event) (old new other : ByteWorld) (answer reply : Stepped) → Happens event old answer new → refused_at answer ≡ None
-      → Happens event old reply other → refused_at reply ≡ None → Alike answer reply new other
+module _ (one_host : OneOutcomeOfHost) (one_terminal : OneOutcomeOfTerminal) where
+  one_happening : (event : Event) (old new other : ByteWorld) (answer reply : Stepped) → IsStep event old answer new → refused_at answer ≡ None
+      → IsStep event old reply other → refused_at reply ≡ None → Alike answer reply new other
   one_happening (event.Key terminal key) old new other answer reply is none also other_none = one_press terminal key old new other answer reply is none also other_none
   one_happening (event.Up number count) old new other answer reply is none also other_none =
       one_up one_host number (take count (up_of number old)) old new other answer reply is none also other_none
@@ -363,13 +363,13 @@ module _ (one_host : OneHost) (one_terminal : OneTerminal) where
   one_happening (event.RestartTerm terminal) old new other answer reply is none also other_none = one_made _ new other answer reply is also
   one_happening event.RestartHost old new other answer reply is none also other_none = one_made _ new other answer reply is also
 
-  one_if : (has : Bool) (event : Event) (old new other : ByteWorld) (answer reply : Stepped) → HappensIf has event old answer new → refused_at answer ≡ None
-      → HappensIf has event old reply other → refused_at reply ≡ None → Alike answer reply new other
+  one_if : (has : Bool) (event : Event) (old new other : ByteWorld) (answer reply : Stepped) → IsStepIf has event old answer new → refused_at answer ≡ None
+      → IsStepIf has event old reply other → refused_at reply ≡ None → Alike answer reply new other
   one_if true event old new other answer reply is none also other_none = one_happening event old new other answer reply is none also other_none
   one_if false event old new other answer reply is none also other_none = (is.0 ∙ sym also.0, is.1 ∙ sym also.1)
 
   pub steps_are_one : StepsAreOne
-  steps_are_one event old new other answer reply is none also other_none = one_if (has_place event old) event old new other answer reply is none also other_none
+  steps_are_one event old new other answer reply is none also other_none = one_if (is_enabled event old) event old new other answer reply is none also other_none
 
   pub events_are_one : EventsAreOne
   events_are_one [] old new other is also = is ∙ sym also

@@ -2,7 +2,7 @@
 use Rattle.std.proofs.Common.{◌≡◌, ◌<◌, ◌≤◌, ◌+◌, ◌%◌, ℕ, Bool, true, false, List, [], ◌∷◌, length, take, drop, Option, Some, None, if◌then◌else◌, arith, ap, sym, subst, refl, ◌∙◌, length-take, length-drop}
 use Rattle.std.proofs.Math.Nat.{mod-lt}
 use Rattle.codes3270.specs.CodePage.{code_of}
-use Rattle.datastream.specs.Held.{Held}
+use Rattle.datastream.specs.KeptByKeys.{KeptByKeys}
 use Rattle.datastream.specs.HeldLaws.{HeldAtFirst}
 use Rattle.datastream.specs.Screen.{Screen}
 use Rattle.keyboard.proofs.Kept.{rewritten_held}
@@ -16,9 +16,9 @@ use Rattle.keyboard.specs.declared.key.Lock.{Lock}
 use Rattle.keyboard.specs.declared.key.Lock.TheVariants.{Free, Wait, Error}
 use Rattle.world3270.proofs.KeyMoves.{same_parts, stepped}
 use Rattle.world3270.proofs.Keys.{or_false}
-use Rattle.world3270.specs.RuleLaws.{KeepsTheRules, at_lock, careless_key, freed_by_reset, impatient_key, pasted, shows_screen, stored_anyway}
-use Rattle.world3270.specs.Rules.{Operates}
-use Rattle.world3270.specs.Terminal.{TermEnd, TermStep, key_came}
+use Rattle.world3270.specs.statement.RuleLaws.{KeepsTheRules, at_lock, careless_key, freed_by_reset, impatient_key, pasted, shows_screen, stored_anyway}
+use Rattle.world3270.specs.statement.Rules.{Operates}
+use Rattle.world3270.specs.model.Terminal.{TermEnd, TermStep, key_came}
 
 -- ---- Reset ends the wait
 
@@ -34,7 +34,7 @@ impatient_keys_operate operate key end below =
 
 -- ---- a screen that differs in input alone
 
-held_screen : (screen : Screen) (end : TermEnd) → Held false end.display.screen.cells screen.cells → screen.cursor < length screen.cells → screen.aid ≡ end.display.screen.aid → Operates end (shows_screen screen end)
+held_screen : (screen : Screen) (end : TermEnd) → KeptByKeys false end.display.screen.cells screen.cells → screen.cursor < length screen.cells → screen.aid ≡ end.display.screen.aid → Operates end (shows_screen screen end)
 held_screen screen end held on aid =
     Operates.edits end.display.keyboard screen.cells screen.cursor false held on
     (ap (λ s. stepped end end.display.keyboard s end.display.erased []) (same_parts screen end.display.screen aid)

@@ -35,19 +35,19 @@ use Rattle.host_core.specs.declared.turn.Turn.{Turn}
 use Rattle.host_core.specs.declared.turn.Turn.TheVariants as whose
 use Rattle.host_core.specs.declared.turn_reason.TurnReason.{TurnReason}
 use Rattle.host_core.specs.declared.turn_reason.TurnReason.TheVariants as turn_reasons
-use Rattle.host_core.specs.Session.{Conn, Pending, is_agreed}
+use Rattle.host_core.specs.Session.{Session, Pending, is_agreed}
 use Rattle.host_core.specs.Rejections.{lu_asked}
 use Rattle.shadow.specs.declared.rule_break.RuleBreak.{RuleBreak}
 use Rattle.host_core.specs.Takes.{buffer_heard, rule_broken_by, unless_broken, Answers, HostStep, quiet, closed_by, asked, talked_on, hears, believed, once_read, buffer_came, key_came, key_data_came, data_came, refused, write_refused, if_answers, verdict_came, read_verdict_came, response_came, once_agreed, second_key, second_key_data, out_of_turn, may_have_changed, took as host_took}
 use Rattle.host_core.specs.Questions.{answered_on}
-use Rattle.world3270.specs.Always.{Always}
-use Rattle.world3270.specs.Given.{Given}
-use Rattle.world3270.specs.Happens.{closed_if, freed_if, came_up, came_down, went_down, key_went, term_saw, joined, term_anew, done}
-use Rattle.world3270.specs.Link.{Link, begun, cut, host_left, host_stepped, host_sent, term_left, term_stepped}
-use Rattle.world3270.specs.Placed.{has_place, free_number, may_connect, is_terminal}
-use Rattle.world3270.specs.Places.{is_at, is_found, takes_number, concerns, LinksStay, HoldersStay, PoolIsSound}
-use Rattle.world3270.specs.Terminal.{TermStep, key_came as term_key_came, took as term_took}
-use Rattle.world3270.specs.World.{Place, World, Event, new_world, with_at, display_at}
+use Rattle.world3270.specs.statement.Always.{Always}
+use Rattle.world3270.specs.refinement.LowerLaws.{LowerLaws}
+use Rattle.world3270.specs.model.Steps.{closed_if, freed_if, came_up, came_down, went_down, key_went, term_saw, joined, term_anew, done}
+use Rattle.world3270.specs.model.Link.{Link, begun, cut, host_left, host_stepped, host_sent, term_left, term_stepped}
+use Rattle.world3270.specs.model.Enabled.{is_enabled, free_number, may_connect, is_terminal}
+use Rattle.world3270.specs.model.Places.{is_at, is_found, takes_number, concerns, LinksStay, HoldersStay, PoolIsSound}
+use Rattle.world3270.specs.model.Terminal.{TermStep, key_came as term_key_came, took as term_took}
+use Rattle.world3270.specs.model.World.{Place, World, Event, new_world, with_at, display_at}
 use Rattle.world3270.proofs.OneOfMany.{differs, with_other}
 use Rattle.world3270.proofs.Worlds.{granted_other, new_good, run_good}
 
@@ -99,7 +99,7 @@ found_or_at : (app : Application) (world : World) (terminal number : ℕ) (model
 found_or_at app world terminal number model wanted (Place.At at) may e = absurd (cc)
 found_or_at app world terminal number model wanted (Place.Alone display) may e = joined_link app world terminal number model wanted (free_number world.link) e
 
-done_link : (app : Application) (event : Event) (world : World) (number : ℕ) → has_place app event world ≡ true → concerns event world number ≡ false → (done app event world).link number ≡ world.link number
+done_link : (app : Application) (event : Event) (world : World) (number : ℕ) → is_enabled app event world ≡ true → concerns event world number ≡ false → (done app event world).link number ≡ world.link number
 done_link app (Event.Press terminal key) world number here e = key_went_link world terminal number key (world.place terminal) e
 done_link app (Event.Up at) world number here e = came_up_link world at number (world.link at).up e
 done_link app (Event.Down at) world number here e = went_down_link world at number (world.link at).term_here e
@@ -116,9 +116,9 @@ done_link app (Event.RestartTerm terminal) world number here e = term_anew_link 
 done_link app Event.RestartHost world number here e = absurd (cc)
 
 pub links_stay : LinksStay
-links_stay app event world number e = by_test (has_place app event world) refl
+links_stay app event world number e = by_test (is_enabled app event world) refl
   where
-    by_test : (b : Bool) → has_place app event world ≡ b → World.link (if b then done app event world else world) number ≡ world.link number
+    by_test : (b : Bool) → is_enabled app event world ≡ b → World.link (if b then done app event world else world) number ≡ world.link number
     by_test true here = done_link app event world number here e
     by_test false here = refl
 
@@ -128,7 +128,7 @@ record IsAnswer (pool : Answers) (lu : List ℕ) : Type 0 where
   name : Option (List ℕ)
   answer : pool name ≡ Ok lu
 
-asked_grants : (pool : Answers) (name sought : Option (List ℕ)) (conn : Conn) (talk : Talk HostState) (answer : Result (List ℕ) Reason) (state : HostState) (lu : List ℕ)
+asked_grants : (pool : Answers) (name sought : Option (List ℕ)) (conn : Session) (talk : Talk HostState) (answer : Result (List ℕ) Reason) (state : HostState) (lu : List ℕ)
     → pool name ≡ answer → (asked conn sought talk answer state).grants ≡ Some lu → IsAnswer pool lu
 asked_grants pool name sought conn talk (Ok have) (Asking device) lu a e = record { name = name; answer = a ∙ cc }
 asked_grants pool name sought conn talk (Err reason) (Asking device) lu a e = absurd (cc)
@@ -139,7 +139,7 @@ asked_grants pool name sought conn talk answer (Countered device have) lu a e = 
 asked_grants pool name sought conn talk answer (Agreed device have) lu a e = absurd (cc)
 asked_grants pool name sought conn talk answer (Closed cause) lu a e = absurd (cc)
 
-talked_grants : (pool : Answers) (conn : Conn) (sought : Option (List ℕ)) (talk : Talk HostState) (answer : Reply) (lu : List ℕ) → (talked_on pool conn sought talk answer).grants ≡ Some lu → IsAnswer pool lu
+talked_grants : (pool : Answers) (conn : Session) (sought : Option (List ℕ)) (talk : Talk HostState) (answer : Reply) (lu : List ℕ) → (talked_on pool conn sought talk answer).grants ≡ Some lu → IsAnswer pool lu
 talked_grants pool conn sought talk (reply.AskPool name) lu e = asked_grants pool name sought conn talk (pool name) talk.state lu refl e
 talked_grants pool conn sought talk reply.Nothing lu e = absurd (cc)
 talked_grants pool conn sought talk (reply.Opt verb code) lu e = absurd (cc)
@@ -149,23 +149,23 @@ talked_grants pool conn sought talk (reply.Refused reason) lu e = absurd (cc)
 talked_grants pool conn sought talk (reply.Close cause) lu e = absurd (cc)
 
 -- records grant nothing
-believed_grants : (turn_reason : TurnReason) (pending : Pending) (cursor : Option ℕ) (conn : Conn) (result : Result Shadow HeardFault) → (believed turn_reason pending cursor conn result).grants ≡ None
+believed_grants : (turn_reason : TurnReason) (pending : Pending) (cursor : Option ℕ) (conn : Session) (result : Result Shadow HeardFault) → (believed turn_reason pending cursor conn result).grants ≡ None
 believed_grants turn_reason pending cursor conn (Ok shadow) = refl
 believed_grants turn_reason pending cursor conn (Err fault) = refl
 
-key_grants : (parts : InboundParts) (aid : Aid) (conn : Conn) → (key_came parts aid conn).grants ≡ None
+key_grants : (parts : InboundParts) (aid : Aid) (conn : Session) → (key_came parts aid conn).grants ≡ None
 key_grants parts NoAid conn = refl
 key_grants parts Enter conn = believed_grants (turn_reasons.Key Enter false) conn.pending parts.cursor conn (hears parts conn)
 key_grants parts Clear conn = believed_grants (turn_reasons.Key Clear false) conn.pending parts.cursor conn (hears parts conn)
 key_grants parts (Pf key) conn = believed_grants (turn_reasons.Key (Pf key) false) conn.pending parts.cursor conn (hears parts conn)
 key_grants parts (Pa key) conn = believed_grants (turn_reasons.Key (Pa key) false) conn.pending parts.cursor conn (hears parts conn)
 
-key_data_grants : (parts : InboundParts) (form : Form) (conn : Conn) → (key_data_came parts form conn).grants ≡ None
+key_data_grants : (parts : InboundParts) (form : Form) (conn : Session) → (key_data_came parts form conn).grants ≡ None
 key_data_grants parts Modified conn = key_grants parts parts.aid conn
 key_data_grants parts AllModified conn = refl
 key_data_grants parts Buffer conn = refl
 
-second_key_grants : (aid : Aid) (pending : Pending) (conn : Conn) → (second_key aid pending conn).grants ≡ None
+second_key_grants : (aid : Aid) (pending : Pending) (conn : Session) → (second_key aid pending conn).grants ≡ None
 second_key_grants NoAid pending conn = refl
 second_key_grants Enter pending conn = refl
 second_key_grants Clear Pending.Nothing conn = refl
@@ -175,19 +175,19 @@ second_key_grants Clear (Pending.Noting number command) conn = refl
 second_key_grants (Pf key) pending conn = refl
 second_key_grants (Pa key) pending conn = refl
 
-second_key_data_grants : (parts : InboundParts) (form : Form) (conn : Conn) → (second_key_data parts form conn).grants ≡ None
+second_key_data_grants : (parts : InboundParts) (form : Form) (conn : Session) → (second_key_data parts form conn).grants ≡ None
 second_key_data_grants parts Modified conn = second_key_grants parts.aid conn.pending conn
 second_key_data_grants parts AllModified conn = refl
 second_key_data_grants parts Buffer conn = refl
 
-out_of_turn_grants : (parts : InboundParts) (conn : Conn) → (out_of_turn parts conn).grants ≡ None
+out_of_turn_grants : (parts : InboundParts) (conn : Session) → (out_of_turn parts conn).grants ≡ None
 out_of_turn_grants parts conn = by_test (may_have_changed conn.unheard)
   where
     by_test : (b : Bool) → HostStep.grants (if b then second_key_data parts parts.form conn else closed_by BadInbound conn) ≡ None
     by_test true = second_key_data_grants parts parts.form conn
     by_test false = refl
 
-buffer_grants : (parts : InboundParts) (form : Form) (conn : Conn) → (buffer_came parts form conn).grants ≡ None
+buffer_grants : (parts : InboundParts) (form : Form) (conn : Session) → (buffer_came parts form conn).grants ≡ None
 buffer_grants parts Buffer conn = by_break (rule_broken_by parts conn)
   where
     by_break : (broken : Option RuleBreak) → (unless_broken conn broken (buffer_heard parts conn)).grants ≡ None
@@ -196,7 +196,7 @@ buffer_grants parts Buffer conn = by_break (rule_broken_by parts conn)
 buffer_grants parts Modified conn = out_of_turn_grants parts conn
 buffer_grants parts AllModified conn = out_of_turn_grants parts conn
 
-data_grants : (parts : InboundParts) (turn : Turn) (pending : Pending) (conn : Conn) → (data_came parts turn pending conn).grants ≡ None
+data_grants : (parts : InboundParts) (turn : Turn) (pending : Pending) (conn : Session) → (data_came parts turn pending conn).grants ≡ None
 data_grants parts turn (Pending.Reading number) conn = buffer_grants parts parts.form conn
 data_grants parts turn (Pending.Writing number command) conn = out_of_turn_grants parts conn
 data_grants parts whose.Host Pending.Nothing conn = out_of_turn_grants parts conn
@@ -204,39 +204,39 @@ data_grants parts whose.Host (Pending.Noting number command) conn = out_of_turn_
 data_grants parts whose.Terminal Pending.Nothing conn = key_data_grants parts parts.form conn
 data_grants parts whose.Terminal (Pending.Noting number command) conn = key_data_grants parts parts.form conn
 
-if_answers_grants : (b : Bool) (step : HostStep) (conn : Conn) → step.grants ≡ None → (if_answers b step conn).grants ≡ None
+if_answers_grants : (b : Bool) (step : HostStep) (conn : Session) → step.grants ≡ None → (if_answers b step conn).grants ≡ None
 if_answers_grants true step conn e = e
 if_answers_grants false step conn e = refl
 
-write_refused_grants : (command : CommandParts) (conn : Conn) → (write_refused command conn).grants ≡ None
+write_refused_grants : (command : CommandParts) (conn : Session) → (write_refused command conn).grants ≡ None
 write_refused_grants command conn = by_test (is_erase command.code)
   where
     by_test : (b : Bool) → HostStep.grants (if b then closed_by Negative conn else quiet (refused conn)) ≡ None
     by_test true = refl
     by_test false = refl
 
-verdict_grants : (command : CommandParts) (verdict : Verdict) (conn : Conn) → (verdict_came command verdict conn).grants ≡ None
+verdict_grants : (command : CommandParts) (verdict : Verdict) (conn : Session) → (verdict_came command verdict conn).grants ≡ None
 verdict_grants command Verdict.Positive conn = refl
 verdict_grants command Verdict.Negative conn = write_refused_grants command conn
 
-read_verdict_grants : (answers : Bool) (verdict : Verdict) (conn : Conn) → (read_verdict_came answers verdict conn).grants ≡ None
+read_verdict_grants : (answers : Bool) (verdict : Verdict) (conn : Session) → (read_verdict_came answers verdict conn).grants ≡ None
 read_verdict_grants answers Verdict.Positive conn = refl
 read_verdict_grants answers Verdict.Negative conn = if_answers_grants answers _ conn refl
 
-response_grants : (number : ℕ) (verdict : Verdict) (pending : Pending) (conn : Conn) → (response_came number verdict pending conn).grants ≡ None
+response_grants : (number : ℕ) (verdict : Verdict) (pending : Pending) (conn : Session) → (response_came number verdict pending conn).grants ≡ None
 response_grants number verdict Pending.Nothing conn = refl
 response_grants number verdict (Pending.Writing pending command) conn = if_answers_grants (number == pending) _ conn (verdict_grants command verdict conn)
 response_grants number verdict (Pending.Noting pending command) conn = if_answers_grants (number == pending) _ conn (verdict_grants command verdict conn)
 response_grants number verdict (Pending.Reading pending) conn = read_verdict_grants (number == pending) verdict conn
 
-once_agreed_grants : (b : Bool) (step : HostStep) (conn : Conn) → step.grants ≡ None → (once_agreed b step conn).grants ≡ None
+once_agreed_grants : (b : Bool) (step : HostStep) (conn : Session) → step.grants ≡ None → (once_agreed b step conn).grants ≡ None
 once_agreed_grants true step conn e = e
 once_agreed_grants false step conn e = refl
 
 not_both : (granted : Option (List ℕ)) (lu : List ℕ) → granted ≡ None → granted ≡ Some lu → ⊥
 not_both granted lu none some = absurd (cc)
 
-grants : (pool : Answers) (conn : Conn) (message : ToHost) (lu : List ℕ) → (host_took pool conn message).grants ≡ Some lu → IsAnswer pool lu
+grants : (pool : Answers) (conn : Session) (message : ToHost) (lu : List ℕ) → (host_took pool conn message).grants ≡ Some lu → IsAnswer pool lu
 grants pool conn (ToHost.TalksUp saying) lu e =
     let next : Talk HostState × Reply = follow Closed conn.talk (host_transition conn.talk.state (says saying)) in
     talked_grants pool conn (lu_asked (says saying)) next.0 next.1 lu e
@@ -246,14 +246,14 @@ grants pool conn (ToHost.Response number verdict) lu e =
 
 -- ---- LUs of such connections
 
-granted_holds : Given → (pool : List Entry) (at number : ℕ) (lu : List ℕ) (granted : Option (List ℕ)) → IsSound pool → ((have : List ℕ) → granted ≡ Some have → IsAnswer (answer_to pool) have)
+granted_holds : LowerLaws → (pool : List Entry) (at number : ℕ) (lu : List ℕ) (granted : Option (List ℕ)) → IsSound pool → ((have : List ℕ) → granted ≡ Some have → IsAnswer (answer_to pool) have)
     → holder pool lu ≡ Some number → holder (granted_if at granted pool) lu ≡ Some number
 granted_holds given pool at number lu None sound answers held = held
 granted_holds given pool at number lu (Some have) sound answers held =
     let a = answers have refl in
     granted_other given pool at number have lu (given.pool.free pool a.name have sound a.answer) held
 
-freed_holds : Given → (pool : List Entry) (at number : ℕ) (lu : List ℕ) (cause : Option Cause) → (number == at) ≡ false → holder pool lu ≡ Some number → holder (freed_if at cause pool) lu ≡ Some number
+freed_holds : LowerLaws → (pool : List Entry) (at number : ℕ) (lu : List ℕ) (cause : Option Cause) → (number == at) ≡ false → holder pool lu ≡ Some number → holder (freed_if at cause pool) lu ≡ Some number
 freed_holds given pool at number lu None e held = held
 freed_holds given pool at number lu (Some cause) e held = given.pool.others_keep pool at number lu (differs number at e) held
 
@@ -261,7 +261,7 @@ pub closed_pool : (cause : Option Cause) (world : World) → (closed_if cause wo
 closed_pool None world = refl
 closed_pool (Some cause) world = refl
 
-came_up_holds : Given → (world : World) (at number : ℕ) (lu : List ℕ) (up : List ToHost) → IsSound world.pool → (number == at) ≡ false → holder world.pool lu ≡ Some number
+came_up_holds : LowerLaws → (world : World) (at number : ℕ) (lu : List ℕ) (up : List ToHost) → IsSound world.pool → (number == at) ≡ false → holder world.pool lu ≡ Some number
     → holder (came_up at up world).pool lu ≡ Some number
 came_up_holds given world at number lu [] sound e held = held
 came_up_holds given world at number lu (message ∷ rest) sound e held =
@@ -281,14 +281,14 @@ freed_was pool at number lu (Some had) e = by_test (had == at) refl e
     by_test true h e = absurd (cc)
     by_test false h e = let same : had ≡ number = cc in (ap (λ n. n == at) (sym same) ∙ h, e)
 
-pub back_was : Given → (pool : List Entry) (at number : ℕ) (lu : List ℕ) → holder (given_back at pool) lu ≡ Some number → ((number == at) ≡ false) × (holder pool lu ≡ Some number)
+pub back_was : LowerLaws → (pool : List Entry) (at number : ℕ) (lu : List ℕ) → holder (given_back at pool) lu ≡ Some number → ((number == at) ≡ false) × (holder pool lu ≡ Some number)
 back_was given pool at number lu e = freed_was pool at number lu (holder pool lu) (sym (given.pool.back pool at lu) ∙ e)
 
-freed_if_was : Given → (pool : List Entry) (at number : ℕ) (lu : List ℕ) (cause : Option Cause) → holder (freed_if at cause pool) lu ≡ Some number → holder pool lu ≡ Some number
+freed_if_was : LowerLaws → (pool : List Entry) (at number : ℕ) (lu : List ℕ) (cause : Option Cause) → holder (freed_if at cause pool) lu ≡ Some number → holder pool lu ≡ Some number
 freed_if_was given pool at number lu None e = e
 freed_if_was given pool at number lu (Some cause) e = (back_was given pool at number lu e).1
 
-granted_was : Given → (pool : List Entry) (at number : ℕ) (lu : List ℕ) (granted : Option (List ℕ)) → ((have : List ℕ) → granted ≡ Some have → IsAnswer (answer_to pool) have)
+granted_was : LowerLaws → (pool : List Entry) (at number : ℕ) (lu : List ℕ) (granted : Option (List ℕ)) → ((have : List ℕ) → granted ≡ Some have → IsAnswer (answer_to pool) have)
     → (number == at) ≡ false → holder (granted_if at granted pool) lu ≡ Some number → holder pool lu ≡ Some number
 granted_was given pool at number lu None answers other e = e
 granted_was given pool at number lu (Some have) answers other e = by_test (bytes_eq lu have) refl
@@ -302,7 +302,7 @@ granted_was given pool at number lu (Some have) answers other e = by_test (bytes
         absurd (differs number at other (cc))
     by_test false h = sym (given.pool.others_stay pool at have lu (λ same. let yes = (bytes_eq-Decides lu have).1 same in absurd (cc))) ∙ e
 
-pub came_up_was : Given → (world : World) (at number : ℕ) (lu : List ℕ) (up : List ToHost) → (number == at) ≡ false → holder (came_up at up world).pool lu ≡ Some number
+pub came_up_was : LowerLaws → (world : World) (at number : ℕ) (lu : List ℕ) (up : List ToHost) → (number == at) ≡ false → holder (came_up at up world).pool lu ≡ Some number
     → holder world.pool lu ≡ Some number
 came_up_was given world at number lu [] e held = held
 came_up_was given world at number lu (message ∷ rest) e held =
@@ -344,7 +344,7 @@ SameHolder old new number lu = (holder old lu ≡ Some number) ↔ (holder new l
 same_holder : (old new : List Entry) (number : ℕ) (lu : List ℕ) → new ≡ old → SameHolder old new number lu
 same_holder old new number lu same = (λ e. ap (λ pool. holder pool lu) same ∙ e, λ e. ap (λ pool. holder pool lu) (sym same) ∙ e)
 
-done_holds : Given → (app : Application) (event : Event) (world : World) (number : ℕ) (lu : List ℕ) → IsSound world.pool → concerns event world number ≡ false → SameHolder world.pool (done app event world).pool number lu
+done_holds : LowerLaws → (app : Application) (event : Event) (world : World) (number : ℕ) (lu : List ℕ) → IsSound world.pool → concerns event world number ≡ false → SameHolder world.pool (done app event world).pool number lu
 done_holds given app (Event.Press terminal key) world number lu sound e = same_holder world.pool _ number lu (key_went_pool world terminal key (world.place terminal))
 done_holds given app (Event.Up at) world number lu sound e =
     (came_up_holds given world at number lu (world.link at).up sound e, came_up_was given world at number lu (world.link at).up e)
@@ -360,13 +360,13 @@ done_holds given app (Event.Connect terminal wanted) world number lu sound e = s
 done_holds given app (Event.RestartTerm terminal) world number lu sound e = same_holder world.pool _ number lu (term_anew_pool app world terminal (world.place terminal))
 done_holds given app Event.RestartHost world number lu sound e = absurd (cc)
 
-pub holders_stay : Given → HoldersStay
-holders_stay given app event world number lu sound e = by_test (has_place app event world)
+pub holders_stay : LowerLaws → HoldersStay
+holders_stay given app event world number lu sound e = by_test (is_enabled app event world)
   where
     by_test : (b : Bool) → SameHolder world.pool (World.pool (if b then done app event world else world)) number lu
     by_test true = done_holds given app event world number lu sound e
     by_test false = same_holder world.pool world.pool number lu refl
 
-pub pool_is_sound : Given → Always PoolIsSound
+pub pool_is_sound : LowerLaws → Always PoolIsSound
 pool_is_sound given app serves pool models events is lists few are =
     (run_good given app is events (new_world app serves pool models) are (new_good given app is serves pool models lists)).sound

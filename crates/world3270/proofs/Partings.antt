@@ -3,17 +3,17 @@ use Rattle.std.proofs.Common.{◌≡◌, ◌<◌, not, ℕ, Bool, true, false, O
 use Rattle.std.proofs.lemmas.List.{length-set}
 use Rattle.lu_pool.specs.Holders.{given_back}
 use Rattle.host_core.specs.State.{Host, Connection, unused, connection_at, service_at}
-use Rattle.world3270.specs.ByteSteps.{lost_transits, host_gone, terminal_gone}
-use Rattle.world3270.specs.ByteWorld.{ByteWorld, Transit, Transits, TerminalSlot, under_way, cut, sender_gone, is_live, is_there, transits_at, slot_at, with_transits, with_slot, host_there, host_out, out_of}
-use Rattle.world3270.specs.Happens.{host_parted, parted}
-use Rattle.world3270.specs.Link.{Link, cut as link_cut, host_left, term_left}
-use Rattle.world3270.specs.Places.{EndsAgree, UpIsHeld}
-use Rattle.world3270.specs.TrackedTerminals.{TrackedTerminal}
-use Rattle.world3270.specs.Standing.{WorldStands, IsFlow, IsAt, IsNotClosed, IsSettled, AreTransits, conn_of, rest_of, tracked_of, link_with}
-use Rattle.world3270.specs.Stands.{BytesUp, BytesDown, ByteLink, Holds, LinkStands}
-use Rattle.world3270.specs.StandsLinks.{LossStands, HostLeaves, TermLeaves}
-use Rattle.world3270.specs.Terminal.{Display}
-use Rattle.world3270.specs.World.{Place, World, with_link}
+use Rattle.world3270.specs.model.ByteSteps.{lost_transits, host_gone, terminal_gone}
+use Rattle.world3270.specs.model.ByteWorld.{ByteWorld, Transit, Transits, TerminalSlot, under_way, cut, sender_gone, is_live, is_there, transits_at, slot_at, with_transits, with_slot, host_there, host_out, out_of}
+use Rattle.world3270.specs.model.Steps.{host_parted, parted}
+use Rattle.world3270.specs.model.Link.{Link, cut as link_cut, host_left, term_left}
+use Rattle.world3270.specs.model.Places.{EndsAgree, UpIsHeld}
+use Rattle.world3270.specs.model.TrackedTerminals.{TrackedTerminal}
+use Rattle.world3270.specs.refinement.Representation.{WorldRepresents, IsFlow, IsAt, IsNotClosed, IsSettled, AreTransits, conn_of, rest_of, tracked_of, link_with}
+use Rattle.world3270.specs.refinement.Represents.{BytesUp, BytesDown, ByteLink, Holds, LinkRepresents}
+use Rattle.world3270.specs.refinement.RepresentsLinks.{LossRepresents, HostLeaves, TermLeaves}
+use Rattle.world3270.specs.model.Terminal.{Display}
+use Rattle.world3270.specs.model.World.{Place, World, with_link}
 use Rattle.world3270.proofs.Frames.{transits_same, transits_other, slot_same, slot_other, connection_same, connection_other, IsHere, beyond_is_alone, changed_stands, flow_there, is_within, link_there, sits_same, who_was_there}
 use Rattle.world3270.proofs.OneOfMany.{with_other, with_same}
 use Rattle.world3270.proofs.UnderWay.{cut_under_way}
@@ -30,7 +30,7 @@ pub record Alike (old new : ByteLink) (link : Link) : Type 0 where
   pub host : link.host_here ≡ true → (new.host ≡ old.host) × (new.host_rest ≡ old.host_rest)
   pub tracked : (terminal : ℕ) → link.term_here ≡ Some terminal → new.tracked ≡ old.tracked
 
-pub like_stands : (old new : ByteLink) (link : Link) → Alike old new link → LinkStands old link → LinkStands new link
+pub like_stands : (old new : ByteLink) (link : Link) → Alike old new link → LinkRepresents old link → LinkRepresents new link
 like_stands old new link like stands = record {
   lost = like.lost ∙ stands.lost;
   host_here = like.host_here ∙ stands.host_here;
@@ -87,8 +87,8 @@ module _ (number : ℕ) (old new : ByteWorld) (was here : Option ℕ) (connectio
 
   pub gone_stands : (link : Link) → (link.host_here ≡ true → connection.service ≡ service_at number old.host)
       → ((terminal : ℕ) → link.term_here ≡ Some terminal → tracked_of here new ≡ tracked_of was old)
-      → LinkStands (record (link_with was number old) { lost = true; host_here = is_there connection.service; term_here = here }) link
-      → LinkStands (link_with here number new) link
+      → LinkRepresents (record (link_with was number old) { lost = true; host_here = is_there connection.service; term_here = here }) link
+      → LinkRepresents (link_with here number new) link
   gone_stands link host tracked stands =
       like_stands (record (link_with was number old) { lost = true; host_here = is_there connection.service; term_here = here }) (link_with here number new) link
       (record {
@@ -104,14 +104,14 @@ module _ (number : ℕ) (old new : ByteWorld) (was here : Option ℕ) (connectio
 
 -- ---- a world whose connection is lost
 
-module _ (number : ℕ) (old : ByteWorld) (was : World) (agree : EndsAgree was) (stands : WorldStands old was) where
+module _ (number : ℕ) (old : ByteWorld) (was : World) (agree : EndsAgree was) (stands : WorldRepresents old was) where
   abbrev here : Option ℕ
   here = (was.link number).term_here
 
   its_flow : AreTransits here number old
   its_flow = flow_there number old was agree stands
 
-  its_link : LinkStands (link_with here number old) (was.link number)
+  its_link : LinkRepresents (link_with here number old) (was.link number)
   its_link = link_there number old was agree stands
 
   module _ (held : UpIsHeld was) where
@@ -131,8 +131,8 @@ module _ (number : ℕ) (old : ByteWorld) (was : World) (agree : EndsAgree was) 
 
     -- ---- it is lost, or the host leaves it
 
-    pub lost_stands : LossStands → number < length old.links → EndsAgree (with_link number (link_cut (was.link number)) was)
-        → WorldStands (with_transits number (lost_transits number old) old) (with_link number (link_cut (was.link number)) was)
+    pub lost_stands : LossRepresents → number < length old.links → EndsAgree (with_link number (link_cut (was.link number)) was)
+        → WorldRepresents (with_transits number (lost_transits number old) old) (with_link number (link_cut (was.link number)) was)
     lost_stands loss below agrees =
         let new : ByteWorld = with_transits number (lost_transits number old) old in
         let now : World = with_link number (link_cut (was.link number)) was in
@@ -166,7 +166,7 @@ module _ (number : ℕ) (old : ByteWorld) (was : World) (agree : EndsAgree was) 
           settled = stands.settled number;
           flow = subst (λ (l : Link). AreTransits l.term_here number new) (sym is)
               (gone_flow number old new here here (connection_at number old.host) (lost_transits number old) (out_of here old) gone);
-          link = subst (λ (l : Link). LinkStands (link_with l.term_here number new) l) (sym is)
+          link = subst (λ (l : Link). LinkRepresents (link_with l.term_here number new) l) (sym is)
               (gone_stands number old new here here (connection_at number old.host) (lost_transits number old) (out_of here old) gone (link_cut (was.link number))
               (λ e. refl) (λ terminal e. same.1) (loss (link_with here number old) (was.link number) its_link));
           place = stands.places nobody;
@@ -178,7 +178,7 @@ module _ (number : ℕ) (old : ByteWorld) (was : World) (agree : EndsAgree was) 
     host_transits = record (lost_transits number old) { down = sender_gone (host_out number old) (transits_at number old).down }
 
     pub host_gone_stands : HostLeaves → number < length old.links → EndsAgree (host_parted number was)
-        → WorldStands (host_gone number old) (host_parted number was)
+        → WorldRepresents (host_gone number old) (host_parted number was)
     host_gone_stands leaves below agrees =
         let new : ByteWorld = host_gone number old in
         let now : World = host_parted number was in
@@ -215,7 +215,7 @@ module _ (number : ℕ) (old : ByteWorld) (was : World) (agree : EndsAgree was) 
           settled = subst (λ (l : Connection). IsSettled l) (sym connection) (λ free. refl);
           flow = subst (λ (l : Link). AreTransits l.term_here number new) (sym is)
               (gone_flow number old new here here unused host_transits (out_of here old) gone);
-          link = subst (λ (l : Link). LinkStands (link_with l.term_here number new) l) (sym is)
+          link = subst (λ (l : Link). LinkRepresents (link_with l.term_here number new) l) (sym is)
               (gone_stands number old new here here unused host_transits (out_of here old) gone (host_left (was.link number))
               (λ e. absurd (cc)) (λ terminal e. same.1) (leaves (link_with here number old) (was.link number) its_link));
           place = stands.places nobody;
@@ -230,7 +230,7 @@ module _ (number : ℕ) (old : ByteWorld) (was : World) (agree : EndsAgree was) 
 
     pub parted_stands : TermLeaves → (terminal : ℕ) (slot : TerminalSlot) (display : Display) → terminal < length old.slots
         → was.place terminal ≡ Place.At number → IsAt slot (Place.Alone display) → EndsAgree (parted terminal number display was)
-        → WorldStands (terminal_gone slot terminal number old) (parted terminal number display was)
+        → WorldRepresents (terminal_gone slot terminal number old) (parted terminal number display was)
     parted_stands leaves terminal slot display there_is at alone agrees =
         let new : ByteWorld = terminal_gone slot terminal number old in
         let now : World = parted terminal number display was in
@@ -267,7 +267,7 @@ module _ (number : ℕ) (old : ByteWorld) (was : World) (agree : EndsAgree was) 
           settled = stands.settled number;
           flow = subst (λ (l : Link). AreTransits l.term_here number new) (sym is)
               (gone_flow number old new here None connection (terminal_transits terminal) [] gone);
-          link = subst (λ (l : Link). LinkStands (link_with l.term_here number new) l) (sym is)
+          link = subst (λ (l : Link). LinkRepresents (link_with l.term_here number new) l) (sym is)
               (gone_stands number old new here None connection (terminal_transits terminal) [] gone (term_left (was.link number))
               (λ e. refl) (λ who e. absurd (cc)) (leaves (link_with here number old) (was.link number) its_link));
           place = subst (λ (s : TerminalSlot). IsAt s (now.place terminal)) (sym (slot_same terminal slot old there_is))

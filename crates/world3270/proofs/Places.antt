@@ -13,14 +13,14 @@ use Rattle.host_core.specs.Messages.{ToTerminal, ToHost}
 use Rattle.host_core.specs.Notes.{noted}
 use Rattle.host_core.specs.Takes.{HostStep, took as host_took}
 use Rattle.host_core.specs.Questions.{answered_on}
-use Rattle.world3270.specs.Always.{Always}
-use Rattle.world3270.specs.Happens.{closed_if, said, freed_if, came_up, left_alone, place_after, came_down, went_down, key_went, parted, term_saw, joined, term_anew, host_left_from, host_anew, done, happens, run}
-use Rattle.world3270.specs.Link.{Link, is_free, begun, cut, host_left, host_left_if, host_stepped, host_sent, term_left, term_left_if, term_stepped}
-use Rattle.world3270.specs.Placed.{has_place, free_number, may_connect, is_terminal}
-use Rattle.world3270.specs.Places.{EndsAgree}
-use Rattle.world3270.specs.Terminal.{Display, TermStep, new_display, after_key, key_came, took as term_took}
+use Rattle.world3270.specs.statement.Always.{Always}
+use Rattle.world3270.specs.model.Steps.{closed_if, said, freed_if, came_up, left_alone, place_after, came_down, went_down, key_went, parted, term_saw, joined, term_anew, host_left_from, host_anew, done, stepped_by, run}
+use Rattle.world3270.specs.model.Link.{Link, is_free, begun, cut, host_left, host_left_if, host_stepped, host_sent, term_left, term_left_if, term_stepped}
+use Rattle.world3270.specs.model.Enabled.{is_enabled, free_number, may_connect, is_terminal}
+use Rattle.world3270.specs.model.Places.{EndsAgree}
+use Rattle.world3270.specs.model.Terminal.{Display, TermStep, new_display, after_key, key_came, took as term_took}
 use Rattle.std.specs.Prelude.{is_some}
-use Rattle.world3270.specs.World.{Place, World, Event, new_world, link_count, with_at, with_link, display_at}
+use Rattle.world3270.specs.model.World.{Place, World, Event, new_world, link_count, with_at, with_link, display_at}
 use Rattle.world3270.proofs.OneOfMany.{differs}
 
 abbrev Agree : (ℕ → Link) → (ℕ → Place) → Type 0
@@ -196,7 +196,7 @@ joins_agrees app world terminal model wanted (Place.Alone display) may e a = joi
 
 -- ---- any event
 
-done_agrees : (app : Application) (event : Event) (world : World) → has_place app event world ≡ true → EndsAgree world → EndsAgree (done app event world)
+done_agrees : (app : Application) (event : Event) (world : World) → is_enabled app event world ≡ true → EndsAgree world → EndsAgree (done app event world)
 done_agrees app (Event.Press terminal key) world here a = key_went_agrees world terminal key (world.place terminal) refl a
 done_agrees app (Event.Up number) world here a = came_up_agrees world number (world.link number).up a
 done_agrees app (Event.Down number) world here a = went_down_agrees world number (world.link number).term_here refl a
@@ -211,16 +211,16 @@ done_agrees app (Event.Connect terminal wanted) world here a =
 done_agrees app (Event.RestartTerm terminal) world here a = term_anew_agrees app world terminal (world.place terminal) refl a
 done_agrees app Event.RestartHost world here a = host_anew_agrees world a
 
-happens_agrees : (app : Application) (event : Event) (world : World) → EndsAgree world → EndsAgree (happens app event world)
-happens_agrees app event world a = by_test (has_place app event world) refl
+happens_agrees : (app : Application) (event : Event) (world : World) → EndsAgree world → EndsAgree (stepped_by app event world)
+happens_agrees app event world a = by_test (is_enabled app event world) refl
   where
-    by_test : (b : Bool) → has_place app event world ≡ b → EndsAgree (if b then done app event world else world)
+    by_test : (b : Bool) → is_enabled app event world ≡ b → EndsAgree (if b then done app event world else world)
     by_test true here = done_agrees app event world here a
     by_test false here = a
 
 run_agrees : (app : Application) (events : List Event) (world : World) → EndsAgree world → EndsAgree (run app events world)
 run_agrees app [] world a = a
-run_agrees app (event ∷ events) world a = run_agrees app events (happens app event world) (happens_agrees app event world a)
+run_agrees app (event ∷ events) world a = run_agrees app events (stepped_by app event world) (happens_agrees app event world a)
 
 pub ends_agree : Always EndsAgree
 ends_agree app serves pool models events is lists few are = run_agrees app events (new_world app serves pool models) (λ terminal number. (λ e. absurd (cc), λ e. absurd (cc)))

@@ -5,17 +5,17 @@ use Rattle.tn3270e_msg.specs.declared.term_talk.TermState.TheVariants.{Waiting, 
 use Rattle.tn3270e_msg.specs.Header.{spelling}
 use Rattle.term_core.specs.Says.{outcome_code, response_header}
 use Rattle.term_core.specs.declared.outcome.Outcome.TheVariants as outcomes
-use Rattle.term_core.specs.State.{Link as Attachment, Attached, phase_of, talk_phase}
-use Rattle.host_core.specs.Session.{Conn}
-use Rattle.world3270.specs.ByteSteps.{Steps}
-use Rattle.world3270.specs.ByteWorld.{ByteWorld, host_there, is_there, slot_at, terminal_at}
-use Rattle.world3270.specs.Known.{KnownWorlds}
-use Rattle.world3270.specs.Places.{EndsAgree}
-use Rattle.world3270.specs.ProtocolErrors.{HasNotClosed, RefusalsAreNegative, RefusesNothing, WorldsHaveNoProtocolError, EventsMakeNoProtocolErrors}
-use Rattle.world3270.specs.Refines.{IsReached, StepsGoOn, after}
-use Rattle.world3270.specs.Standing.{WorldStands, IsAt, conn_of, tracked_of}
-use Rattle.world3270.specs.Unbroken.{NobodyCloses, TerminalsRefuseNothing}
-use Rattle.world3270.specs.World.{Place, World}
+use Rattle.term_core.specs.State.{Link as LinkValue, Attached, phase_of, talk_phase}
+use Rattle.host_core.specs.Session.{Session}
+use Rattle.world3270.specs.model.ByteSteps.{Steps}
+use Rattle.world3270.specs.model.ByteWorld.{ByteWorld, host_there, is_there, slot_at, terminal_at}
+use Rattle.world3270.specs.refinement.MessageLaws.{WorldLaws}
+use Rattle.world3270.specs.model.Places.{EndsAgree}
+use Rattle.world3270.specs.statement.ProtocolErrors.{HasNotClosed, RefusalsAreNegative, RefusesNothing, WorldsHaveNoProtocolError, EventsMakeNoProtocolErrors}
+use Rattle.world3270.specs.refinement.Refines.{IsReached, StepsGoOn, after}
+use Rattle.world3270.specs.refinement.Representation.{WorldRepresents, IsAt, conn_of, tracked_of}
+use Rattle.world3270.specs.statement.Unbroken.{NobodyCloses, TerminalsRefuseNothing}
+use Rattle.world3270.specs.model.World.{Place, World}
 use Rattle.world3270.specs.declared.event.Event.{Event}
 use Rattle.world3270.specs.declared.event.Event.TheVariants as event
 use Rattle.world3270.specs.declared.event.Stepped.{Stepped}
@@ -34,9 +34,9 @@ talk_open (Agreed lu) = tt
 talk_open (Refused reason) = tt
 talk_open (Closed cause) = tt
 
-terminal_open : (bytes : ByteWorld) (world : World) → WorldStands bytes world → EndsAgree world → (terminal : ℕ) (place : Place) → world.place terminal ≡ place
+terminal_open : (bytes : ByteWorld) (world : World) → WorldRepresents bytes world → EndsAgree world → (terminal : ℕ) (place : Place) → world.place terminal ≡ place
     → IsAt (slot_at terminal bytes) place → HasNotClosed (phase_of (slot_at terminal bytes).tracked.terminal.link)
-terminal_open bytes world stands agree terminal (Place.Alone display) is at = subst (λ (l : Attachment). HasNotClosed (phase_of l)) (sym at.1.detached) tt
+terminal_open bytes world stands agree terminal (Place.Alone display) is at = subst (λ (l : LinkValue). HasNotClosed (phase_of l)) (sym at.1.detached) tt
 terminal_open bytes world stands agree terminal (Place.At number) is at =
     let here : (world.link number).term_here ≡ Some terminal = (agree terminal number).0 is in
     let link = stands.links number in
@@ -44,12 +44,12 @@ terminal_open bytes world stands agree terminal (Place.At number) is at =
     let found : terminal_at number bytes.slots ≡ Some terminal = link.term_here ∙ here in
     let attached : (slot_at terminal bytes).tracked.terminal.link ≡ Attached term.rest term.holds.talk =
     sym (ap (λ (h : Option ℕ). (tracked_of h bytes).terminal.link) found) ∙ term.holds.attached in
-    subst (λ (l : Attachment). HasNotClosed (phase_of l)) (sym attached) (talk_open term.holds.talk.talk.state)
+    subst (λ (l : LinkValue). HasNotClosed (phase_of l)) (sym attached) (talk_open term.holds.talk.talk.state)
 
-pub worlds_have_no_error : KnownWorlds → WorldsHaveNoProtocolError
+pub worlds_have_no_error : WorldLaws → WorldsHaveNoProtocolError
 worlds_have_no_error known bytes is =
     let world : World = after is.begin is.events in
-    let stands : WorldStands bytes world = is.reached.stands in
+    let stands : WorldRepresents bytes world = is.reached.stands in
     let facts = facts_now known is.begin is.events bytes is.is_begin is.reached in
     record {
       hosts = stands.none_closed;
@@ -66,7 +66,7 @@ worlds_have_no_error known bytes is =
           let link = stands.links number in
           let there : host_there number bytes ≡ true = ap is_there open_there in
           let same : conn ≡ (world.link number).host = sym (ap conn_of open_there) ∙ (link.host (sym link.host_here ∙ there)).host in
-          facts.nobody_refuses.none_heard number (sym (ap (λ (c : Conn). c.turn) same) ∙ turn) (sym (ap (λ (c : Conn). c.turn_reason) same) ∙ reason);
+          facts.nobody_refuses.none_heard number (sym (ap (λ (c : Session). c.turn) same) ∙ turn) (sym (ap (λ (c : Session). c.turn_reason) same) ∙ reason);
     }
 
 -- ---- in steps

@@ -1,7 +1,7 @@
 -- What messages are under way; and what is said behind others is not nothing.
 use Rattle.std.proofs.Common.{◌≡◌, Bool, true, false, List, [], ◌∷◌, ◌++◌, refl, ap, sym, ◌∙◌, append_assoc, append-nil}
-use Rattle.world3270.specs.Link.{sent}
-use Rattle.world3270.specs.Moments.{UnderWay}
+use Rattle.world3270.specs.model.Link.{sent}
+use Rattle.world3270.specs.refinement.Phases.{UnderWay}
 
 -- what is sent is under way behind the rest
 pub more : {X : Type 0} (lost : Bool) (queue messages new : List X) → UnderWay lost queue messages → UnderWay lost (sent lost queue new) (messages ++ new)

@@ -7,7 +7,7 @@ use Rattle.codes3270.specs.Size.{Shape}
 use Rattle.codes3270.specs.declared.attribute.Cell.{Cell}
 use Rattle.codes3270.specs.declared.attribute.Cell.TheVariants.{Char, Attr}
 use Rattle.datastream.specs.Fields.{Field, fields}
-use Rattle.datastream.specs.Held.{Held, hold_under}
+use Rattle.datastream.specs.KeptByKeys.{KeptByKeys, hold_under}
 use Rattle.datastream.specs.HeldLaws.{HeldIsRound}
 use Rattle.datastream.specs.InboundFields.{buffer_data, cells_sent}
 use Rattle.datastream.specs.Screen.{Screen, is_char, last_attribute, text_before_attribute}
@@ -17,7 +17,7 @@ use Rattle.shadow.specs.Heard.{after_attention, heard, unknown_fact}
 use Rattle.shadow.specs.Laws.{Believed, HearsBuffer}
 use Rattle.shadow.specs.Meets.{KnownIs, Meets}
 use Rattle.shadow.specs.Pairs.{Pairwise}
-use Rattle.shadow.specs.Seen.{differs, is_other, known_chars, others, same_attr, seen}
+use Rattle.shadow.specs.AfterReadBuffer.{differs, is_other, known_chars, others, same_attr, seen}
 use Rattle.shadow.specs.declared.fault.HeardFault.TheVariants.{Contradiction}
 use Rattle.shadow.specs.declared.mdt_state.MdtState.TheVariants.{Unknown}
 use Rattle.datastream.proofs.FieldViews.{no_attribute, none_listed}
@@ -26,7 +26,7 @@ use Rattle.world3270.proofs.StillKept.{Alike, walked}
 -- ---- what is in doubt is compared as it was
 
 abbrev open_belief : Belief → Belief
-open_belief belief = record belief { mark = Unknown; fact = unknown_fact belief.length }
+open_belief belief = record belief { mdt = Unknown; fact = unknown_fact belief.length }
 
 abbrev other_if : Belief → Field → Bool → Bool → Bool
 other_if belief field guarded misses = not (field.place == belief.place) || not (same_attr field.attr belief.attr) || (guarded && misses)
@@ -59,7 +59,7 @@ bare_alike more (Char left ∷ lefts) (Attr now ∷ nows) alike bare = absurd al
 bare_alike more (Attr left ∷ lefts) (Char now ∷ nows) alike bare = absurd alike.0
 bare_alike more (Attr left ∷ lefts) (Attr now ∷ nows) alike bare = absurd (cc)
 
-pub still_unformatted : HeldIsRound → (erased : Bool) (left now : List Cell) → Held erased left now → fields left ≡ [] → fields now ≡ []
+pub still_unformatted : HeldIsRound → (erased : Bool) (left now : List Cell) → KeptByKeys erased left now → fields left ≡ [] → fields now ≡ []
 still_unformatted round erased left now held none =
     none_listed now 0 now (bare_alike erased left now (walked erased (hold_under erased (last_attribute now)) left now ((round erased left now).0 held)) (no_attribute left 0 left none))
 
@@ -69,7 +69,7 @@ any_text (char ∷ chars) = (tt, any_text chars)
 
 -- ---- it is heard
 
-pub reads_input : HeldIsRound → HearsBuffer → DoubtAllowsInput → (size : Shape) (erased : Bool) (shadow : Shadow) (left now : Screen) → Meets shadow left → Held erased left.cells now.cells
+pub reads_input : HeldIsRound → HearsBuffer → DoubtAllowsInput → (size : Shape) (erased : Bool) (shadow : Shadow) (left now : Screen) → Meets shadow left → KeptByKeys erased left.cells now.cells
     → IsOkAnd (heard (length now.cells) shadow (buffer_data size now)) (Believed false now)
 reads_input round reads doubt size erased Shadow.NothingKnown left now meets held = reads size Shadow.NothingKnown now tt
 reads_input round reads doubt size erased (Shadow.Unformatted known) left now meets held =

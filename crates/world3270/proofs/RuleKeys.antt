@@ -7,7 +7,7 @@ use Rattle.codes3270.specs.declared.attention.Aid.{Aid}
 use Rattle.codes3270.specs.declared.attention.Aid.TheVariants.{NoAid, Enter as EnterAid, Clear as ClearAid, Pf as PfAid, Pa as PaAid}
 use Rattle.codes3270.specs.declared.attribute.Cell.{Cell}
 use Rattle.codes3270.specs.declared.attribute.Cell.TheVariants.{Char as CharCell}
-use Rattle.datastream.specs.Held.{Held}
+use Rattle.datastream.specs.KeptByKeys.{KeptByKeys}
 use Rattle.datastream.specs.Screen.{Screen}
 use Rattle.keyboard.specs.Leaves.{erases, KeepsSent}
 use Rattle.keyboard.specs.State.{freed}
@@ -15,12 +15,12 @@ use Rattle.keyboard.specs.declared.key.Key.TheVariants.{Reset}
 use Rattle.keyboard.specs.declared.key.Lock.TheVariants.{Free, Wait}
 use Rattle.keyboard.specs.declared.key.Pressed.TheVariants.{Send}
 use Rattle.host_core.specs.Application.{Application}
-use Rattle.world3270.specs.Given.{Given}
-use Rattle.world3270.specs.Link.{Link, sent, term_stepped}
-use Rattle.world3270.specs.Rules.{after_sending, data_by, edited, shows, with_aid}
-use Rattle.world3270.specs.Stages.{Kept}
-use Rattle.world3270.specs.Terminal.{is_bound, bound_to, data_of}
-use Rattle.world3270.specs.View.{View, view_of}
+use Rattle.world3270.specs.refinement.LowerLaws.{LowerLaws}
+use Rattle.world3270.specs.model.Link.{Link, sent, term_stepped}
+use Rattle.world3270.specs.statement.Rules.{after_sending, data_by, edited, shows, with_aid}
+use Rattle.world3270.specs.refinement.Invariant.{Kept}
+use Rattle.world3270.specs.model.Terminal.{is_bound, bound_to, data_of}
+use Rattle.world3270.specs.refinement.View.{View, view_of}
 use Rattle.world3270.proofs.Keys.{TypingNow, seen_as, sends, stay, types_now}
 
 -- the connection once input was edited, at a terminal that takes keys
@@ -31,11 +31,11 @@ edited_link cells cursor erases link = term_stepped (shows (freed link.term.disp
 abbrev pub sent_link : Aid → Link → Link
 sent_link aid link = term_stepped (shows (record link.term.display.keyboard { lock = Wait }) (after_sending aid link.term.display) (data_by aid link.term) link.term) link.down link
 
-pub edits_kept : Given → (app : Application) (link : Link) (cells : List Cell) (cursor : ℕ) (erases : Bool) → Kept app (view_of link) → (link.term.display.keyboard.lock ≡ Wait → ⊥)
-    → Held erases link.term.display.screen.cells cells → cursor < length cells → Kept app (view_of (edited_link cells cursor erases link))
+pub edits_kept : LowerLaws → (app : Application) (link : Link) (cells : List Cell) (cursor : ℕ) (erases : Bool) → Kept app (view_of link) → (link.term.display.keyboard.lock ≡ Wait → ⊥)
+    → KeptByKeys erases link.term.display.screen.cells cells → cursor < length cells → Kept app (view_of (edited_link cells cursor erases link))
 edits_kept given app link cells cursor erases k free held on =
     let now : TypingNow given app link k = types_now given app link k free in
-    let whole : length cells ≡ cells_in link.term.display.shape = held.same_length ∙ k.whole in
+    let whole : length cells ≡ cells_in link.term.display.size = held.same_length ∙ k.whole in
     stay given app link Reset k now (record link.term.display.screen { cells = cells; cursor = cursor }) Free (link.term.display.erased || erases) whole (subst (λ n. cursor < n) whole on) (λ waits. absurd (cc))
     (given.keys.composes link.term.display.erased erases now.operates.shown.cells link.term.display.screen.cells cells now.operates.held held)
 
@@ -61,20 +61,20 @@ with_aid-cursor (PfAid key) screen size on = on
 with_aid-cursor (PaAid key) screen size on = on
 with_aid-cursor ClearAid screen size on = omega (arith, on)
 
-with_aid-keeps : (erased : Bool) (was : List Cell) (aid : Aid) (screen : Screen) → (aid ≡ NoAid → ⊥) → Held erased was screen.cells → KeepsSent erased aid was (with_aid aid screen).cells
+with_aid-keeps : (erased : Bool) (was : List Cell) (aid : Aid) (screen : Screen) → (aid ≡ NoAid → ⊥) → KeptByKeys erased was screen.cells → KeepsSent erased aid was (with_aid aid screen).cells
 with_aid-keeps erased was NoAid screen some held = absurd (some refl)
 with_aid-keeps erased was EnterAid screen some held = held
 with_aid-keeps erased was (PfAid key) screen some held = held
 with_aid-keeps erased was (PaAid key) screen some held = held
 with_aid-keeps erased was ClearAid screen some held = ap (λ (n : ℕ). replicate n (CharCell 0)) held.same_length
 
-pub sends_kept : Given → (app : Application) (link : Link) (aid : Aid) → Kept app (view_of link) → (link.term.display.keyboard.lock ≡ Wait → ⊥) → (aid ≡ NoAid → ⊥) → Kept app (view_of (sent_link aid link))
+pub sends_kept : LowerLaws → (app : Application) (link : Link) (aid : Aid) → Kept app (view_of link) → (link.term.display.keyboard.lock ≡ Wait → ⊥) → (aid ≡ NoAid → ⊥) → Kept app (view_of (sent_link aid link))
 sends_kept given app link aid k free some =
     let now : TypingNow given app link k = types_now given app link k free in
     let here : View = view_of link in
     let screen : Screen = with_aid aid link.term.display.screen in
     let bound : is_bound link.term ≡ true = ap (λ state. is_some (bound_to state)) now.at.term_talk in
-    subst (λ b. Kept app (seen_as here (sent here.lost here.up (data_of b (Send aid) here.shape screen)) screen Wait here.erased)) (sym bound)
+    subst (λ b. Kept app (seen_as here (sent here.lost here.up (data_of b (Send aid) here.size screen)) screen Wait here.erased)) (sym bound)
     (sends given app link k now.lu now.from now.shadow now.at now.same now.operates now.typing screen Wait here.erased aid (with_aid-whole aid link.term.display.screen ∙ k.whole)
-    (with_aid-cursor aid link.term.display.screen (cells_in here.shape) k.cursor) refl (with_aid-aid aid link.term.display.screen) some
+    (with_aid-cursor aid link.term.display.screen (cells_in here.size) k.cursor) refl (with_aid-aid aid link.term.display.screen) some
     (with_aid-keeps here.erased now.operates.shown.cells aid link.term.display.screen some now.operates.held))

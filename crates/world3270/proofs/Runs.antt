@@ -1,5 +1,5 @@
 -- All that is said of the example.
-use Rattle.world3270.specs.Example.{TheRunsEndSo}
+use Rattle.world3270.specs.examples.Example.{TheRunsEndSo}
 use Rattle.world3270.proofs.ExampleGiven.{is_application, is_pool}
 use Rattle.world3270.proofs.RunsOfEntries.{stored_run, reconnecting_run}
 use Rattle.world3270.proofs.RunsOfLosses.{losing_run}

@@ -5,12 +5,12 @@ use Rattle.keyboard.specs.Places.{onward, backward}
 use Rattle.keyboard.specs.declared.key.Key.TheVariants as key
 use Rattle.shadow.specs.Belief.{Fact}
 use Rattle.tn3270e_msg.specs.Device.{device_of}
-use Rattle.world3270.specs.ExampleApplication.{example, small, tall}
-use Rattle.world3270.specs.ExampleEnds.{rounds, settle, connects, presses, connected, after, end_on, bound_and_shows, refused_l1, name_place, letter_place, Decides, wanted_of}
-use Rattle.world3270.specs.ExampleRuns.{incomplete_entry, asking_again, answered_again, complete_entry, lost_entry, connected_again, entered_again, kept_sign_on, StoredRun, ReconnectingRun}
-use Rattle.world3270.specs.ExampleScreens.{fresh_sign_on, lettered_sign_on, greeting_seen, required_name}
-use Rattle.world3270.specs.Happens.{run}
-use Rattle.world3270.specs.World.{World, Event}
+use Rattle.world3270.specs.examples.ExampleApplication.{example, small, tall}
+use Rattle.world3270.specs.examples.ExampleEnds.{rounds, settle, connects, presses, connected, after, end_on, bound_and_shows, refused_l1, name_place, letter_place, Decides, wanted_of}
+use Rattle.world3270.specs.examples.ExampleRuns.{incomplete_entry, asking_again, answered_again, complete_entry, lost_entry, connected_again, entered_again, kept_sign_on, StoredRun, ReconnectingRun}
+use Rattle.world3270.specs.examples.ExampleScreens.{fresh_sign_on, lettered_sign_on, greeting_seen, required_name}
+use Rattle.world3270.specs.model.Steps.{run}
+use Rattle.world3270.specs.model.World.{World, Event}
 use Rattle.world3270.proofs.ExampleGiven.{is_well_formed, is_well_noted, are_events}
 use Rattle.world3270.proofs.SignedOn.{request_taken, agreement_taken, acted_on, agree, IsRequested, IsAgreed, agreeing, start, asks, signed, is_signed, once_signed, facts, at_turn, decided}
 

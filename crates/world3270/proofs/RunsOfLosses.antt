@@ -3,13 +3,13 @@ use Rattle.std.proofs.Common.{◌≡◌, List, [], ◌∷◌, ◌++◌, true, re
 use Rattle.keyboard.specs.Places.{onward, backward}
 use Rattle.keyboard.specs.declared.key.Key.TheVariants as key
 use Rattle.tn3270e_msg.specs.Device.{device_of}
-use Rattle.world3270.specs.ExampleApplication.{example, small}
-use Rattle.world3270.specs.ExampleEnds.{presses, after, end_on, bound_and_shows}
-use Rattle.world3270.specs.ExampleLosses.{noted_typing, noted_lost, left_typing, remains_in, waits_noted, LosingRun}
-use Rattle.world3270.specs.ExampleNotes.{hello, hello_seen}
-use Rattle.world3270.specs.ExampleScreens.{typing_sign_on}
-use Rattle.world3270.specs.Placed.{is_skipped}
-use Rattle.world3270.specs.World.{Event}
+use Rattle.world3270.specs.examples.ExampleApplication.{example, small}
+use Rattle.world3270.specs.examples.ExampleEnds.{presses, after, end_on, bound_and_shows}
+use Rattle.world3270.specs.examples.ExampleLosses.{noted_typing, noted_lost, left_typing, remains_in, waits_noted, LosingRun}
+use Rattle.world3270.specs.examples.ExampleNotes.{hello, hello_seen}
+use Rattle.world3270.specs.examples.ExampleScreens.{typing_sign_on}
+use Rattle.world3270.specs.model.Enabled.{is_skipped}
+use Rattle.world3270.specs.model.World.{Event}
 use Rattle.world3270.proofs.ExampleGiven.{is_well_formed, is_well_noted, are_events}
 use Rattle.world3270.proofs.SignedOn.{request_taken, agreement_taken, acted_on, agree, start, asks, signed, once_signed}
 

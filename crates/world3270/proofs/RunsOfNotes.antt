@@ -5,12 +5,12 @@ use Rattle.keyboard.specs.Places.{onward, backward}
 use Rattle.keyboard.specs.declared.key.Key.TheVariants as key
 use Rattle.shadow.specs.Belief.{Fact}
 use Rattle.tn3270e_msg.specs.Device.{device_of}
-use Rattle.world3270.specs.ExampleApplication.{example, small, tall}
-use Rattle.world3270.specs.ExampleEnds.{settle, presses, after, end_on, bound_and_shows, name_place, shown_by, Decides}
-use Rattle.world3270.specs.ExampleNotes.{hello, bye, noted_entry, crossed_entry, crossed_heard, answered_entry, crossed_clear, answered_clear, hello_seen, entered_under_bye, greeted, NotesRun}
-use Rattle.world3270.specs.ExampleScreens.{fresh_sign_on, typing_sign_on, unformatted}
-use Rattle.world3270.specs.Placed.{is_skipped}
-use Rattle.world3270.specs.World.{Event}
+use Rattle.world3270.specs.examples.ExampleApplication.{example, small, tall}
+use Rattle.world3270.specs.examples.ExampleEnds.{settle, presses, after, end_on, bound_and_shows, name_place, shown_by, Decides}
+use Rattle.world3270.specs.examples.ExampleNotes.{hello, bye, noted_entry, crossed_entry, crossed_heard, answered_entry, crossed_clear, answered_clear, hello_seen, entered_under_bye, greeted, NotesRun}
+use Rattle.world3270.specs.examples.ExampleScreens.{fresh_sign_on, typing_sign_on, unformatted}
+use Rattle.world3270.specs.model.Enabled.{is_skipped}
+use Rattle.world3270.specs.model.World.{Event}
 use Rattle.world3270.proofs.ExampleGiven.{is_well_formed, is_well_noted, are_events}
 use Rattle.world3270.proofs.SignedOn.{request_taken, agreement_taken, acted_on, agree, start, asks, signed, once_signed, facts, at_turn, decided}
 

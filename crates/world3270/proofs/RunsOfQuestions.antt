@@ -6,12 +6,12 @@ use Rattle.host_core.specs.Application.{message_place}
 use Rattle.keyboard.specs.Places.{onward, backward}
 use Rattle.keyboard.specs.declared.key.Key.TheVariants as key
 use Rattle.tn3270e_msg.specs.Device.{device_of}
-use Rattle.world3270.specs.AsLeft.{ProtectedIsAsLeft}
-use Rattle.world3270.specs.ExampleApplication.{small, tall}
-use Rattle.world3270.specs.ExampleEnds.{settle, presses, after, end_on, bound_and_shows}
-use Rattle.world3270.specs.ExampleQuestions.{another_sign_on, asked_entry, again, answered_again, left_on, renamed, answered_on, asked_in, question, kept_sign_on, AskingRun}
-use Rattle.world3270.specs.ExampleScreens.{fresh_sign_on, greeting_seen}
-use Rattle.world3270.specs.World.{Event}
+use Rattle.world3270.specs.statement.AsLeft.{ProtectedIsAsLeft}
+use Rattle.world3270.specs.examples.ExampleApplication.{small, tall}
+use Rattle.world3270.specs.examples.ExampleEnds.{settle, presses, after, end_on, bound_and_shows}
+use Rattle.world3270.specs.examples.ExampleQuestions.{another_sign_on, asked_entry, again, answered_again, left_on, renamed, answered_on, asked_in, question, kept_sign_on, AskingRun}
+use Rattle.world3270.specs.examples.ExampleScreens.{fresh_sign_on, greeting_seen}
+use Rattle.world3270.specs.model.World.{Event}
 use Rattle.world3270.proofs.ExampleGiven.{is_well_formed, is_well_noted, are_events}
 use Rattle.world3270.proofs.SignedOn.{request_taken, agreement_taken, acted_on, agree, start, asks, signed, once_signed}
 

@@ -1,16 +1,16 @@
 -- The runs of the example in which the host reads the screen, computed.
 use Rattle.std.proofs.Common.{◌≡◌, List, [], ◌∷◌, ◌++◌, refl, Some}
-use Rattle.world3270.specs.ExampleApplication.{small}
+use Rattle.world3270.specs.examples.ExampleApplication.{small}
 use Rattle.codes3270.specs.declared.attention.Aid.TheVariants.{Enter, Pa}
 use Rattle.keyboard.specs.Places.{onward, backward}
 use Rattle.keyboard.specs.declared.key.Key.TheVariants as key
 use Rattle.shadow.specs.Belief.{Fact}
 use Rattle.tn3270e_msg.specs.Device.{device_of}
 use Rattle.host_core.specs.Messages.{ToTerminal}
-use Rattle.world3270.specs.ExampleEnds.{settle, presses, after, end_on, bound_and_shows, letter_place, Reads, Decides}
-use Rattle.world3270.specs.ExampleReads.{inactive_key, letter_read, answered_inactive, erased_letter, answered_erased, erased_entry, doubtful, nulls_read, answered_nulls, ReadingRun, DoubtingRun}
-use Rattle.world3270.specs.ExampleScreens.{lettered_sign_on, erased_sign_on, key_not_active}
-use Rattle.world3270.specs.World.{Event}
+use Rattle.world3270.specs.examples.ExampleEnds.{settle, presses, after, end_on, bound_and_shows, letter_place, Reads, Decides}
+use Rattle.world3270.specs.examples.ExampleReads.{inactive_key, letter_read, answered_inactive, erased_letter, answered_erased, erased_entry, doubtful, nulls_read, answered_nulls, ReadingRun, DoubtingRun}
+use Rattle.world3270.specs.examples.ExampleScreens.{lettered_sign_on, erased_sign_on, key_not_active}
+use Rattle.world3270.specs.model.World.{Event}
 use Rattle.world3270.proofs.ExampleGiven.{is_well_formed, is_well_noted, are_events}
 use Rattle.world3270.proofs.SignedOn.{request_taken, agreement_taken, acted_on, agree, start, asks, signed, once_signed, facts, at_turn, decided}
 

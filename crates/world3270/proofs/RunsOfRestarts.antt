@@ -5,14 +5,14 @@ use Rattle.keyboard.specs.Places.{onward, backward}
 use Rattle.keyboard.specs.declared.key.Key.TheVariants as key
 use Rattle.shadow.specs.Belief.{Shadow}
 use Rattle.tn3270e_msg.specs.Device.{device_of}
-use Rattle.world3270.specs.ExampleApplication.{example, small}
-use Rattle.world3270.specs.ExampleEnds.{rounds, settle, presses, connected, after, end_on, bound_and_shows, name_place, shown_by, apart}
-use Rattle.world3270.specs.ExampleRestarts.{cleared_entry, answered_clear, terminal_anew, loss_seen, back_at_host, host_anew, back_at_new_host, alone, host_waits, host_left, RestartingRun}
-use Rattle.world3270.specs.ExampleScreens.{fresh_sign_on, unformatted, no_message}
-use Rattle.world3270.specs.Happens.{run}
-use Rattle.world3270.specs.World.{Place, World, Event}
-use Rattle.world3270.specs.Headline.{IsHostsTurn}
-use Rattle.world3270.specs.Seen.{seen_link}
+use Rattle.world3270.specs.examples.ExampleApplication.{example, small}
+use Rattle.world3270.specs.examples.ExampleEnds.{rounds, settle, presses, connected, after, end_on, bound_and_shows, name_place, shown_by, apart}
+use Rattle.world3270.specs.examples.ExampleRestarts.{cleared_entry, answered_clear, terminal_anew, loss_seen, back_at_host, host_anew, back_at_new_host, alone, host_waits, host_left, RestartingRun}
+use Rattle.world3270.specs.examples.ExampleScreens.{fresh_sign_on, unformatted, no_message}
+use Rattle.world3270.specs.model.Steps.{run}
+use Rattle.world3270.specs.model.World.{Place, World, Event}
+use Rattle.world3270.specs.statement.Headline.{IsHostsTurn}
+use Rattle.world3270.specs.statement.Observation.{seen_link}
 use Rattle.world3270.proofs.ExampleGiven.{is_well_formed, is_well_noted, are_events}
 use Rattle.world3270.proofs.SignedOn.{request_taken, agreement_taken, acted_on, agree, IsRequested, IsAgreed, agreeing, start, asks, signed, is_signed, once_signed, facts, at_turn, turned}
 

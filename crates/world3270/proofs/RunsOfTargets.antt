@@ -1,13 +1,13 @@
 -- The run of the example with keys that lead on, computed.
 use Rattle.std.proofs.Common.{◌≡◌, List, [], ◌∷◌, ◌++◌, refl}
-use Rattle.world3270.specs.ExampleApplication.{small, tall}
+use Rattle.world3270.specs.examples.ExampleApplication.{small, tall}
 use Rattle.keyboard.specs.Places.{onward, backward}
 use Rattle.keyboard.specs.declared.key.Key.TheVariants as key
 use Rattle.tn3270e_msg.specs.Device.{device_of}
-use Rattle.world3270.specs.ExampleEnds.{settle, presses, after, end_on, bound_and_shows}
-use Rattle.world3270.specs.ExampleScreens.{fresh_sign_on, greeting_seen}
-use Rattle.world3270.specs.ExampleTargets.{skipped_entry, cleared_greeting, LeadingRun}
-use Rattle.world3270.specs.World.{Event}
+use Rattle.world3270.specs.examples.ExampleEnds.{settle, presses, after, end_on, bound_and_shows}
+use Rattle.world3270.specs.examples.ExampleScreens.{fresh_sign_on, greeting_seen}
+use Rattle.world3270.specs.examples.ExampleTargets.{skipped_entry, cleared_greeting, LeadingRun}
+use Rattle.world3270.specs.model.World.{Event}
 use Rattle.world3270.proofs.ExampleGiven.{is_well_formed, is_well_noted, are_events}
 use Rattle.world3270.proofs.SignedOn.{request_taken, agreement_taken, acted_on, agree, start, asks, signed, once_signed}
 

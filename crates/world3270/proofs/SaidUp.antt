@@ -23,14 +23,14 @@ use Rattle.host_core.specs.Notes.{noted}
 use Rattle.host_core.specs.Takes.{HostStep, pool_after, took as host_took}
 use Rattle.host_core.specs.Questions.{answered_on}
 use Rattle.host_core.specs.declared.terminals.Terminals.{Terminals}
-use Rattle.world3270.specs.Happens.{closed_if, said, came_up, place_after, came_down, went_down, key_went, term_saw, joined, term_anew, host_left_from, done, happens, run}
-use Rattle.world3270.specs.Link.{Link, sent as sent_on, host_left, host_left_if, host_stepped, host_sent, term_left, term_left_if, term_stepped, begun}
-use Rattle.world3270.specs.Placed.{has_place, free_number}
-use Rattle.world3270.specs.StandsEnds.{IsSaid, NamesWanted}
-use Rattle.world3270.specs.Terminal.{TermEnd, TermStep, is_bound, once_bound, outcome_of, data_of, key_came, took as term_took}
-use Rattle.world3270.specs.World.{Place, World, Event, IsEvent, AreEvents, new_world, with_at, display_at}
+use Rattle.world3270.specs.model.Steps.{closed_if, said, came_up, place_after, came_down, went_down, key_went, term_saw, joined, term_anew, host_left_from, done, stepped_by, run}
+use Rattle.world3270.specs.model.Link.{Link, sent as sent_on, host_left, host_left_if, host_stepped, host_sent, term_left, term_left_if, term_stepped, begun}
+use Rattle.world3270.specs.model.Enabled.{is_enabled, free_number}
+use Rattle.world3270.specs.refinement.RepresentsEnds.{IsSaid, NamesWanted}
+use Rattle.world3270.specs.model.Terminal.{TermEnd, TermStep, is_bound, once_bound, outcome_of, data_of, key_came, took as term_took}
+use Rattle.world3270.specs.model.World.{Place, World, Event, IsEvent, AreEvents, new_world, with_at, display_at}
 use Rattle.world3270.proofs.OneOfMany.{all_with}
-use Rattle.world3270.proofs.StandsFits.{Fits, answer_fits}
+use Rattle.world3270.proofs.RepresentsFits.{Fits, answer_fits}
 
 -- what is said of LUs is their names
 abbrev pub IsSaidUp : ToHost → Type 0
@@ -179,7 +179,7 @@ key_named world terminal key (Place.At number) h =
     let outcome = outcome_of key link.term.display in
     changed number (term_stepped (key_came key link.term) link.down link) world.link
     (stepped_named (key_came key link.term) link.down link
-    (record { wanted = (h number).wanted; sends = data_said (is_bound link.term) outcome.answer link.term.display.shape outcome.screen }) (h number)) h
+    (record { wanted = (h number).wanted; sends = data_said (is_bound link.term) outcome.answer link.term.display.size outcome.screen }) (h number)) h
 key_named world terminal key (Place.Alone display) h = h
 
 parted_named : (world : World) (number : ℕ) → AreNamed world.link → AreNamed (with_at number (term_left (world.link number)) world.link)
@@ -220,8 +220,8 @@ done_named app (Event.Connect terminal wanted) world is h = joined_named app wor
 done_named app (Event.RestartTerm terminal) world is h = anew_named app world terminal (world.place terminal) h
 done_named app Event.RestartHost world is h = λ number. left_named (world.link number) (h number)
 
-happens_named : (app : Application) (event : Event) (world : World) → IsEvent event → AreNamed world.link → AreNamed (happens app event world).link
-happens_named app event world is h = by_test (has_place app event world)
+happens_named : (app : Application) (event : Event) (world : World) → IsEvent event → AreNamed world.link → AreNamed (stepped_by app event world).link
+happens_named app event world is h = by_test (is_enabled app event world)
   where
     by_test : (b : Bool) → AreNamed (if b then done app event world else world).link
     by_test true = done_named app event world is h
@@ -229,7 +229,7 @@ happens_named app event world is h = by_test (has_place app event world)
 
 run_named : (app : Application) (events : List Event) (world : World) → AreEvents events → AreNamed world.link → AreNamed (run app events world).link
 run_named app [] world are h = h
-run_named app (event ∷ events) world are h = run_named app events (happens app event world) are.1 (happens_named app event world are.0 h)
+run_named app (event ∷ events) world are h = run_named app events (stepped_by app event world) are.1 (happens_named app event world are.0 h)
 
 -- Whatever comes up is said so, in any world that a list of events leads to.
 pub all_said_up : (app : Application) (serves : Terminals) (pool : List Entry) (models : List Model) (events : List Event) → AreEvents events

@@ -25,31 +25,31 @@ use Rattle.host_core.specs.Messages.{ToTerminal, ToHost}
 use Rattle.host_core.specs.Notes.{may_note, noted, noted_as}
 use Rattle.host_core.specs.Questions.{act_by, answered_by, answered_on, has_its_panel, is_asking, is_ticket, ticket_of}
 use Rattle.host_core.specs.Rejections.{lu_asked}
-use Rattle.host_core.specs.Session.{Conn, Pending, is_agreed}
+use Rattle.host_core.specs.Session.{Session, Pending, is_agreed}
 use Rattle.host_core.specs.State.{Service, service_at, session_at}
 use Rattle.host_core.specs.Takes.{Answers, asked, talked_on, took as host_took}
-use Rattle.host_core.specs.declared.question.Answer.{Answer as Said}
+use Rattle.host_core.specs.declared.question.Answer.{Answer as ApplicationAnswer}
 use Rattle.host_core.specs.declared.question.Ticket.{Ticket}
 use Rattle.host_core.specs.declared.turn.Turn.{Turn}
 use Rattle.host_core.specs.declared.turn.Turn.TheVariants as whose
-use Rattle.world3270.specs.Always.{AlwaysOf}
-use Rattle.world3270.specs.ByteSteps.{HappensIf, Steps, has_place as has_byte_place, is_link as is_byte_link}
-use Rattle.world3270.specs.ByteWorld.{ByteWorld}
-use Rattle.world3270.specs.Given.{Given}
-use Rattle.world3270.specs.Happens.{done, happens, run}
-use Rattle.world3270.specs.Link.{Link, host_sent, sent, term_stepped}
-use Rattle.world3270.specs.Moments.{Moment, Serving, Talking, down_at, pending_at, talk_down, talk_up, turn_at, up_at}
-use Rattle.world3270.specs.Placed.{has_place, host_acts, host_is_answered, is_link}
-use Rattle.world3270.specs.Refines.{Begin, GoesOn, IsBegin, IsTicketAt, Reached, SkipsAreThose, StepsGoOn, after}
-use Rattle.world3270.specs.ScreensFound.{DecisionsAreShownOverBytes, OtherTextsAreNotShown, IsFound, PaintsFindTheScreen, decides_over}
-use Rattle.world3270.specs.Seen.{SeenLink, TerminalSeen, end_seen, seen_link, terminal_seen}
-use Rattle.world3270.specs.Shown.{IsPanelShown, PanelIsShownOverBytes, is_painting}
-use Rattle.world3270.specs.ShownFields.{OtherTextsAreNot}
-use Rattle.world3270.specs.ShownSince.{decides}
-use Rattle.world3270.specs.Stages.{Fact, Kept, scene_of}
-use Rattle.world3270.specs.Terminal.{Display, TermStep, is_bound, key_came, note_came, once_bound, outcome_of, paint_came, read_came, took as term_took}
-use Rattle.world3270.specs.View.{View, view_of}
-use Rattle.world3270.specs.World.{Event, World, new_world, with_at}
+use Rattle.world3270.specs.statement.Always.{AlwaysOf}
+use Rattle.world3270.specs.model.ByteSteps.{IsStepIf, Steps, is_enabled as is_enabled_over_bytes, is_link as is_byte_link}
+use Rattle.world3270.specs.model.ByteWorld.{ByteWorld}
+use Rattle.world3270.specs.refinement.LowerLaws.{LowerLaws}
+use Rattle.world3270.specs.model.Steps.{done, stepped_by, run}
+use Rattle.world3270.specs.model.Link.{Link, host_sent, sent, term_stepped}
+use Rattle.world3270.specs.refinement.Phases.{LinkPhase, Serving, Talking, down_at, pending_at, talk_down, talk_up, turn_at, up_at}
+use Rattle.world3270.specs.model.Enabled.{is_enabled, host_acts, host_is_answered, is_link}
+use Rattle.world3270.specs.refinement.Refines.{Begin, GoesOn, IsBegin, IsTicketAt, Reached, SkipsAreThose, StepsGoOn, after}
+use Rattle.world3270.specs.statement.ScreensFound.{DecisionsAreShownOverBytes, OtherTextsAreNotShown, IsFound, PaintsFindTheScreen, decides_over}
+use Rattle.world3270.specs.statement.Observation.{SeenLink, TerminalSeen, end_seen, seen_link, terminal_seen}
+use Rattle.world3270.specs.statement.Shown.{IsPanelShown, PanelIsShownOverBytes, is_painting}
+use Rattle.world3270.specs.statement.ShownFields.{OtherTextsAreNot}
+use Rattle.world3270.specs.statement.ShownSince.{decides}
+use Rattle.world3270.specs.refinement.Invariant.{Fact, Kept, local_state_of}
+use Rattle.world3270.specs.model.Terminal.{Display, TermStep, is_bound, key_came, note_came, once_bound, outcome_of, paint_came, read_came, took as term_took}
+use Rattle.world3270.specs.refinement.View.{View, view_of}
+use Rattle.world3270.specs.model.World.{Event, World, new_world, with_at}
 use Rattle.world3270.specs.declared.event.Event.{Event as ByteEvent}
 use Rattle.world3270.specs.declared.event.Event.TheVariants as event
 use Rattle.world3270.specs.declared.event.Stepped.TheVariants as stepped
@@ -57,7 +57,7 @@ use Rattle.world3270.proofs.Acting.{asking_parts, may_act_when}
 use Rattle.world3270.proofs.Headline.{terminal_attached}
 use Rattle.world3270.proofs.HostSteps.{just_talks}
 use Rattle.world3270.proofs.Known.{after_more}
-use Rattle.world3270.proofs.SeenStands.{same_seen}
+use Rattle.world3270.proofs.SeenRepresents.{same_seen}
 use Rattle.world3270.proofs.ShownSince.{stands_at, still_waits}
 use Rattle.world3270.proofs.Undecided.{Keeps, rests_hold, rests_hold_over}
 use Rattle.world3270.proofs.Worlds.{new_good, run_good}
@@ -184,7 +184,7 @@ record FindsOn (was now : Link) : Type 0 where
   finds : Finds was.term.display.screen now.term.display now.host.pending now.down now.up
 
 -- what is said to the talk leaves the command that waits for its answer
-asks_pending : (conn : Conn) (lu : Option (List ℕ)) (talk : Talk HostState) (answer : Result (List ℕ) Reason) (state : HostState) → (asked conn lu talk answer state).conn.pending ≡ conn.pending
+asks_pending : (conn : Session) (lu : Option (List ℕ)) (talk : Talk HostState) (answer : Result (List ℕ) Reason) (state : HostState) → (asked conn lu talk answer state).conn.pending ≡ conn.pending
 asks_pending conn lu talk answer (Asking device) = refl
 asks_pending conn lu talk answer Offered = refl
 asks_pending conn lu talk answer Asked = refl
@@ -193,7 +193,7 @@ asks_pending conn lu talk answer (Countered device granted) = refl
 asks_pending conn lu talk answer (Agreed device granted) = refl
 asks_pending conn lu talk answer (Closed cause) = refl
 
-talks_pending : (pool : Answers) (conn : Conn) (lu : Option (List ℕ)) (talk : Talk HostState) (answer : Reply) → (talked_on pool conn lu talk answer).conn.pending ≡ conn.pending
+talks_pending : (pool : Answers) (conn : Session) (lu : Option (List ℕ)) (talk : Talk HostState) (answer : Reply) → (talked_on pool conn lu talk answer).conn.pending ≡ conn.pending
 talks_pending pool conn lu talk (reply.AskPool name) = asks_pending conn lu talk (pool name) talk.state
 talks_pending pool conn lu talk reply.Nothing = refl
 talks_pending pool conn lu talk (reply.Opt verb code) = refl
@@ -202,7 +202,7 @@ talks_pending pool conn lu talk reply.Agreed = refl
 talks_pending pool conn lu talk (reply.Refused reason) = refl
 talks_pending pool conn lu talk (reply.Close cause) = refl
 
-said_pending : (pool : Answers) (conn : Conn) (saying : Saying) → (host_took pool conn (ToHost.TalksUp saying)).conn.pending ≡ conn.pending
+said_pending : (pool : Answers) (conn : Session) (saying : Saying) → (host_took pool conn (ToHost.TalksUp saying)).conn.pending ≡ conn.pending
 said_pending pool conn saying =
     let next : Talk HostState × Reply = follow Closed conn.talk (host_transition conn.talk.state (says saying)) in
     talks_pending pool conn (lu_asked (says saying)) next.0 next.1
@@ -255,7 +255,7 @@ module _ (was : Screen) where
   finds_key key link (Finds.awaited lock screen pends paint up) =
       let still = still_waits key link.term.display lock in
       Finds.awaited still.lock (still.same ∙ screen) pends paint
-      (nothing_sent AreTalkUp link.lost link.up (key_came key link.term).sends (still.silent (is_bound link.term) link.term.display.shape (outcome_of key link.term.display).screen) up)
+      (nothing_sent AreTalkUp link.lost link.up (key_came key link.term).sends (still.silent (is_bound link.term) link.term.display.size (outcome_of key link.term.display).screen) up)
   finds_key key link (Finds.taken before none) = Finds.taken before none
 
   -- while a paint waits for its answer no note is sent
@@ -316,23 +316,23 @@ talk_is_quiet model wanted (Talking.Agreeing lu) lock is = record { waits = is; 
 talk_is_quiet model wanted (Talking.Rejecting reason) lock is = record { waits = is; goes_down = tt; goes_up = tt }
 talk_is_quiet model wanted (Talking.Rejected reason) lock is = record { waits = is; goes_down = tt; goes_up = tt }
 
-quiet_by : (wanted : Option (List ℕ)) (v : View) (moment : Moment) → Fact wanted (scene_of v) moment → turn_at moment ≡ whose.Host → pending_at moment ≡ Pending.Nothing
+quiet_by : (wanted : Option (List ℕ)) (v : View) (moment : LinkPhase) → Fact wanted (local_state_of v) moment → turn_at moment ≡ whose.Host → pending_at moment ≡ Pending.Nothing
     → IsQuiet v.lock (down_at v.model moment) (up_at v.model wanted moment)
-quiet_by wanted v (Moment.Talks talking) f t p = talk_is_quiet v.model wanted talking v.lock f.0.lock
-quiet_by wanted v (Moment.Begins lu number command wants over) f t p = absurd (cc)
-quiet_by wanted v (Moment.Serves lu Serving.Deciding) f t p = record { waits = f.lock; goes_down = tt; goes_up = tt }
-quiet_by wanted v (Moment.Serves lu (Serving.Reading number)) f t p = absurd (cc)
-quiet_by wanted v (Moment.Serves lu (Serving.Reported number parts)) f t p = absurd (cc)
-quiet_by wanted v (Moment.Serves lu (Serving.NotedLate number command)) f t p = absurd (cc)
-quiet_by wanted v (Moment.Serves lu (Serving.AnsweredLate number command)) f t p = absurd (cc)
-quiet_by wanted v (Moment.Serves lu (Serving.Painting number command wants over)) f t p = absurd (cc)
-quiet_by wanted v (Moment.Serves lu (Serving.Answering kind number command)) f t p = absurd (cc)
-quiet_by wanted v (Moment.Serves lu Serving.Operating) f t p = absurd (cc)
-quiet_by wanted v (Moment.Serves lu (Serving.Noting number command)) f t p = absurd (cc)
-quiet_by wanted v (Moment.Serves lu (Serving.KeyAlone parts)) f t p = absurd (cc)
-quiet_by wanted v (Moment.Serves lu (Serving.KeyBehind kind number command parts)) f t p = absurd (cc)
-quiet_by wanted v (Moment.Serves lu (Serving.KeyNoted number command parts)) f t p = absurd (cc)
-quiet_by wanted v (Moment.Serves lu (Serving.KeyBefore number command parts)) f t p = absurd (cc)
+quiet_by wanted v (LinkPhase.Talks talking) f t p = talk_is_quiet v.model wanted talking v.lock f.0.lock
+quiet_by wanted v (LinkPhase.Begins lu number command wants over) f t p = absurd (cc)
+quiet_by wanted v (LinkPhase.Serves lu Serving.Deciding) f t p = record { waits = f.lock; goes_down = tt; goes_up = tt }
+quiet_by wanted v (LinkPhase.Serves lu (Serving.Reading number)) f t p = absurd (cc)
+quiet_by wanted v (LinkPhase.Serves lu (Serving.Reported number parts)) f t p = absurd (cc)
+quiet_by wanted v (LinkPhase.Serves lu (Serving.NotedLate number command)) f t p = absurd (cc)
+quiet_by wanted v (LinkPhase.Serves lu (Serving.AnsweredLate number command)) f t p = absurd (cc)
+quiet_by wanted v (LinkPhase.Serves lu (Serving.Painting number command wants over)) f t p = absurd (cc)
+quiet_by wanted v (LinkPhase.Serves lu (Serving.Answering kind number command)) f t p = absurd (cc)
+quiet_by wanted v (LinkPhase.Serves lu Serving.Operating) f t p = absurd (cc)
+quiet_by wanted v (LinkPhase.Serves lu (Serving.Noting number command)) f t p = absurd (cc)
+quiet_by wanted v (LinkPhase.Serves lu (Serving.KeyAlone parts)) f t p = absurd (cc)
+quiet_by wanted v (LinkPhase.Serves lu (Serving.KeyBehind kind number command parts)) f t p = absurd (cc)
+quiet_by wanted v (LinkPhase.Serves lu (Serving.KeyNoted number command parts)) f t p = absurd (cc)
+quiet_by wanted v (LinkPhase.Serves lu (Serving.KeyBefore number command parts)) f t p = absurd (cc)
 
 is_quiet : (app : Application) (link : Link) → Kept app (view_of link) → link.host.turn ≡ whose.Host → link.host.pending ≡ Pending.Nothing → IsQuiet link.term.display.keyboard.lock link.down link.up
 is_quiet app link k turns pends =
@@ -344,13 +344,13 @@ is_quiet app link k turns pends =
     }
 
 -- what the host sends by a decision
-record IsSent (app : Application) (conn : Conn) (sending : Sent) : Type 0 where
+record IsSent (app : Application) (conn : Session) (sending : Sent) : Type 0 where
   act : Act
   is : sending ≡ done_act app conn act
   turns : conn.turn ≡ whose.Host
   pends : conn.pending ≡ Pending.Nothing
 
-acts_in_turn : (app : Application) (conn : Conn) → is_some (acted app conn) ≡ true → (sending : Sent) × (acted app conn ≡ Some sending) × IsSent app conn sending
+acts_in_turn : (app : Application) (conn : Session) → is_some (acted app conn) ≡ true → (sending : Sent) × (acted app conn ≡ Some sending) × IsSent app conn sending
 acts_in_turn app conn some = by_test (may_act conn.turn conn.pending (is_agreed conn.talk.state)) (decision_on app conn conn.turn_reason) refl some
   where
     by_test : (b : Bool) (decision : Decision) → may_act conn.turn conn.pending (is_agreed conn.talk.state) ≡ b → is_some (option_and_then (decided app conn) (if b then Some decision else None)) ≡ true
@@ -361,7 +361,7 @@ acts_in_turn app conn some = by_test (may_act conn.turn conn.pending (is_agreed 
     by_test true Decision.Asks may some = absurd (cc)
     by_test false decision may some = absurd (cc)
 
-answered_in_turn : (app : Application) (conn : Conn) (said : Said) → is_some (answered_on app conn said) ≡ true → (sending : Sent) × (answered_on app conn said ≡ Some sending) × IsSent app conn sending
+answered_in_turn : (app : Application) (conn : Session) (said : ApplicationAnswer) → is_some (answered_on app conn said) ≡ true → (sending : Sent) × (answered_on app conn said ≡ Some sending) × IsSent app conn sending
 answered_in_turn app conn said some = by_test (is_asking app conn && has_its_panel app said) refl some
   where
     by_test : (b : Bool) → (is_asking app conn && has_its_panel app said) ≡ b → is_some (if b then Some (done_act app conn (act_by app conn said said.panel)) else None) ≡ true
@@ -373,7 +373,7 @@ answered_in_turn app conn said some = by_test (is_asking app conn && has_its_pan
     by_test false asks some = absurd (cc)
 
 -- a command that is a paint is under way once it was sent
-act_paints : (app : Application) (conn : Conn) (act : Act) (queue : List ToTerminal) → is_painting (done_act app conn act).conn.pending ≡ true → AreTalk queue
+act_paints : (app : Application) (conn : Session) (act : Act) (queue : List ToTerminal) → is_painting (done_act app conn act).conn.pending ≡ true → AreTalk queue
     → HaveAPaint (queue ++ (done_act app conn act).message ∷ [])
 act_paints app conn Act.Read queue paints are = absurd (let wrong : false ≡ true = paints in cc)
 act_paints app conn (Act.Show panel message keep values) queue paints are = paint_last queue _ _ _ are
@@ -393,8 +393,8 @@ sent_finds app link sending k is paints =
 -- ---- one event over messages
 
 -- the connection with this number, after the host decided there
-sends_there : (app : Application) (number at : ℕ) (world : World) (new : ℕ → Link) (it : Event) → (number == at) ≡ true → has_place app it world ≡ true
-    → (done app it world).link ≡ with_at at (new at) world.link → (happens app it world).link number ≡ new number
+sends_there : (app : Application) (number at : ℕ) (world : World) (new : ℕ → Link) (it : Event) → (number == at) ≡ true → is_enabled app it world ≡ true
+    → (done app it world).link ≡ with_at at (new at) world.link → (stepped_by app it world).link number ≡ new number
 sends_there app number at world new it same place made =
     ap (λ (b : Bool). (if b then done app it world else world).link number) place
     ∙ ap (λ (links : ℕ → Link). links number) made
@@ -402,15 +402,15 @@ sends_there app number at world new it same place made =
     ∙ ap new (sym (eqb-true number at same))
 
 abbrev Starts : Application → ℕ → Event → World → Type 0
-Starts app number it world = is_painting ((happens app it world).link number).host.pending ≡ true → FindsOn (world.link number) ((happens app it world).link number)
+Starts app number it world = is_painting ((stepped_by app it world).link number).host.pending ≡ true → FindsOn (world.link number) ((stepped_by app it world).link number)
 
 starts : (app : Application) (number : ℕ) (it : Event) (world : World) (what : Option Sent) (sending : Sent) → Kept app (view_of (world.link number)) → what ≡ Some sending → IsSent app (world.link number).host sending
-    → (happens app it world).link number ≡ host_sent what (world.link number) → Starts app number it world
+    → (stepped_by app it world).link number ≡ host_sent what (world.link number) → Starts app number it world
 starts app number it world what sending k some is made paints =
-    let now : (happens app it world).link number ≡ host_sent (Some sending) (world.link number) = made ∙ ap (λ (w : Option Sent). host_sent w (world.link number)) some in
+    let now : (stepped_by app it world).link number ≡ host_sent (Some sending) (world.link number) = made ∙ ap (λ (w : Option Sent). host_sent w (world.link number)) some in
     subst (FindsOn (world.link number)) (sym now) (sent_finds app (world.link number) sending k is (subst (λ (l : Link). is_painting l.host.pending ≡ true) now paints))
 
-decision_starts : (app : Application) (number : ℕ) (it : Event) (world : World) → Kept app (view_of (world.link number)) → decides_over number it ≡ true → has_place app it world ≡ true → Starts app number it world
+decision_starts : (app : Application) (number : ℕ) (it : Event) (world : World) → Kept app (view_of (world.link number)) → decides_over number it ≡ true → is_enabled app it world ≡ true → Starts app number it world
 decision_starts app number (Event.Act at) world k same place =
     let acts = subst (λ (n : ℕ). is_some (acted app (world.link n).host) ≡ true) (sym (eqb-true number at same)) (and_parts (world.link at).host_here (is_some (acted app (world.link at).host)) (and_parts (is_link at) (host_acts app (world.link at)) place).1).1 in
     let went = acts_in_turn app (world.link number).host acts in
@@ -452,18 +452,18 @@ found_there was now terminal holds answered seen =
     by_stage (Finds.awaited lock screen pends paint up) = absurd (let wrong = sym pends ∙ answered in cc)
     by_stage (Finds.taken before none) = before
 
-pub paints_find : Given → AlwaysOf PaintsFindTheScreen
+pub paints_find : LowerLaws → AlwaysOf PaintsFindTheScreen
 paints_find given app serves pool models events is lists few are number it more terminal decides place paints rests answered seen =
     let world : World = run app events (new_world app serves pool models) in
     let g = run_good given app is events (new_world app serves pool models) are (new_good given app is serves pool models lists) in
     let started = decision_starts app number it world (g.links number) decides place paints in
-    let now = rests_hold_over app (FindsOn (world.link number)) (keeps_finding (world.link number)) number more (happens app it world) rests started in
-    found_there (world.link number) ((run app more (happens app it world)).link number) terminal now answered seen
+    let now = rests_hold_over app (FindsOn (world.link number)) (keeps_finding (world.link number)) number more (stepped_by app it world) rests started in
+    found_there (world.link number) ((run app more (stepped_by app it world)).link number) terminal now answered seen
 
 -- ---- over bytes
 
 -- the ticket of an answer that is taken is that of the open question
-its_ticket : (app : Application) (session : ℕ) (ticket : Ticket) (said : Said) (service : Service) → is_some (answered_by app session ticket said service) ≡ true → IsTicketAt ticket session service
+its_ticket : (app : Application) (session : ℕ) (ticket : Ticket) (said : ApplicationAnswer) (service : Service) → is_some (answered_by app session ticket said service) ≡ true → IsTicketAt ticket session service
 its_ticket app session ticket said Service.Free some = tt
 its_ticket app session ticket said (Service.Open rest conn) some = by_ticket (is_ticket ticket (ticket_of session conn)) refl some
   where
@@ -472,10 +472,10 @@ its_ticket app session ticket said (Service.Open rest conn) some = by_ticket (is
     by_ticket false is some = absurd (cc)
 its_ticket app session ticket said (Service.Closed cause) some = tt
 
-done_has_place : (it : ByteEvent) (old new : ByteWorld) → Steps it old stepped.Done new → has_byte_place it old ≡ true
-done_has_place it old new steps = by_place (has_byte_place it old) refl steps
+done_has_place : (it : ByteEvent) (old new : ByteWorld) → Steps it old stepped.Done new → is_enabled_over_bytes it old ≡ true
+done_has_place it old new steps = by_place (is_enabled_over_bytes it old) refl steps
   where
-    by_place : (b : Bool) → has_byte_place it old ≡ b → HappensIf b it old stepped.Done new → has_byte_place it old ≡ true
+    by_place : (b : Bool) → is_enabled_over_bytes it old ≡ b → IsStepIf b it old stepped.Done new → is_enabled_over_bytes it old ≡ true
     by_place true is steps = is
     by_place false is skipped = absurd (let wrong = skipped.0 in cc)
 
@@ -483,7 +483,7 @@ done_has_place it old new steps = by_place (has_byte_place it old) refl steps
 record IsOneDecision (app : Application) (number : ℕ) (world : World) (more : List Event) : Type 0 where
   it : Event
   decides_there : decides_over number it ≡ true
-  place : has_place app it world ≡ true
+  place : is_enabled app it world ≡ true
   one : more ≡ it ∷ []
 
 module _ (skips : SkipsAreThose) (begin : Begin) (is : IsBegin begin) (events : List Event) (number : ℕ) (old new : ByteWorld) (reached : Reached begin events old) where
@@ -512,7 +512,7 @@ module _ (skips : SkipsAreThose) (begin : Begin) (is : IsBegin begin) (events : 
   one_decision (event.RestartTerm terminal) there steps goes = absurd (cc)
   one_decision event.RestartHost there steps goes = absurd (cc)
 
-pub decisions_are_shown : Given → PanelsAreShown → StepsGoOn → SkipsAreThose → PanelIsShownOverBytes → DecisionsAreShownOverBytes
+pub decisions_are_shown : LowerLaws → PanelsAreShown → StepsGoOn → SkipsAreThose → PanelIsShownOverBytes → DecisionsAreShownOverBytes
 decisions_are_shown given panels go skips shown world number it events before chosen rest behind conn host terminal is real are there steps rests chosen_is paints world_is has terminal_is =
     let begin : Begin = is.begin in
     let app : Application = application_of begin.panels in
@@ -521,16 +521,16 @@ decisions_are_shown given panels go skips shown world number it events before ch
     let good = run_good given app is_app is.events (new_world app begin.serves begin.pool begin.models) is.reached.are_events (new_good given app is_app begin.serves begin.pool begin.models is.is_begin.pool) in
     let goes = go begin is.events it before stepped.Done chosen is.is_begin is.reached real steps in
     let one = one_decision skips begin is.is_begin is.events number before chosen is.reached it there steps goes in
-    let next : after begin (is.events ++ goes.more) ≡ happens app one.it was = after_more begin is.events goes.more ∙ ap (λ (more : List Event). run app more was) one.one in
+    let next : after begin (is.events ++ goes.more) ≡ stepped_by app one.it was = after_more begin is.events goes.more ∙ ap (λ (more : List Event). run app more was) one.one in
     let first = stands_at begin (is.events ++ goes.more) chosen number rest conn goes.reached chosen_is in
-    let painting : is_painting ((happens app one.it was).link number).host.pending ≡ true =
-    ap (λ (w : World). is_painting (w.link number).host.pending) (sym next) ∙ ap (λ (c : Conn). is_painting c.pending) (sym first.same) ∙ paints in
+    let painting : is_painting ((stepped_by app one.it was).link number).host.pending ≡ true =
+    ap (λ (w : World). is_painting (w.link number).host.pending) (sym next) ∙ ap (λ (c : Session). is_painting c.pending) (sym first.same) ∙ paints in
     let started = decision_starts app number one.it was (good.links number) one.decides_there one.place painting in
     let now = rests_hold go skips begin is.is_begin (FindsOn (was.link number)) (keeps_finding (was.link number)) number events chosen world are rests
     (record { events = is.events ++ goes.more; reached = goes.reached; holds = subst (λ (w : World). FindsOn (was.link number) (w.link number)) (sym next) started }) in
     let last = stands_at begin now.events world number behind host now.reached world_is in
     let seen_now = sym (ap (λ (l : SeenLink). l.terminal) (same_seen world (after begin now.events) now.reached.stands number)) ∙ terminal_is in
-    let found = found_there (was.link number) ((after begin now.events).link number) terminal now.holds (ap (λ (c : Conn). is_painting c.pending) (sym last.same) ∙ has.answered) seen_now in (
+    let found = found_there (was.link number) ((after begin now.events).link number) terminal now.holds (ap (λ (c : Session). is_painting c.pending) (sym last.same) ∙ has.answered) seen_now in (
       found.0,
       ap (λ (l : SeenLink). l.terminal) (same_seen before was is.reached.stands number) ∙ found.1,
       record {

@@ -7,26 +7,26 @@ use Rattle.host_core.specs.Application.{Application, IsApplication, application_
 use Rattle.host_core.specs.Laws.{PanelsAreShown}
 use Rattle.host_core.specs.Messages.{ToHost, ToTerminal}
 use Rattle.host_core.specs.Notes.{may_note, noted, noted_as}
-use Rattle.host_core.specs.Session.{Conn, Pending, is_agreed}
+use Rattle.host_core.specs.Session.{Session, Pending, is_agreed}
 use Rattle.host_core.specs.Takes.{took as host_took}
 use Rattle.host_core.specs.declared.turn.Turn.{Turn}
 use Rattle.host_core.specs.declared.turn.Turn.TheVariants as whose
-use Rattle.world3270.specs.Always.{AlwaysOf}
-use Rattle.world3270.specs.Given.{Given}
-use Rattle.world3270.specs.Happens.{run}
-use Rattle.world3270.specs.Link.{Link, cut, host_left, host_sent}
-use Rattle.world3270.specs.Moments.{Moment, Serving, down_at, pending_at, talk_down, talk_up, turn_at}
-use Rattle.world3270.specs.Refines.{Begin, SkipsAreThose, StepsGoOn, after}
-use Rattle.world3270.specs.ScreensFound.{IsStill, TurnsKeepTheScreen, TurnsKeepTheScreenOverBytes, is_noting}
-use Rattle.world3270.specs.Seen.{SeenLink, TerminalSeen, end_seen, seen_link, terminal_seen}
-use Rattle.world3270.specs.Stages.{Fact, Kept, scene_of}
-use Rattle.world3270.specs.Terminal.{TermEnd, is_bound, once_bound, read_came, took as term_took}
-use Rattle.world3270.specs.View.{View, view_of}
-use Rattle.world3270.specs.World.{World, new_world}
+use Rattle.world3270.specs.statement.Always.{AlwaysOf}
+use Rattle.world3270.specs.refinement.LowerLaws.{LowerLaws}
+use Rattle.world3270.specs.model.Steps.{run}
+use Rattle.world3270.specs.model.Link.{Link, cut, host_left, host_sent}
+use Rattle.world3270.specs.refinement.Phases.{LinkPhase, Serving, down_at, pending_at, talk_down, talk_up, turn_at}
+use Rattle.world3270.specs.refinement.Refines.{Begin, SkipsAreThose, StepsGoOn, after}
+use Rattle.world3270.specs.statement.ScreensFound.{IsStill, TurnsKeepTheScreen, TurnsKeepTheScreenOverBytes, is_noting}
+use Rattle.world3270.specs.statement.Observation.{SeenLink, TerminalSeen, end_seen, seen_link, terminal_seen}
+use Rattle.world3270.specs.refinement.Invariant.{Fact, Kept, local_state_of}
+use Rattle.world3270.specs.model.Terminal.{TermEnd, is_bound, once_bound, read_came, took as term_took}
+use Rattle.world3270.specs.refinement.View.{View, view_of}
+use Rattle.world3270.specs.model.World.{World, new_world}
 use Rattle.world3270.proofs.Headline.{terminal_attached}
 use Rattle.world3270.proofs.HostSteps.{just_talks}
 use Rattle.world3270.proofs.ScreensFound.{AreTalk, IsQuiet, all_talk, if_sent, talk_is_quiet}
-use Rattle.world3270.proofs.SeenStands.{same_seen}
+use Rattle.world3270.proofs.SeenRepresents.{same_seen}
 use Rattle.world3270.proofs.ShownSince.{stands_at, still_waits}
 use Rattle.world3270.proofs.Undecided.{Keeps, rests_hold, rests_hold_over}
 use Rattle.world3270.proofs.Worlds.{new_good, run_good}
@@ -95,7 +95,7 @@ no_note whose.Terminal pending agreed is = absurd (cc)
 again : (was now new : Link) → StaysOn was now → new.term_here ≡ now.term_here → new.host ≡ now.host → new.term ≡ now.term → new.down ≡ now.down → StaysOn was new
 again was now new stays here host term down = record {
   same_terminal = λ terminal is. stays.same_terminal terminal (sym here ∙ is);
-  turn = ap (λ (c : Conn). c.turn) host ∙ stays.turn;
+  turn = ap (λ (c : Session). c.turn) host ∙ stays.turn;
   lock = ap (λ (e : TermEnd). e.display.keyboard.lock) term ∙ stays.lock;
   screen = ap (λ (e : TermEnd). e.display.screen) term ∙ stays.screen;
   down = subst AreReads (sym down) stays.down;
@@ -145,23 +145,23 @@ record IsReading (lock : Lock) (down : List ToTerminal) : Type 0 where
 quiet_reads : (lock : Lock) (down : List ToTerminal) (up : List ToHost) → IsQuiet lock down up → IsReading lock down
 quiet_reads lock down up quiet = record { waits = quiet.waits; goes_down = talk_reads down quiet.goes_down }
 
-reads_by : (wanted : Option (List ℕ)) (v : View) (moment : Moment) → Fact wanted (scene_of v) moment → turn_at moment ≡ whose.Host → is_noting (pending_at moment) ≡ false
+reads_by : (wanted : Option (List ℕ)) (v : View) (moment : LinkPhase) → Fact wanted (local_state_of v) moment → turn_at moment ≡ whose.Host → is_noting (pending_at moment) ≡ false
     → IsReading v.lock (down_at v.model moment)
-reads_by wanted v (Moment.Talks talking) f t p = quiet_reads v.lock (talk_down v.model talking) (talk_up v.model wanted talking) (talk_is_quiet v.model wanted talking v.lock f.0.lock)
-reads_by wanted v (Moment.Begins lu number command wants over) f t p = absurd (cc)
-reads_by wanted v (Moment.Serves lu Serving.Deciding) f t p = record { waits = f.lock; goes_down = tt }
-reads_by wanted v (Moment.Serves lu (Serving.Reading number)) f t p = record { waits = f.decides.lock; goes_down = tt }
-reads_by wanted v (Moment.Serves lu (Serving.Reported number parts)) f t p = record { waits = f.lock; goes_down = tt }
-reads_by wanted v (Moment.Serves lu (Serving.NotedLate number command)) f t p = absurd (cc)
-reads_by wanted v (Moment.Serves lu (Serving.AnsweredLate number command)) f t p = absurd (cc)
-reads_by wanted v (Moment.Serves lu (Serving.Painting number command wants over)) f t p = absurd (cc)
-reads_by wanted v (Moment.Serves lu (Serving.Answering kind number command)) f t p = absurd (cc)
-reads_by wanted v (Moment.Serves lu Serving.Operating) f t p = absurd (cc)
-reads_by wanted v (Moment.Serves lu (Serving.Noting number command)) f t p = absurd (cc)
-reads_by wanted v (Moment.Serves lu (Serving.KeyAlone parts)) f t p = absurd (cc)
-reads_by wanted v (Moment.Serves lu (Serving.KeyBehind kind number command parts)) f t p = absurd (cc)
-reads_by wanted v (Moment.Serves lu (Serving.KeyNoted number command parts)) f t p = absurd (cc)
-reads_by wanted v (Moment.Serves lu (Serving.KeyBefore number command parts)) f t p = absurd (cc)
+reads_by wanted v (LinkPhase.Talks talking) f t p = quiet_reads v.lock (talk_down v.model talking) (talk_up v.model wanted talking) (talk_is_quiet v.model wanted talking v.lock f.0.lock)
+reads_by wanted v (LinkPhase.Begins lu number command wants over) f t p = absurd (cc)
+reads_by wanted v (LinkPhase.Serves lu Serving.Deciding) f t p = record { waits = f.lock; goes_down = tt }
+reads_by wanted v (LinkPhase.Serves lu (Serving.Reading number)) f t p = record { waits = f.decides.lock; goes_down = tt }
+reads_by wanted v (LinkPhase.Serves lu (Serving.Reported number parts)) f t p = record { waits = f.lock; goes_down = tt }
+reads_by wanted v (LinkPhase.Serves lu (Serving.NotedLate number command)) f t p = absurd (cc)
+reads_by wanted v (LinkPhase.Serves lu (Serving.AnsweredLate number command)) f t p = absurd (cc)
+reads_by wanted v (LinkPhase.Serves lu (Serving.Painting number command wants over)) f t p = absurd (cc)
+reads_by wanted v (LinkPhase.Serves lu (Serving.Answering kind number command)) f t p = absurd (cc)
+reads_by wanted v (LinkPhase.Serves lu Serving.Operating) f t p = absurd (cc)
+reads_by wanted v (LinkPhase.Serves lu (Serving.Noting number command)) f t p = absurd (cc)
+reads_by wanted v (LinkPhase.Serves lu (Serving.KeyAlone parts)) f t p = absurd (cc)
+reads_by wanted v (LinkPhase.Serves lu (Serving.KeyBehind kind number command parts)) f t p = absurd (cc)
+reads_by wanted v (LinkPhase.Serves lu (Serving.KeyNoted number command parts)) f t p = absurd (cc)
+reads_by wanted v (LinkPhase.Serves lu (Serving.KeyBefore number command parts)) f t p = absurd (cc)
 
 stays_now : (app : Application) (link : Link) → Kept app (view_of link) → link.host.turn ≡ whose.Host → is_noting link.host.pending ≡ false → StaysOn link link
 stays_now app link k turns unnoted =
@@ -188,7 +188,7 @@ still_there was now terminal stays seen =
       },
     )
 
-pub turns_keep : Given → AlwaysOf TurnsKeepTheScreen
+pub turns_keep : LowerLaws → AlwaysOf TurnsKeepTheScreen
 turns_keep given app serves pool models events is lists few are number more terminal turns unnoted rests seen =
     let world : World = run app events (new_world app serves pool models) in
     let good = run_good given app is events (new_world app serves pool models) are (new_good given app is serves pool models lists) in
@@ -196,7 +196,7 @@ turns_keep given app serves pool models events is lists few are number more term
     (stays_now app (world.link number) (good.links number) turns unnoted) in
     still_there (world.link number) ((run app more world).link number) terminal now seen
 
-pub turns_keep_over_bytes : Given → PanelsAreShown → StepsGoOn → SkipsAreThose → TurnsKeepTheScreenOverBytes
+pub turns_keep_over_bytes : LowerLaws → PanelsAreShown → StepsGoOn → SkipsAreThose → TurnsKeepTheScreenOverBytes
 turns_keep_over_bytes given panels go skips number events before world rest conn terminal is are rests before_is turns unnoted terminal_is =
     let begin : Begin = is.begin in
     let app : Application = application_of begin.panels in
@@ -205,7 +205,7 @@ turns_keep_over_bytes given panels go skips number events before world rest conn
     let good = run_good given app is_app is.events (new_world app begin.serves begin.pool begin.models) is.reached.are_events (new_good given app is_app begin.serves begin.pool begin.models is.is_begin.pool) in
     let first = stands_at begin is.events before number rest conn is.reached before_is in
     let stays : StaysOn (was.link number) (was.link number) =
-    stays_now app (was.link number) (good.links number) (subst (λ (c : Conn). c.turn ≡ whose.Host) first.same turns) (subst (λ (c : Conn). is_noting c.pending ≡ false) first.same unnoted) in
+    stays_now app (was.link number) (good.links number) (subst (λ (c : Session). c.turn ≡ whose.Host) first.same turns) (subst (λ (c : Session). is_noting c.pending ≡ false) first.same unnoted) in
     let now = rests_hold go skips begin is.is_begin (StaysOn (was.link number)) (keeps_staying (was.link number)) number events before world are rests
     (record { events = is.events; reached = is.reached; holds = stays }) in
     let seen_now = sym (ap (λ (l : SeenLink). l.terminal) (same_seen world (after begin now.events) now.reached.stands number)) ∙ terminal_is in

@@ -11,15 +11,15 @@ use Rattle.datastream.specs.declared.inbound_part.Form.TheVariants.{Modified}
 use Rattle.keyboard.specs.declared.key.Lock.TheVariants.{Wait}
 use Rattle.host_core.specs.Application.{Application}
 use Rattle.host_core.specs.Messages.{ToHost}
-use Rattle.host_core.specs.Session.{Conn, Pending, is_agreed}
+use Rattle.host_core.specs.Session.{Session, Pending, is_agreed}
 use Rattle.host_core.specs.Takes.{Answers, buffer_came, closed_by, data_came, dropping, may_have_changed, once_agreed, out_of_turn, second_key, second_key_data, took}
 use Rattle.host_core.specs.declared.turn.Turn.{Turn}
 use Rattle.host_core.specs.declared.turn.Turn.TheVariants as whose
 use Rattle.tn3270e_msg.specs.declared.cause.Cause.TheVariants.{BadInbound}
-use Rattle.world3270.specs.Link.{Link}
-use Rattle.world3270.specs.Moments.{Talking, Serving, Moment, UnderWay, pending_at, turn_at, up_at}
-use Rattle.world3270.specs.Stages.{Fact, Kept, Scene, scene_of}
-use Rattle.world3270.specs.View.{view_of}
+use Rattle.world3270.specs.model.Link.{Link}
+use Rattle.world3270.specs.refinement.Phases.{Talking, Serving, LinkPhase, UnderWay, pending_at, turn_at, up_at}
+use Rattle.world3270.specs.refinement.Invariant.{Fact, Kept, LocalState, local_state_of}
+use Rattle.world3270.specs.refinement.View.{view_of}
 
 -- ---- where the host drops a key
 
@@ -125,14 +125,14 @@ noted_extras number command told (ToHost.TalksUp saying ∷ real) (inr x) = inr 
 
 -- ---- the host drops it
 
-second_key_is : (parts : InboundParts) (conn : Conn) (aid : Aid) → is_key aid ≡ true → second_key aid conn.pending conn ≡ dropping aid conn
+second_key_is : (parts : InboundParts) (conn : Session) (aid : Aid) → is_key aid ≡ true → second_key aid conn.pending conn ≡ dropping aid conn
 second_key_is parts conn Enter key = refl
 second_key_is parts conn (Pf number) key = refl
 second_key_is parts conn (Pa number) key = refl
 second_key_is parts conn NoAid key = absurd (cc)
 second_key_is parts conn Clear key = absurd (cc)
 
-comes_out_of_turn : (parts : InboundParts) (conn : Conn) (turn : Turn) (pending : Pending) → is_dropping turn pending ≡ true → parts.form ≡ Modified → data_came parts turn pending conn ≡ out_of_turn parts conn
+comes_out_of_turn : (parts : InboundParts) (conn : Session) (turn : Turn) (pending : Pending) → is_dropping turn pending ≡ true → parts.form ≡ Modified → data_came parts turn pending conn ≡ out_of_turn parts conn
 comes_out_of_turn parts conn whose.Host Pending.Nothing drops form = refl
 comes_out_of_turn parts conn whose.Host (Pending.Writing number command) drops form = refl
 comes_out_of_turn parts conn whose.Host (Pending.Reading number) drops form = ap (λ (f : Form). buffer_came parts f conn) form
@@ -143,7 +143,7 @@ comes_out_of_turn parts conn whose.Terminal Pending.Nothing drops form = absurd 
 comes_out_of_turn parts conn whose.Terminal (Pending.Noting number command) drops form = absurd (cc)
 
 -- a host that doesn't rely on the wait drops a second key, and nothing changes
-pub second_key_dropped : (pool : Answers) (conn : Conn) (message : ToHost) (is : IsSecondKey message) → is_agreed conn.talk.state ≡ true → may_have_changed conn.unheard ≡ true → is_dropping conn.turn conn.pending ≡ true
+pub second_key_dropped : (pool : Answers) (conn : Session) (message : ToHost) (is : IsSecondKey message) → is_agreed conn.talk.state ≡ true → may_have_changed conn.unheard ≡ true → is_dropping conn.turn conn.pending ≡ true
     → took pool conn message ≡ dropping is.parts.aid conn
 second_key_dropped pool conn message is agrees changed drops =
     let parts : InboundParts = is.parts in
@@ -160,30 +160,30 @@ second_key_dropped pool conn message is agrees changed drops =
 all_queued : (queue messages : List ToHost) → UnderWay false queue messages → queue ≡ messages
 all_queued queue messages way = sym (append-nil queue) ∙ sym (ap (λ (vanished : List ToHost). queue ++ vanished) (way.none refl)) ∙ way.whole
 
-drops_at : (model : Model) (wanted : Option (List ℕ)) (s : Scene) (moment : Moment) → s.lock ≡ Wait → Fact wanted s moment → drops_behind (up_at model wanted moment) (turn_at moment) (pending_at moment) ≡ true
-drops_at model wanted s (Moment.Talks Talking.Offering) waits f = refl
-drops_at model wanted s (Moment.Talks Talking.Accepting) waits f = refl
-drops_at model wanted s (Moment.Talks Talking.AskingType) waits f = refl
-drops_at model wanted s (Moment.Talks Talking.NamingType) waits f = refl
-drops_at model wanted s (Moment.Talks (Talking.Granting lu)) waits f = refl
-drops_at model wanted s (Moment.Talks (Talking.AskingFunctions lu)) waits f = refl
-drops_at model wanted s (Moment.Talks (Talking.Agreeing lu)) waits f = refl
-drops_at model wanted s (Moment.Talks (Talking.Rejecting reason)) waits f = refl
-drops_at model wanted s (Moment.Talks (Talking.Rejected reason)) waits f = refl
-drops_at model wanted s (Moment.Begins lu number command paints over) waits f = refl
-drops_at model wanted s (Moment.Serves lu Serving.Deciding) waits f = refl
-drops_at model wanted s (Moment.Serves lu (Serving.Reading number)) waits f = refl
-drops_at model wanted s (Moment.Serves lu (Serving.Reported number parts)) waits f = refl
-drops_at model wanted s (Moment.Serves lu (Serving.NotedLate number command)) waits f = refl
-drops_at model wanted s (Moment.Serves lu (Serving.AnsweredLate number command)) waits f = refl
-drops_at model wanted s (Moment.Serves lu (Serving.Painting number command paints over)) waits f = refl
-drops_at model wanted s (Moment.Serves lu (Serving.Answering kind number command)) waits f = absurd (f.lock waits)
-drops_at model wanted s (Moment.Serves lu Serving.Operating) waits f = absurd (f.lock waits)
-drops_at model wanted s (Moment.Serves lu (Serving.Noting number command)) waits f = absurd (f.0.lock waits)
-drops_at model wanted s (Moment.Serves lu (Serving.KeyAlone parts)) waits f = refl
-drops_at model wanted s (Moment.Serves lu (Serving.KeyBehind kind number command parts)) waits f = refl
-drops_at model wanted s (Moment.Serves lu (Serving.KeyNoted number command parts)) waits f = refl
-drops_at model wanted s (Moment.Serves lu (Serving.KeyBefore number command parts)) waits f = refl
+drops_at : (model : Model) (wanted : Option (List ℕ)) (s : LocalState) (moment : LinkPhase) → s.lock ≡ Wait → Fact wanted s moment → drops_behind (up_at model wanted moment) (turn_at moment) (pending_at moment) ≡ true
+drops_at model wanted s (LinkPhase.Talks Talking.Offering) waits f = refl
+drops_at model wanted s (LinkPhase.Talks Talking.Accepting) waits f = refl
+drops_at model wanted s (LinkPhase.Talks Talking.AskingType) waits f = refl
+drops_at model wanted s (LinkPhase.Talks Talking.NamingType) waits f = refl
+drops_at model wanted s (LinkPhase.Talks (Talking.Granting lu)) waits f = refl
+drops_at model wanted s (LinkPhase.Talks (Talking.AskingFunctions lu)) waits f = refl
+drops_at model wanted s (LinkPhase.Talks (Talking.Agreeing lu)) waits f = refl
+drops_at model wanted s (LinkPhase.Talks (Talking.Rejecting reason)) waits f = refl
+drops_at model wanted s (LinkPhase.Talks (Talking.Rejected reason)) waits f = refl
+drops_at model wanted s (LinkPhase.Begins lu number command paints over) waits f = refl
+drops_at model wanted s (LinkPhase.Serves lu Serving.Deciding) waits f = refl
+drops_at model wanted s (LinkPhase.Serves lu (Serving.Reading number)) waits f = refl
+drops_at model wanted s (LinkPhase.Serves lu (Serving.Reported number parts)) waits f = refl
+drops_at model wanted s (LinkPhase.Serves lu (Serving.NotedLate number command)) waits f = refl
+drops_at model wanted s (LinkPhase.Serves lu (Serving.AnsweredLate number command)) waits f = refl
+drops_at model wanted s (LinkPhase.Serves lu (Serving.Painting number command paints over)) waits f = refl
+drops_at model wanted s (LinkPhase.Serves lu (Serving.Answering kind number command)) waits f = absurd (f.lock waits)
+drops_at model wanted s (LinkPhase.Serves lu Serving.Operating) waits f = absurd (f.lock waits)
+drops_at model wanted s (LinkPhase.Serves lu (Serving.Noting number command)) waits f = absurd (f.0.lock waits)
+drops_at model wanted s (LinkPhase.Serves lu (Serving.KeyAlone parts)) waits f = refl
+drops_at model wanted s (LinkPhase.Serves lu (Serving.KeyBehind kind number command parts)) waits f = refl
+drops_at model wanted s (LinkPhase.Serves lu (Serving.KeyNoted number command parts)) waits f = refl
+drops_at model wanted s (LinkPhase.Serves lu (Serving.KeyBefore number command parts)) waits f = refl
 
 pub waits_drop : (app : Application) (link : Link) → Kept app (view_of link) → link.lost ≡ false → link.term.display.keyboard.lock ≡ Wait → drops_behind link.up link.host.turn link.host.pending ≡ true
 waits_drop app link k whole waits =
@@ -192,4 +192,4 @@ waits_drop app link k whole waits =
     ap (λ (up : List ToHost). drops_behind up link.host.turn link.host.pending) queued
     ∙ ap (λ (turn : Turn). drops_behind (up_at link.term.display.model k.wanted k.moment) turn link.host.pending) k.at.turn
     ∙ ap (λ (pending : Pending). drops_behind (up_at link.term.display.model k.wanted k.moment) (turn_at k.moment) pending) k.at.pending
-    ∙ drops_at link.term.display.model k.wanted (scene_of (view_of link)) k.moment waits k.fact
+    ∙ drops_at link.term.display.model k.wanted (local_state_of (view_of link)) k.moment waits k.fact

@@ -1,13 +1,13 @@
 -- Screens keep their shape and can be sent, what is painted is a screen, and values are characters, after every event.
 use Rattle.std.proofs.Common.{◌≡◌, ◌<◌, ◌≤◌, ◌==◌, ◌&&◌, ◌++◌, ◌-◌, ◌+◌, not, ℕ, zero, suc, arith, Bool, true, false, Option, None, Some, List, [], ◌∷◌, length, replicate, refl, ap, sym, subst, ◌∙◌, IfSome, IsTrue, if◌then◌else◌, inl}
 use Rattle.host_core.specs.Questions.{act_by, answered_on, has_its_panel, is_asking}
-use Rattle.host_core.specs.declared.question.Answer.{Answer as Said}
+use Rattle.host_core.specs.declared.question.Answer.{Answer as ApplicationAnswer}
 use Rattle.std.specs.Map.{remove_entry, values_of}
 use Rattle.std.specs.BTreeMap.{insert_entry, is_at}
 use Rattle.panels.specs.declared.message.Message.TheVariants.{Fresh}
 use Rattle.world3270.proofs.Queues.{front, nothing}
-use Rattle.world3270.specs.Moments.{Moment, Serving, Talking, UnderWay, down_at, served_down, talk_down}
-use Rattle.world3270.specs.Always.{AlwaysOf}
+use Rattle.world3270.specs.refinement.Phases.{LinkPhase, Serving, Talking, UnderWay, down_at, served_down, talk_down}
+use Rattle.world3270.specs.statement.Always.{AlwaysOf}
 use Rattle.codes3270.specs.declared.size.Model.TheVariants.{M2}
 use Rattle.codes3270.specs.declared.size.Model.{Model}
 use Rattle.std.specs.Prelude.{⊤, option_and_then}
@@ -44,7 +44,7 @@ use Rattle.panels.specs.declared.next.Next.{Next}
 use Rattle.panels.specs.declared.next.Next.TheVariants.{Go, Ask, Again}
 use Rattle.panels.specs.declared.panel.Field.{Field as PanelField}
 use Rattle.presentation.proofs.Storable.{storable_unmodified}
-use Rattle.shadow.specs.Asked.{belief_with}
+use Rattle.shadow.specs.Queries.{belief_with}
 use Rattle.shadow.specs.Belief.{Fact, Belief, Shadow}
 use Rattle.shadow.specs.Fits.{fits}
 use Rattle.shadow.specs.Laws.{PaintIsSpelt}
@@ -52,8 +52,8 @@ use Rattle.shadow.specs.Meets.{Holds, FieldMeets, Meets, told}
 use Rattle.shadow.specs.Painted.{keeps_ahead, attr_or_kept, cells_under, painted_from, plainly_painted}
 use Rattle.shadow.specs.Pairs.{Pairwise}
 use Rattle.tn3270e_msg.specs.declared.cause.Cause.{Cause}
-use Rattle.host_core.specs.Acts.{Act, Decision, Sent, text_known, learned, first_missing, is_to_be_read, unless_missing, once_filled_in, led, after_key as after_the_key, decided, decision_on, wanted_by, done, may_act, acted, when_shown}
-use Rattle.host_core.specs.Application.{Application, IsShape, IsApplication, AsksForScreens, AreTexts}
+use Rattle.host_core.specs.Acts.{Act, Decision, Sent, text_known, learned, first_missing, is_to_be_read, check_required, once_filled_in, on_key, after_key as after_the_key, decided, decision_on, wanted_by, done, may_act, acted, when_shown}
+use Rattle.host_core.specs.Application.{Application, IsShape, IsApplication, WantsProperScreens, AreTexts}
 use Rattle.host_core.specs.Messages.{ToTerminal, ToHost, Verdict}
 use Rattle.host_core.specs.NoteLaws.{TakesNotes, IsProperNote}
 use Rattle.host_core.specs.Notes.{IsNoteText, note_command, noted_as, may_note, noted}
@@ -61,19 +61,19 @@ use Rattle.host_core.specs.declared.turn.Turn.{Turn}
 use Rattle.host_core.specs.declared.turn.Turn.TheVariants as whose
 use Rattle.host_core.specs.declared.turn_reason.TurnReason.{TurnReason}
 use Rattle.host_core.specs.declared.turn_reason.TurnReason.TheVariants as turn_reasons
-use Rattle.host_core.specs.Session.{Conn, Pending, is_agreed, model_in}
+use Rattle.host_core.specs.Session.{Session, Pending, is_agreed, model_in}
 use Rattle.host_core.specs.Takes.{HostStep, took as host_took}
 use Rattle.host_core.specs.declared.terminals.Terminals.{Terminals}
-use Rattle.world3270.specs.Given.{Given}
-use Rattle.world3270.specs.Happens.{run}
-use Rattle.world3270.specs.Link.{Link, host_left_if, host_sent}
-use Rattle.world3270.specs.Sendable.{IsTyped, AlwaysTyped, ScreensAreSendable, CanBeSpelt, DataCanBeSpelt, PaintsAScreen, PaintsAreScreens, IsSpelt, PaintsAreSpelt, ValuesAreTexts, HasASize, ScreensHaveASize}
-use Rattle.world3270.specs.Stages.{Kept, Scene, ServingFact, may_differ_at, may_differ_in, scene_of, Fact as MomentFact}
-use Rattle.world3270.specs.Terminal.{Display, new_display, TermEnd, TermStep, is_bound, data_of, paint_came, note_came, read_came, once_bound, took as term_took, outcome_of, after_key}
-use Rattle.world3270.specs.View.{View, view_of}
+use Rattle.world3270.specs.refinement.LowerLaws.{LowerLaws}
+use Rattle.world3270.specs.model.Steps.{run}
+use Rattle.world3270.specs.model.Link.{Link, host_left_if, host_sent}
+use Rattle.world3270.specs.refinement.Sendable.{IsWellFormed, AlwaysTyped, ScreensAreSendable, CanBeSpelt, DataCanBeSpelt, PaintsAScreen, PaintsAreScreens, IsSpelt, PaintsAreSpelt, ValuesAreTexts, HasASize, ScreensHaveASize}
+use Rattle.world3270.specs.refinement.Invariant.{Kept, LocalState, ServingFact, may_differ_at, may_differ_in, local_state_of, Fact as MomentFact}
+use Rattle.world3270.specs.model.Terminal.{Display, new_display, TermEnd, TermStep, is_bound, data_of, paint_came, note_came, read_came, once_bound, took as term_took, outcome_of, after_key}
+use Rattle.world3270.specs.refinement.View.{View, view_of}
 use Rattle.lu_pool.specs.Pool.{IsPool}
 use Rattle.lu_pool.specs.declared.entry.Entry.{Entry}
-use Rattle.world3270.specs.World.{Place, World, Event, IsEvent, AreEvents, new_world, display_at}
+use Rattle.world3270.specs.model.World.{Place, World, Event, IsEvent, AreEvents, new_world, display_at}
 use Rattle.world3270.proofs.Acting.{asking_parts, may_act_when}
 use Rattle.world3270.proofs.Down.{painted-length, shape_of_model}
 use Rattle.world3270.proofs.Everywhere.{Steps, InPlace, Everywhere, everywhere}
@@ -97,13 +97,13 @@ first_cell shape is = some (cells_in shape) shape.columns is.columns is.row
 link_size : (app : Application) (link : Link) → Kept app (view_of link) → HasASize app link.term.display
 link_size app link k = record { size = k.sizes.screen; whole = k.whole; cursor = k.cursor }
 
-key_size : Given → (app : Application) (key : Key) (display : Display) → HasASize app display → HasASize app (after_key key display)
+key_size : LowerLaws → (app : Application) (key : Key) (display : Display) → HasASize app display → HasASize app (after_key key display)
 key_size given app key display h =
     let screen : Screen = display.screen in
-    let on = given.keys.on_screen display.shape.columns key display.keyboard screen (subst (λ cells. screen.cursor < cells) (sym h.whole) h.cursor) in
+    let on = given.keys.on_screen display.size.columns key display.keyboard screen (subst (λ cells. screen.cursor < cells) (sym h.whole) h.cursor) in
     record { size = h.size; whole = on.0 ∙ h.whole; cursor = subst (λ cells. (outcome_of key display).screen.cursor < cells) h.whole on.1 }
 
-size_steps : Given → (app : Application) → IsApplication app → Steps app (λ event. ⊤) (λ link. ⊤) (λ display. HasASize app display)
+size_steps : LowerLaws → (app : Application) → IsApplication app → Steps app (λ event. ⊤) (λ link. ⊤) (λ display. HasASize app display)
 size_steps given app is = record {
   never = λ serves. tt;
   begins = λ serves model terminal wanted. tt;
@@ -126,7 +126,7 @@ size_in_place : (app : Application) (world : World) (place : Place) → ((number
 size_in_place app world (Place.At number) kept is = link_size app (world.link number) (kept number)
 size_in_place app world (Place.Alone display) kept is = is
 
-pub screens_have_a_size : Given → AlwaysOf ScreensHaveASize
+pub screens_have_a_size : LowerLaws → AlwaysOf ScreensHaveASize
 screens_have_a_size given app serves pool models events is lists few are terminal =
     let world : World = run app events (new_world app serves pool models) in
     let g = run_good given app is events (new_world app serves pool models) are (new_good given app is serves pool models lists) in
@@ -154,7 +154,7 @@ talk_fits size model (Talking.Agreeing lu) = tt
 talk_fits size model (Talking.Rejecting reason) = tt
 talk_fits size model (Talking.Rejected reason) = tt
 
-served_fits : (scene : Scene) (serving : Serving) → ServingFact scene serving → FirstFits scene.shape (may_differ_in serving) (served_down serving)
+served_fits : (scene : LocalState) (serving : Serving) → ServingFact scene serving → FirstFits scene.size (may_differ_in serving) (served_down serving)
 served_fits scene Serving.Deciding fact = tt
 served_fits scene (Serving.Reading number) fact = tt
 served_fits scene (Serving.Reported number parts) fact = tt
@@ -169,10 +169,10 @@ served_fits scene (Serving.KeyBehind kind number command parts) fact = tt
 served_fits scene (Serving.KeyNoted number command parts) fact = (ap (λ (c : CommandParts). c.size) fact.2.note.is, refl)
 served_fits scene (Serving.KeyBefore number command parts) fact = tt
 
-first_fits : (scene : Scene) (model : Model) (wanted : Option (List ℕ)) (moment : Moment) → MomentFact wanted scene moment → FirstFits scene.shape (may_differ_at moment) (down_at model moment)
-first_fits scene model wanted (Moment.Talks talking) fact = talk_fits scene.shape model talking
-first_fits scene model wanted (Moment.Begins lu number command paints over) fact = tt
-first_fits scene model wanted (Moment.Serves lu serving) fact = served_fits scene serving fact
+first_fits : (scene : LocalState) (model : Model) (wanted : Option (List ℕ)) (moment : LinkPhase) → MomentFact wanted scene moment → FirstFits scene.size (may_differ_at moment) (down_at model moment)
+first_fits scene model wanted (LinkPhase.Talks talking) fact = talk_fits scene.size model talking
+first_fits scene model wanted (LinkPhase.Begins lu number command paints over) fact = tt
+first_fits scene model wanted (LinkPhase.Serves lu serving) fact = served_fits scene serving fact
 
 comes_fitting : (size : Shape) (may_differ : Bool) (lost : Bool) (queue messages : List ToTerminal) (number : ℕ) (command : CommandParts) (rest : List ToTerminal)
     → UnderWay lost queue messages → queue ≡ ToTerminal.Note number command ∷ rest → FirstFits size may_differ messages → (command.size ≡ size) × (may_differ ≡ false)
@@ -187,13 +187,13 @@ NoteFits shape (ToTerminal.Paint number wanted over) = ⊤
 NoteFits shape (ToTerminal.ReadBuffer number) = ⊤
 NoteFits shape (ToTerminal.Note number command) = command.size ≡ shape
 
-pub note_fits : (app : Application) (link : Link) (message : ToTerminal) (rest : List ToTerminal) → link.down ≡ message ∷ rest → Kept app (view_of link) → NoteFits link.term.display.shape message
+pub note_fits : (app : Application) (link : Link) (message : ToTerminal) (rest : List ToTerminal) → link.down ≡ message ∷ rest → Kept app (view_of link) → NoteFits link.term.display.size message
 note_fits app link (ToTerminal.TalksDown saying) rest e k = tt
 note_fits app link (ToTerminal.Paint number wanted over) rest e k = tt
 note_fits app link (ToTerminal.ReadBuffer number) rest e k = tt
 note_fits app link (ToTerminal.Note number command) rest e k =
     let v : View = view_of link in
-    let both = comes_fitting v.host.shape (may_differ_at k.moment) v.lost v.down (down_at v.model k.moment) number command rest k.at.goes_down e (first_fits (scene_of v) v.model k.wanted k.moment k.fact) in
+    let both = comes_fitting v.host.size (may_differ_at k.moment) v.lost v.down (down_at v.model k.moment) number command rest k.at.goes_down e (first_fits (local_state_of v) v.model k.wanted k.moment k.fact) in
     both.0 ∙ sym (k.sizes.same both.1)
 
 -- ---- what is told
@@ -264,35 +264,35 @@ abbrev DecidesOnTexts : Decision → Type 0
 DecidesOnTexts (Decision.Do act) = ActsOnTexts act
 DecidesOnTexts Decision.Asks = ⊤
 
-unless_texts : (panel : ℕ) (decision : Decision) (values : Values) (missing : Option ℕ) → AreTexts values → DecidesOnTexts decision → DecidesOnTexts (unless_missing panel decision values missing)
+unless_texts : (panel : ℕ) (decision : Decision) (values : Values) (missing : Option ℕ) → AreTexts values → DecidesOnTexts decision → DecidesOnTexts (check_required panel decision values missing)
 unless_texts panel decision values None texts is = is
 unless_texts panel decision values (Some field) texts is = texts
 
-filled_texts : (app : Application) (conn : Conn) (decision : Decision) (values : Values) (aid : Aid) → AreTexts values → DecidesOnTexts decision → DecidesOnTexts (once_filled_in app conn decision values aid)
+filled_texts : (app : Application) (conn : Session) (decision : Decision) (values : Values) (aid : Aid) → AreTexts values → DecidesOnTexts decision → DecidesOnTexts (once_filled_in app conn decision values aid)
 filled_texts app conn decision values Enter texts is = unless_texts conn.panel decision values (first_missing values (app.fields conn.panel)) texts is
 filled_texts app conn decision values NoAid texts is = is
 filled_texts app conn decision values Clear texts is = is
 filled_texts app conn decision values (Pf key) texts is = is
 filled_texts app conn decision values (Pa key) texts is = is
 
-led_texts : (app : Application) (conn : Conn) (values : Values) (aid : Aid) (next : Next) → AreTexts values → DecidesOnTexts (led app conn values aid next)
+led_texts : (app : Application) (conn : Session) (values : Values) (aid : Aid) (next : Next) → AreTexts values → DecidesOnTexts (on_key app conn values aid next)
 led_texts app conn values aid Again texts = texts
 led_texts app conn values aid (Go target) texts = filled_texts app conn (Decision.Do (Act.Show target Fresh false values)) values aid texts texts
 led_texts app conn values aid Ask texts = filled_texts app conn Decision.Asks values aid texts tt
 
-read_or_led : (app : Application) (conn : Conn) (aid : Aid) (b : Bool) → AreTexts (learned conn.shadow (app.fields conn.panel) conn.values)
-    → DecidesOnTexts (if b then Decision.Do Act.Read else led app conn (learned conn.shadow (app.fields conn.panel) conn.values) aid (app.next conn.panel aid))
+read_or_led : (app : Application) (conn : Session) (aid : Aid) (b : Bool) → AreTexts (learned conn.shadow (app.fields conn.panel) conn.values)
+    → DecidesOnTexts (if b then Decision.Do Act.Read else on_key app conn (learned conn.shadow (app.fields conn.panel) conn.values) aid (app.next conn.panel aid))
 read_or_led app conn aid true texts = tt
 read_or_led app conn aid false texts = led_texts app conn (learned conn.shadow (app.fields conn.panel) conn.values) aid (app.next conn.panel aid) texts
 
-key_texts : (app : Application) (conn : Conn) (aid : Aid) (buffered : Bool) → AreTexts conn.values → AreTexts (learned conn.shadow (app.fields conn.panel) conn.values) → DecidesOnTexts (after_the_key app conn aid buffered)
+key_texts : (app : Application) (conn : Session) (aid : Aid) (buffered : Bool) → AreTexts conn.values → AreTexts (learned conn.shadow (app.fields conn.panel) conn.values) → DecidesOnTexts (after_the_key app conn aid buffered)
 key_texts app conn Clear buffered texts known = texts
 key_texts app conn NoAid buffered texts known = read_or_led app conn NoAid (is_to_be_read app conn NoAid && not buffered) known
 key_texts app conn Enter buffered texts known = read_or_led app conn Enter (is_to_be_read app conn Enter && not buffered) known
 key_texts app conn (Pf key) buffered texts known = read_or_led app conn (Pf key) (is_to_be_read app conn (Pf key) && not buffered) known
 key_texts app conn (Pa key) buffered texts known = read_or_led app conn (Pa key) (is_to_be_read app conn (Pa key) && not buffered) known
 
-decision_texts : (app : Application) (conn : Conn) (turn_reason : TurnReason) → AreTexts conn.values → AreTexts (learned conn.shadow (app.fields conn.panel) conn.values) → DecidesOnTexts (decision_on app conn turn_reason)
+decision_texts : (app : Application) (conn : Session) (turn_reason : TurnReason) → AreTexts conn.values → AreTexts (learned conn.shadow (app.fields conn.panel) conn.values) → DecidesOnTexts (decision_on app conn turn_reason)
 decision_texts app conn turn_reasons.Agreement texts known = texts
 decision_texts app conn (turn_reasons.Key aid buffered) texts known = key_texts app conn aid buffered texts known
 decision_texts app conn turn_reasons.Refusal texts known = texts
@@ -310,14 +310,14 @@ with_texts values (other ∷ others) texts are =
     (All-values-insert_entry nat_cmp other.0 other.1 AreCharacters values texts (All-head AreCharacters other.1 (values_of others) are))
     (All-tail AreCharacters other.1 (values_of others) are)
 
-answer_texts : (app : Application) (conn : Conn) (said : Said) (panel : Option ℕ) → AreTexts (learned conn.shadow (app.fields conn.panel) conn.values) → AreTexts said.values → ActsOnTexts (act_by app conn said panel)
+answer_texts : (app : Application) (conn : Session) (said : ApplicationAnswer) (panel : Option ℕ) → AreTexts (learned conn.shadow (app.fields conn.panel) conn.values) → AreTexts said.values → ActsOnTexts (act_by app conn said panel)
 answer_texts app conn said None known are = with_texts (learned conn.shadow (app.fields conn.panel) conn.values) said.values known are
 answer_texts app conn said (Some panel) known are =
     let fields : List PanelField = app.fields (app.shown (model_in conn) panel) in
     with_texts (without_fields fields (learned conn.shadow (app.fields conn.panel) conn.values)) said.values
     (without_texts fields (learned conn.shadow (app.fields conn.panel) conn.values) known) are
 
-wanted_is : (app : Application) (conn : Conn) (panel : ℕ) (message : Message) (keep : Bool) (values : Values) → AsksForScreens app → AreTexts values → IsScreen (wanted_by app conn panel message keep values)
+wanted_is : (app : Application) (conn : Session) (panel : ℕ) (message : Message) (keep : Bool) (values : Values) → WantsProperScreens app → AreTexts values → IsScreen (wanted_by app conn panel message keep values)
 wanted_is app conn panel message false values asks texts = asks panel values message false texts
 wanted_is app conn panel message true values asks texts = by_fit (fits conn.shadow (app.screen panel values message true))
   where
@@ -326,17 +326,17 @@ wanted_is app conn panel message true values asks texts = by_fit (fits conn.shad
     by_fit false = asks panel values message false texts
 
 -- a paint of a screen of the profile, or a note that some bytes spell
-abbrev pub IsWritten : ToTerminal → Type 0
-IsWritten (ToTerminal.TalksDown saying) = ⊤
-IsWritten (ToTerminal.Paint number wanted over) = IsScreen wanted
-IsWritten (ToTerminal.ReadBuffer number) = ⊤
-IsWritten (ToTerminal.Note number command) = IsProperNote command × IsSpeltCommand command
+abbrev pub HasProperScreen : ToTerminal → Type 0
+HasProperScreen (ToTerminal.TalksDown saying) = ⊤
+HasProperScreen (ToTerminal.Paint number wanted over) = IsScreen wanted
+HasProperScreen (ToTerminal.ReadBuffer number) = ⊤
+HasProperScreen (ToTerminal.Note number command) = IsProperNote command × IsSpeltCommand command
 
 pub record SendsTexts (sending : Sent) : Type 0 where
-  pub message : IsWritten sending.message
+  pub message : HasProperScreen sending.message
   pub values : AreTexts sending.conn.values
 
-done_texts : (app : Application) (conn : Conn) (act : Act) → AsksForScreens app → AreTexts conn.values → ActsOnTexts act → SendsTexts (done app conn act)
+done_texts : (app : Application) (conn : Session) (act : Act) → WantsProperScreens app → AreTexts conn.values → ActsOnTexts act → SendsTexts (done app conn act)
 done_texts app conn Act.Read asks texts is = record { message = tt; values = texts }
 done_texts app conn (Act.Show panel message keep values) asks texts is = record { message = wanted_is app (when_shown conn) (app.shown (model_in conn) panel) message keep values asks is; values = is }
 
@@ -345,15 +345,15 @@ blank_chars : (cells : ℕ) → list_all is_char (replicate cells (CharCell 0)) 
 blank_chars zero = refl
 blank_chars (suc cells) = blank_chars cells
 
-note_spelt : Given → (shape : Shape) (text : List ℕ) → IsShape shape → IsNoteText text → IsSpeltCommand (note_command shape text)
+note_spelt : LowerLaws → (shape : Shape) (text : List ℕ) → IsShape shape → IsNoteText text → IsSpeltCommand (note_command shape text)
 note_spelt given shape text is note =
     let blank : Screen = blank_screen (cells_in shape) in
     let over = given.notes.overwrites shape (note_command shape text) blank is (record { text = text; is_text = note; is = refl }) (blank_length M2 shape) (TakesNotes.unformatted (blank_chars (cells_in shape))) in
     over.spelt
 
-note_texts : Given → (text : List ℕ) (conn : Conn) → IsShape conn.shape → IsNoteText text → AreTexts conn.values → SendsTexts (noted_as text conn)
+note_texts : LowerLaws → (text : List ℕ) (conn : Session) → IsShape conn.size → IsNoteText text → AreTexts conn.values → SendsTexts (noted_as text conn)
 note_texts given text conn is note texts = record {
-  message = (given.notes.are_notes conn.shape (note_command conn.shape text) is (record { text = text; is_text = note; is = refl }), note_spelt given conn.shape text is note);
+  message = (given.notes.are_notes conn.size (note_command conn.size text) is (record { text = text; is_text = note; is = refl }), note_spelt given conn.size text is note);
   values = texts;
 }
 
@@ -401,14 +401,14 @@ once_bound_sends : (bound : Bool) (end : TermEnd) (step : TermStep) → IsSendab
 once_bound_sends true end step is sends = sends
 once_bound_sends false end step is sends = record { screen = is; spelt = All-nil CanBeSpelt }
 
-pub term_sends : SentIsRead → Given → (end : TermEnd) (message : ToTerminal) → IsWritten message → NoteFits end.display.shape message → length end.display.screen.cells ≡ cells_in end.display.shape → IsSendable end.display.screen → StepSends (term_took end message)
+pub term_sends : SentIsRead → LowerLaws → (end : TermEnd) (message : ToTerminal) → HasProperScreen message → NoteFits end.display.size message → length end.display.screen.cells ≡ cells_in end.display.size → IsSendable end.display.screen → StepSends (term_took end message)
 term_sends read given end (ToTerminal.TalksDown saying) written fits whole is = record { screen = is; spelt = All-map CanBeSpelt ToHost.TalksUp _ (λ k d below. tt) }
 term_sends read given end (ToTerminal.Paint number wanted over) written fits whole is =
     once_bound_sends (is_bound end) end (paint_came number wanted end) is
     (record { screen = painted_sendable wanted end.display.screen written is; spelt = All-cons CanBeSpelt (ToHost.Response number Verdict.Positive) [] tt (All-nil CanBeSpelt) })
 term_sends read given end (ToTerminal.ReadBuffer number) written fits whole is =
     once_bound_sends (is_bound end) end (read_came end) is
-    (record { screen = is; spelt = All-cons CanBeSpelt _ [] (read_buffer end.display.screen, read.buffer end.display.shape end.display.screen whole is) (All-nil CanBeSpelt) })
+    (record { screen = is; spelt = All-cons CanBeSpelt _ [] (read_buffer end.display.screen, read.buffer end.display.size end.display.screen whole is) (All-nil CanBeSpelt) })
 term_sends read given end (ToTerminal.Note number command) written fits whole is =
     once_bound_sends (is_bound end) end (note_came number command end) is
     (record {
@@ -430,7 +430,7 @@ key_sends read false (Refused why) shape screen whole is = All-nil CanBeSpelt
 pub record CanSend (link : Link) : Type 0 where
   pub screen : IsSendable link.term.display.screen
   pub spelt : All CanBeSpelt link.up
-  pub writes : All IsWritten link.down
+  pub writes : All HasProperScreen link.down
   pub values : AreTexts link.host.values
 
 left_if : (cause : Option Cause) (link : Link) → CanSend link → CanSend (host_left_if cause link)
@@ -442,12 +442,12 @@ sends link None c is = c
 sends link (Some sending) c is = record {
   screen = c.screen;
   spelt = c.spelt;
-  writes = sent_all IsWritten link.lost link.down (sending.message ∷ []) c.writes (All-cons IsWritten sending.message [] is.message (All-nil IsWritten));
+  writes = sent_all HasProperScreen link.lost link.down (sending.message ∷ []) c.writes (All-cons HasProperScreen sending.message [] is.message (All-nil HasProperScreen));
   values = is.values;
 }
 
 -- where the host may act, the screen meets what it believes, and so what it learns is characters
-abbrev pub LearnsTexts : Application → Conn → Type 0
+abbrev pub LearnsTexts : Application → Session → Type 0
 LearnsTexts app conn = conn.turn ≡ whose.Host → conn.pending ≡ Pending.Nothing → AreTexts (learned conn.shadow (app.fields conn.panel) conn.values)
 
 what_is_learned : (app : Application) (link : Link) → Kept app (view_of link) → CanSend link → LearnsTexts app link.host
@@ -455,11 +455,11 @@ what_is_learned app link k c turns pends =
     let known = knows_at app (view_of link) k turns pends in
     learned_texts link.host.shadow link.term.display.screen (app.fields link.host.panel) link.host.values known.meets c.screen.storable c.values
 
-decided_texts : (app : Application) (conn : Conn) (decision : Decision) → AsksForScreens app → AreTexts conn.values → DecidesOnTexts decision → IfSome (decided app conn decision) SendsTexts
+decided_texts : (app : Application) (conn : Session) (decision : Decision) → WantsProperScreens app → AreTexts conn.values → DecidesOnTexts decision → IfSome (decided app conn decision) SendsTexts
 decided_texts app conn (Decision.Do act) asks texts is = done_texts app conn act asks texts is
 decided_texts app conn Decision.Asks asks texts is = tt
 
-acts_by : (app : Application) → AsksForScreens app → (conn : Conn) (turn : Turn) (pending : Pending) (agreed : Bool) → AreTexts conn.values → LearnsTexts app conn
+acts_by : (app : Application) → WantsProperScreens app → (conn : Session) (turn : Turn) (pending : Pending) (agreed : Bool) → AreTexts conn.values → LearnsTexts app conn
     → conn.turn ≡ turn → conn.pending ≡ pending → IfSome (option_and_then (decided app conn) (if may_act turn pending agreed then Some (decision_on app conn conn.turn_reason) else None)) SendsTexts
 acts_by app asks conn whose.Host Pending.Nothing true values learns turns pends =
     decided_texts app conn (decision_on app conn conn.turn_reason) asks values (decision_texts app conn conn.turn_reason values (learns turns pends))
@@ -469,10 +469,10 @@ acts_by app asks conn whose.Host (Pending.Reading number) agreed values learns t
 acts_by app asks conn whose.Host (Pending.Noting number command) agreed values learns turns pends = tt
 acts_by app asks conn whose.Terminal pending agreed values learns turns pends = tt
 
-pub acts_texts : (app : Application) → AsksForScreens app → (conn : Conn) → AreTexts conn.values → LearnsTexts app conn → IfSome (acted app conn) SendsTexts
+pub acts_texts : (app : Application) → WantsProperScreens app → (conn : Session) → AreTexts conn.values → LearnsTexts app conn → IfSome (acted app conn) SendsTexts
 acts_texts app asks conn values learns = acts_by app asks conn conn.turn conn.pending (is_agreed conn.talk.state) values learns refl refl
 
-pub answers_texts : (app : Application) → AsksForScreens app → (said : Said) → AreTexts said.values → (conn : Conn) → AreTexts conn.values → LearnsTexts app conn → IfSome (answered_on app conn said) SendsTexts
+pub answers_texts : (app : Application) → WantsProperScreens app → (said : ApplicationAnswer) → AreTexts said.values → (conn : Session) → AreTexts conn.values → LearnsTexts app conn → IfSome (answered_on app conn said) SendsTexts
 answers_texts app asks said are conn values learns = by_open (is_asking app conn) refl (has_its_panel app said)
   where
     by_open : (asked : Bool) → is_asking app conn ≡ asked → (has : Bool) → IfSome (if asked && has then Some (done app conn (act_by app conn said said.panel)) else None) SendsTexts
@@ -482,7 +482,7 @@ answers_texts app asks said are conn values learns = by_open (is_asking app conn
     by_open true open_now false = tt
     by_open false open_now has = tt
 
-pub notes_texts : Given → (text : List ℕ) (conn : Conn) → IsShape conn.shape → IsNoteText text → AreTexts conn.values → IfSome (noted text conn) SendsTexts
+pub notes_texts : LowerLaws → (text : List ℕ) (conn : Session) → IsShape conn.size → IsNoteText text → AreTexts conn.values → IfSome (noted text conn) SendsTexts
 notes_texts given text conn is note values = by_test (may_note conn.turn conn.pending (is_agreed conn.talk.state))
   where
     by_test : (b : Bool) → IfSome (if b then Some (noted_as text conn) else None) SendsTexts
@@ -499,49 +499,49 @@ blank_sendable model shape is = record {
 
 -- a key is one that a terminal has, and a note has a text
 abbrev IsTypedEvent : Event → Type 0
-IsTypedEvent event = IsEvent event × IsTyped event
+IsTypedEvent event = IsEvent event × IsWellFormed event
 
-all_typed : (events : List Event) → AreEvents events → All IsTyped events → All IsTypedEvent events
+all_typed : (events : List Event) → AreEvents events → All IsWellFormed events → All IsTypedEvent events
 all_typed [] are typed = All-nil IsTypedEvent
 all_typed (event ∷ events) are typed =
-    All-cons IsTypedEvent event events (are.0, All-head IsTyped event events typed) (all_typed events are.1 (All-tail IsTyped event events typed))
+    All-cons IsTypedEvent event events (are.0, All-head IsWellFormed event events typed) (all_typed events are.1 (All-tail IsWellFormed event events typed))
 
-steps : SentIsRead → Given → (app : Application) → IsApplication app → AsksForScreens app → Steps app IsTypedEvent CanSend (λ display. IsSendable display.screen)
+steps : SentIsRead → LowerLaws → (app : Application) → IsApplication app → WantsProperScreens app → Steps app IsTypedEvent CanSend (λ display. IsSendable display.screen)
 steps read given app is asks = record {
-  never = λ serves. record { screen = blank_sendable M2 app.begins is.begins; spelt = All-nil CanBeSpelt; writes = All-nil IsWritten; values = All-nil AreCharacters };
-  begins = λ serves model terminal wanted. record { screen = blank_sendable model app.begins is.begins; spelt = All-nil CanBeSpelt; writes = All-cons IsWritten _ [] tt (All-nil IsWritten); values = All-nil AreCharacters };
+  never = λ serves. record { screen = blank_sendable M2 app.begins is.begins; spelt = All-nil CanBeSpelt; writes = All-nil HasProperScreen; values = All-nil AreCharacters };
+  begins = λ serves model terminal wanted. record { screen = blank_sendable model app.begins is.begins; spelt = All-nil CanBeSpelt; writes = All-cons HasProperScreen _ [] tt (All-nil HasProperScreen); values = All-nil AreCharacters };
   up = λ pool link message rest e k c.
       let step : HostStep = host_took pool link.host message in
       let just = just_talks pool link.host message in
       left_if step.closes _ (record {
         screen = c.screen;
         spelt = All-tail CanBeSpelt message rest (subst (All CanBeSpelt) e c.spelt);
-        writes = sent_all IsWritten link.lost link.down step.sends c.writes (subst (All IsWritten) (sym just.says) (All-map IsWritten ToTerminal.TalksDown just.talk (λ k d below. tt)));
+        writes = sent_all HasProperScreen link.lost link.down step.sends c.writes (subst (All HasProperScreen) (sym just.says) (All-map HasProperScreen ToTerminal.TalksDown just.talk (λ k d below. tt)));
         values = subst AreTexts (sym just.values) c.values;
       });
   acts = λ link k c. sends link (acted app link.host) c (acts_texts app asks link.host c.values (what_is_learned app link k c));
   answers = λ number said link such k c.
       sends link (answered_on app link.host said) c (answers_texts app asks said such.0 link.host c.values (what_is_learned app link k c));
   notes = λ number text link such k c.
-      sends link (noted text link.host) c (notes_texts given text link.host (shape_of_model app link.term.display.model link.host.shape is k.sizes.host) such.0 c.values);
+      sends link (noted text link.host) c (notes_texts given text link.host (shape_of_model app link.term.display.model link.host.size is k.sizes.host) such.0 c.values);
   down = λ link message rest e k c.
-      let down : All IsWritten (message ∷ rest) = subst (All IsWritten) e c.writes in
-      let says = term_sends read given link.term message (All-head IsWritten message rest down) (note_fits app link message rest e k) k.whole c.screen in
+      let down : All HasProperScreen (message ∷ rest) = subst (All HasProperScreen) e c.writes in
+      let says = term_sends read given link.term message (All-head HasProperScreen message rest down) (note_fits app link message rest e k) k.whole c.screen in
       record {
         screen = says.screen;
         spelt = sent_all CanBeSpelt link.lost link.up (term_took link.term message).sends c.spelt says.spelt;
-        writes = All-tail IsWritten message rest down;
+        writes = All-tail HasProperScreen message rest down;
         values = c.values;
       };
   key = λ terminal key link such k c.
       let display : Display = link.term.display in
       let outcome = outcome_of key display in
-      let still = given.keys.sendable display.shape.columns key display.keyboard display.screen such.1 c.screen in
-      let on = given.keys.on_screen display.shape.columns key display.keyboard display.screen c.screen.cursor in
+      let still = given.keys.sendable display.size.columns key display.keyboard display.screen such.1 c.screen in
+      let on = given.keys.on_screen display.size.columns key display.keyboard display.screen c.screen.cursor in
       record {
         screen = still;
-        spelt = sent_all CanBeSpelt link.lost link.up (data_of (is_bound link.term) outcome.answer display.shape outcome.screen) c.spelt
-            (key_sends read (is_bound link.term) outcome.answer display.shape outcome.screen (on.0 ∙ k.whole) still);
+        spelt = sent_all CanBeSpelt link.lost link.up (data_of (is_bound link.term) outcome.answer display.size outcome.screen) c.spelt
+            (key_sends read (is_bound link.term) outcome.answer display.size outcome.screen (on.0 ∙ k.whole) still);
         writes = c.writes;
         values = c.values;
       };
@@ -550,7 +550,7 @@ steps read given app is asks = record {
   term_leaves = λ link c. record { screen = c.screen; spelt = c.spelt; writes = c.writes; values = c.values };
   fresh = λ model. blank_sendable model app.begins is.begins;
   alone = λ link k c. c.screen;
-  key_alone = λ terminal key display such still. given.keys.sendable display.shape.columns key display.keyboard display.screen such.1 still;
+  key_alone = λ terminal key display such still. given.keys.sendable display.size.columns key display.keyboard display.screen such.1 still;
 }
 
 -- ---- the theorems
@@ -560,13 +560,13 @@ in_place world (Place.At number) can is = (can number).screen
 in_place world (Place.Alone display) can is = is
 
 -- of each connection and each display
-all_can : SentIsRead → Given → (app : Application) (serves : Terminals) (pool : List Entry) (models : List Model) (events : List Event)
-    → IsApplication app → AsksForScreens app → IsPool pool → length models ≤ 16 → AreEvents events → All IsTyped events
+all_can : SentIsRead → LowerLaws → (app : Application) (serves : Terminals) (pool : List Entry) (models : List Model) (events : List Event)
+    → IsApplication app → WantsProperScreens app → IsPool pool → length models ≤ 16 → AreEvents events → All IsWellFormed events
     → let world = run app events (new_world app serves pool models) in Everywhere CanSend (λ display. IsSendable display.screen) world.link world.place
 all_can read given app serves pool models events is asks lists few are typed =
     everywhere given app is IsTypedEvent CanSend (λ display. IsSendable display.screen) (steps read given app is asks) serves pool models events lists are (all_typed events are typed)
 
-pub screens_are_sendable : SentIsRead → Given → AlwaysTyped ScreensAreSendable
+pub screens_are_sendable : SentIsRead → LowerLaws → AlwaysTyped ScreensAreSendable
 screens_are_sendable read given app serves pool models events is asks lists few are typed terminal =
     let world : World = run app events (new_world app serves pool models) in
     let all = all_can read given app serves pool models events is asks lists few are typed in
@@ -576,39 +576,39 @@ screens_are_sendable read given app serves pool models events is asks lists few 
       whole = keeps.whole;
     }
 
-pub data_can_be_spelt : SentIsRead → Given → AlwaysTyped DataCanBeSpelt
+pub data_can_be_spelt : SentIsRead → LowerLaws → AlwaysTyped DataCanBeSpelt
 data_can_be_spelt read given app serves pool models events is asks lists few are typed number =
     ((all_can read given app serves pool models events is asks lists few are typed).links number).spelt
 
 -- what holds of each message that is written holds of all of them
-each_written : (P : ToTerminal → Type 0) → ((message : ToTerminal) → IsWritten message → P message) → (messages : List ToTerminal) → All IsWritten messages → All P messages
+each_written : (P : ToTerminal → Type 0) → ((message : ToTerminal) → HasProperScreen message → P message) → (messages : List ToTerminal) → All HasProperScreen messages → All P messages
 each_written P has [] each = All-nil P
 each_written P has (message ∷ messages) each =
-    All-cons P message messages (has message (All-head IsWritten message messages each)) (each_written P has messages (All-tail IsWritten message messages each))
+    All-cons P message messages (has message (All-head HasProperScreen message messages each)) (each_written P has messages (All-tail HasProperScreen message messages each))
 
-pub paints_a_screen : (message : ToTerminal) → IsWritten message → PaintsAScreen message
+pub paints_a_screen : (message : ToTerminal) → HasProperScreen message → PaintsAScreen message
 paints_a_screen (ToTerminal.TalksDown saying) written = tt
 paints_a_screen (ToTerminal.Paint number wanted over) written = written
 paints_a_screen (ToTerminal.ReadBuffer number) written = tt
 paints_a_screen (ToTerminal.Note number command) written = tt
 
-pub paints_are_screens : SentIsRead → Given → AlwaysTyped PaintsAreScreens
+pub paints_are_screens : SentIsRead → LowerLaws → AlwaysTyped PaintsAreScreens
 paints_are_screens read given app serves pool models events is asks lists few are typed number =
     let all = all_can read given app serves pool models events is asks lists few are typed in
     each_written PaintsAScreen paints_a_screen ((run app events (new_world app serves pool models)).link number).down (all.links number).writes
 
-pub message_spelt : PaintIsSpelt → (message : ToTerminal) → IsWritten message → IsSpelt message
+pub message_spelt : PaintIsSpelt → (message : ToTerminal) → HasProperScreen message → IsSpelt message
 message_spelt law (ToTerminal.TalksDown saying) written = tt
 message_spelt law (ToTerminal.Paint number wanted over) written =
     λ now alternate sized writes. law now alternate over wanted written sized writes
 message_spelt law (ToTerminal.ReadBuffer number) written = tt
 message_spelt law (ToTerminal.Note number command) written = written.1
 
-pub paints_are_spelt : SentIsRead → Given → AlwaysTyped PaintsAreSpelt
+pub paints_are_spelt : SentIsRead → LowerLaws → AlwaysTyped PaintsAreSpelt
 paints_are_spelt read given app serves pool models events is asks lists few are typed number =
     let all = all_can read given app serves pool models events is asks lists few are typed in
     each_written IsSpelt (message_spelt given.belief.spelt) ((run app events (new_world app serves pool models)).link number).down (all.links number).writes
 
-pub values_are_texts : SentIsRead → Given → AlwaysTyped ValuesAreTexts
+pub values_are_texts : SentIsRead → LowerLaws → AlwaysTyped ValuesAreTexts
 values_are_texts read given app serves pool models events is asks lists few are typed number =
     ((all_can read given app serves pool models events is asks lists few are typed).links number).values

@@ -10,10 +10,10 @@ use Rattle.datastream.specs.InboundText.{InboundParts}
 use Rattle.datastream.specs.Screen.{Screen}
 use Rattle.datastream.specs.declared.inbound_part.Form.TheVariants.{Modified}
 use Rattle.shadow.specs.Belief.{Shadow}
-use Rattle.shadow.specs.Openness.{IsClearedBelief}
+use Rattle.shadow.specs.TextUnknown.{IsClearedBelief}
 use Rattle.host_core.specs.NoteLaws.{IsNoteOf}
-use Rattle.world3270.specs.Headline.{SentFields}
-use Rattle.world3270.specs.TurnReasons.{IsCleared}
+use Rattle.world3270.specs.statement.Headline.{SentFields}
+use Rattle.world3270.specs.statement.TurnReasons.{IsCleared}
 
 -- what was sent for a key is data of the modified fields, with the key's identifier
 either : (P : InboundParts → Type 0) (b : Bool) (first second : InboundParts) → P first → P second → P (if b then first else second)

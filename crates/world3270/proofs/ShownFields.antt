@@ -33,21 +33,21 @@ use Rattle.shadow.specs.Meets.{Meets}
 use Rattle.shadow.specs.Painted.{plainly_painted}
 use Rattle.shadow.specs.PaintedFields.{HasField, KeptStaysThere, WantsKept, WantsWritten, WrittenIsThere}
 use Rattle.shadow.proofs.Keeps.{no_keep, paintable_fits}
-use Rattle.host_core.specs.Acts.{Act, Decision, after_key, belief_of, decision_on, first_missing, is_in_doubt, is_to_be_read, learned, led, once_filled_in, known_despite, unless_missing, wanted_by, when_shown}
+use Rattle.host_core.specs.Acts.{Act, Decision, after_key, belief_of, decision_on, first_missing, is_in_doubt, is_to_be_read, learned, on_key, once_filled_in, known_despite, check_required, wanted_by, when_shown}
 use Rattle.host_core.specs.Application.{Application, IsApplication}
 use Rattle.host_core.specs.Questions.{act_by, has_value_of}
-use Rattle.host_core.specs.Session.{Conn, model_in}
+use Rattle.host_core.specs.Session.{Session, model_in}
 use Rattle.host_core.specs.Takes.{is_verified}
-use Rattle.host_core.specs.declared.question.Answer.{Answer as Said}
+use Rattle.host_core.specs.declared.question.Answer.{Answer as ApplicationAnswer}
 use Rattle.host_core.specs.declared.turn_reason.TurnReason.{TurnReason}
 use Rattle.host_core.specs.declared.turn_reason.TurnReason.TheVariants as turn_reasons
 use Rattle.host_core.specs.declared.unheard.Unheard.{Unheard}
 use Rattle.host_core.specs.declared.unheard.Unheard.TheVariants as unheards
-use Rattle.world3270.specs.Asked.{StandsAt}
-use Rattle.world3270.specs.Showing.{IsDecided, IsKnownIfRead, IsTextKnown, KnowsItsFields, ShowsItsPanel}
+use Rattle.world3270.specs.statement.Asked.{IsFieldText}
+use Rattle.world3270.specs.statement.Showing.{IsDecided, IsKnownIfRead, IsTextKnown, KnowsItsFields, ShowsItsPanel}
 use Rattle.world3270.proofs.Acting.{wanted_in_a_way}
 use Rattle.world3270.proofs.Asked.{IsTextOf, asked_sure, belief_there, learned_has, stands_at, sure_told}
-use Rattle.world3270.specs.ShownFields.{AreShown, IsKept, IsWritten, OtherTextsAreNot, ShowsField, WantsItsFields, fitted, is_again}
+use Rattle.world3270.specs.statement.ShownFields.{AreShown, IsKept, IsWritten, OtherTextsAreNot, ShowsField, WantsItsFields, fitted, is_again}
 
 -- ---- what is kept is shown again
 
@@ -60,10 +60,10 @@ abbrev is_again_in : Decision → Bool
 is_again_in (Decision.Do act) = is_again_by act
 is_again_in Decision.Asks = true
 
-again_filled : (app : Application) (conn : Conn) (decision : Decision) (values : Values) (aid : Aid) → is_again_in decision ≡ true → is_again_in (once_filled_in app conn decision values aid) ≡ true
+again_filled : (app : Application) (conn : Session) (decision : Decision) (values : Values) (aid : Aid) → is_again_in decision ≡ true → is_again_in (once_filled_in app conn decision values aid) ≡ true
 again_filled app conn decision values Enter is = by_missing (first_missing values (app.fields conn.panel))
   where
-    by_missing : (missing : Option ℕ) → is_again_in (unless_missing conn.panel decision values missing) ≡ true
+    by_missing : (missing : Option ℕ) → is_again_in (check_required conn.panel decision values missing) ≡ true
     by_missing None = is
     by_missing (Some field) = refl
 again_filled app conn decision values NoAid is = is
@@ -71,21 +71,21 @@ again_filled app conn decision values Clear is = is
 again_filled app conn decision values (Pf key) is = is
 again_filled app conn decision values (Pa key) is = is
 
-again_led : (app : Application) (conn : Conn) (values : Values) (aid : Aid) (next : Next) → is_again_in (led app conn values aid next) ≡ true
+again_led : (app : Application) (conn : Session) (values : Values) (aid : Aid) (next : Next) → is_again_in (on_key app conn values aid next) ≡ true
 again_led app conn values aid Again = refl
 again_led app conn values aid (Go target) = again_filled app conn (Decision.Do (Act.Show target Fresh false values)) values aid refl
 again_led app conn values aid Ask = again_filled app conn Decision.Asks values aid refl
 
-again_key : (app : Application) (conn : Conn) (aid : Aid) (buffered : Bool) → is_again_in (after_key app conn aid buffered) ≡ true
+again_key : (app : Application) (conn : Session) (aid : Aid) (buffered : Bool) → is_again_in (after_key app conn aid buffered) ≡ true
 again_key app conn aid buffered = by_aid aid
   where
     either : (read : Bool) (led_to : Decision) → is_again_in led_to ≡ true → is_again_in (if read then Decision.Do Act.Read else led_to) ≡ true
     either true led_to is = refl
     either false led_to is = is
 
-    leads : (aid : Aid) → is_again_in (if is_to_be_read app conn aid && not buffered then Decision.Do Act.Read else led app conn (learned conn.shadow (app.fields conn.panel) conn.values) aid (app.next conn.panel aid)) ≡ true
+    leads : (aid : Aid) → is_again_in (if is_to_be_read app conn aid && not buffered then Decision.Do Act.Read else on_key app conn (learned conn.shadow (app.fields conn.panel) conn.values) aid (app.next conn.panel aid)) ≡ true
     leads aid =
-        either (is_to_be_read app conn aid && not buffered) (led app conn (learned conn.shadow (app.fields conn.panel) conn.values) aid (app.next conn.panel aid))
+        either (is_to_be_read app conn aid && not buffered) (on_key app conn (learned conn.shadow (app.fields conn.panel) conn.values) aid (app.next conn.panel aid))
         (again_led app conn (learned conn.shadow (app.fields conn.panel) conn.values) aid (app.next conn.panel aid))
 
     by_aid : (aid : Aid) → is_again_in (after_key app conn aid buffered) ≡ true
@@ -95,12 +95,12 @@ again_key app conn aid buffered = by_aid aid
     by_aid (Pf key) = leads (Pf key)
     by_aid (Pa key) = leads (Pa key)
 
-again_decided : (app : Application) (conn : Conn) (reason : TurnReason) → is_again_in (decision_on app conn reason) ≡ true
+again_decided : (app : Application) (conn : Session) (reason : TurnReason) → is_again_in (decision_on app conn reason) ≡ true
 again_decided app conn turn_reasons.Agreement = refl
 again_decided app conn (turn_reasons.Key aid buffered) = again_key app conn aid buffered
 again_decided app conn turn_reasons.Refusal = refl
 
-again_answered : (app : Application) (conn : Conn) (said : Said) (panel : Option ℕ) → is_again_by (act_by app conn said panel) ≡ true
+again_answered : (app : Application) (conn : Session) (said : ApplicationAnswer) (panel : Option ℕ) → is_again_by (act_by app conn said panel) ≡ true
 again_answered app conn said None = by_value (has_value_of (app.fields conn.panel) said.values)
   where
     by_value : (has : Bool) → (if not has then true else true) ≡ true
@@ -108,7 +108,7 @@ again_answered app conn said None = by_value (has_value_of (app.fields conn.pane
     by_value false = refl
 again_answered app conn said (Some panel) = refl
 
-kept_again : (app : Application) (conn : Conn) (panel : ℕ) (message : Message) (values : Values) → IsDecided app conn (Act.Show panel message true values) → is_again message ≡ true
+kept_again : (app : Application) (conn : Session) (panel : ℕ) (message : Message) (values : Values) → IsDecided app conn (Act.Show panel message true values) → is_again message ≡ true
 kept_again app conn panel message values (IsDecided.by_host is) = sym (ap is_again_in is) ∙ again_decided app conn conn.turn_reason
 kept_again app conn panel message values (IsDecided.by_application said asks is) = ap is_again_by is ∙ again_answered app conn said said.panel
 
@@ -151,21 +151,21 @@ is_character extent i below = (omega arith, omega (arith, below))
 -- ---- what is kept is known
 
 -- nothing of the panel is in doubt, or the screen was read
-abbrev IsSure : Application → Conn → Type 0
+abbrev IsSure : Application → Session → Type 0
 IsSure app conn = (list_any (is_in_doubt conn.shadow) (app.fields conn.panel) ≡ false) ⊎ All IsTextKnown (fields_of conn.shadow)
 
 -- An act that keeps fields shows the same panel again, with the texts that are known as the values of its fields.
-record Keeps (app : Application) (conn : Conn) (panel : ℕ) (values : Values) : Type 0 where
+record Keeps (app : Application) (conn : Session) (panel : ℕ) (values : Values) : Type 0 where
   again : panel ≡ conn.panel
   learnt : (index : ℕ) (field : PanelField) → slice_get (app.fields conn.panel) index ≡ Some field
       → value_of values field.number ≡ value_of (learned conn.shadow (app.fields conn.panel) conn.values) field.number
   sure : IsSure app conn
 
-abbrev KeepsBy : Application → Conn → Act → Type 0
+abbrev KeepsBy : Application → Session → Act → Type 0
 KeepsBy app conn Act.Read = ⊤
 KeepsBy app conn (Act.Show panel message keep values) = keep ≡ true → Keeps app conn panel values
 
-abbrev KeepsIn : Application → Conn → Decision → Type 0
+abbrev KeepsIn : Application → Session → Decision → Type 0
 KeepsIn app conn (Decision.Do act) = KeepsBy app conn act
 KeepsIn app conn Decision.Asks = ⊤
 
@@ -178,14 +178,14 @@ unverified : (verified doubted : Bool) → ((verified || doubted) && true) ≡ f
 unverified true doubted e = absurd (cc)
 unverified false doubted e = unmarked doubted e
 
-module _ (app : Application) (conn : Conn) where
+module _ (app : Application) (conn : Session) where
   its_values : IsSure app conn → Keeps app conn conn.panel (learned conn.shadow (app.fields conn.panel) conn.values)
   its_values sure = record { again = refl; learnt = λ index field at. refl; sure = sure }
 
   filled_keeps : (decision : Decision) (aid : Aid) → IsSure app conn → KeepsIn app conn decision → KeepsIn app conn (once_filled_in app conn decision (learned conn.shadow (app.fields conn.panel) conn.values) aid)
   filled_keeps decision Enter sure is = by_missing (first_missing (learned conn.shadow (app.fields conn.panel) conn.values) (app.fields conn.panel))
     where
-      by_missing : (missing : Option ℕ) → KeepsIn app conn (unless_missing conn.panel decision (learned conn.shadow (app.fields conn.panel) conn.values) missing)
+      by_missing : (missing : Option ℕ) → KeepsIn app conn (check_required conn.panel decision (learned conn.shadow (app.fields conn.panel) conn.values) missing)
       by_missing None = is
       by_missing (Some field) = λ keeps. its_values sure
   filled_keeps decision NoAid sure is = is
@@ -193,7 +193,7 @@ module _ (app : Application) (conn : Conn) where
   filled_keeps decision (Pf key) sure is = is
   filled_keeps decision (Pa key) sure is = is
 
-  led_keeps : (aid : Aid) (next : Next) → IsSure app conn → KeepsIn app conn (led app conn (learned conn.shadow (app.fields conn.panel) conn.values) aid next)
+  led_keeps : (aid : Aid) (next : Next) → IsSure app conn → KeepsIn app conn (on_key app conn (learned conn.shadow (app.fields conn.panel) conn.values) aid next)
   led_keeps aid Again sure = λ keeps. its_values sure
   led_keeps aid (Go target) sure = filled_keeps (Decision.Do (Act.Show target Fresh false (learned conn.shadow (app.fields conn.panel) conn.values))) aid sure (λ keeps. absurd (cc))
   led_keeps aid Ask sure = filled_keeps Decision.Asks aid sure tt
@@ -215,9 +215,9 @@ module _ (app : Application) (conn : Conn) where
       either false led_to is = is refl
 
       leads : (aid : Aid) → IsKnownIfRead (turn_reasons.Key aid buffered) conn.shadow
-          → KeepsIn app conn (if is_to_be_read app conn aid && not buffered then Decision.Do Act.Read else led app conn (learned conn.shadow (app.fields conn.panel) conn.values) aid (app.next conn.panel aid))
+          → KeepsIn app conn (if is_to_be_read app conn aid && not buffered then Decision.Do Act.Read else on_key app conn (learned conn.shadow (app.fields conn.panel) conn.values) aid (app.next conn.panel aid))
       leads aid read =
-          either (is_to_be_read app conn aid && not buffered) (led app conn (learned conn.shadow (app.fields conn.panel) conn.values) aid (app.next conn.panel aid))
+          either (is_to_be_read app conn aid && not buffered) (on_key app conn (learned conn.shadow (app.fields conn.panel) conn.values) aid (app.next conn.panel aid))
           (λ unread. led_keeps aid (app.next conn.panel aid) (sure_then aid buffered read unread))
 
       by_aid : (aid : Aid) → IsKnownIfRead (turn_reasons.Key aid buffered) conn.shadow → KeepsIn app conn (after_key app conn aid buffered)
@@ -281,7 +281,7 @@ not_true : (b : Bool) → not b ≡ true → b ≡ false
 not_true true e = absurd (cc)
 not_true false e = refl
 
-answer_keeps : (app : Application) (conn : Conn) (said : Said) (panel : Option ℕ) → IsSure app conn → KeepsBy app conn (act_by app conn said panel)
+answer_keeps : (app : Application) (conn : Session) (said : ApplicationAnswer) (panel : Option ℕ) → IsSure app conn → KeepsBy app conn (act_by app conn said panel)
 answer_keeps app conn said None sure = λ keeps. record {
   again = refl;
   learnt = λ index field at.
@@ -291,7 +291,7 @@ answer_keeps app conn said None sure = λ keeps. record {
 }
 answer_keeps app conn said (Some panel) sure = λ keeps. absurd (cc)
 
-act_keeps : (app : Application) (conn : Conn) (panel : ℕ) (message : Message) (values : Values) → IsDecided app conn (Act.Show panel message true values) → KnowsItsFields app conn → Keeps app conn panel values
+act_keeps : (app : Application) (conn : Session) (panel : ℕ) (message : Message) (values : Values) → IsDecided app conn (Act.Show panel message true values) → KnowsItsFields app conn → Keeps app conn panel values
 act_keeps app conn panel message values (IsDecided.by_host is) knows = (subst (KeepsIn app conn) is (decided_keeps app conn conn.turn_reason knows.read)) refl
 act_keeps app conn panel message values (IsDecided.by_application said asks is) knows =
     (subst (KeepsBy app conn) (sym is) (answer_keeps app conn said said.panel (asked_sure app conn conn.turn_reason knows.read asks))) refl
@@ -329,7 +329,7 @@ text_known_there unheard (Shadow.Formatted beliefs) before wanted field its cell
     belief_there (field.extent.first - 1) beliefs (fields before.cells) there.0 its meets.1 settled there.1 there.2 place
 
 -- a text that stands at a field is that field's
-stands_text : (field : PanelField) (text : List ℕ) (screen : Screen) (attribute : Attr) (kept : List ℕ) → StandsAt field text screen → ShowsField screen field attribute kept → without_nulls kept ≡ text
+stands_text : (field : PanelField) (text : List ℕ) (screen : Screen) (attribute : Attr) (kept : List ℕ) → IsFieldText field text screen → ShowsField screen field attribute kept → without_nulls kept ≡ text
 stands_text field text screen attribute kept stands shows =
     let its : Field = record { place = field.extent.first - 1; attr = attribute; text = kept } in
     let on : Contains (fields screen.cells) stands.on_screen =
@@ -399,7 +399,7 @@ module _ (app : Application) (is : IsApplication app) (wants : WantsItsFields ap
         is = subst (λ (s : Screen). HasField s its) (sym painted) (subst (λ (f : Field). HasField (plainly_painted wanted before) f) same stays.is);
       }
 
-pub fields_shown : WrittenIsThere → KeptStaysThere → (app : Application) → IsApplication app → WantsItsFields app → (waits : Bool) (host : Conn) (before screen : Screen) → ShowsItsPanel app waits host before screen
+pub fields_shown : WrittenIsThere → KeptStaysThere → (app : Application) → IsApplication app → WantsItsFields app → (waits : Bool) (host : Session) (before screen : Screen) → ShowsItsPanel app waits host before screen
     → AreShown waits (app.fields host.panel) host.values host.message before screen
 fields_shown written kept app is wants waits host before screen shown = by_keep shown.wanted_for.keep shown.wanted_for.is_decided shown.wanted_for.knows shown.wanted_for.wanted_is
   where
@@ -412,7 +412,7 @@ fields_shown written kept app is wants waits host before screen shown = by_keep 
     message : Message
     message = host.message
 
-    conn : Conn
+    conn : Session
     conn = shown.wanted_for.conn
 
     in_full : shown.wanted ≡ app.screen panel values message false → AreShown waits (app.fields panel) values message before screen
@@ -439,7 +439,7 @@ fields_shown written kept app is wants waits host before screen shown = by_keep 
         let cell : slice_get shown.wanted.cells (field.extent.first + 0) ≡ Some want.Keep =
         ap (λ (w : WantedScreen). slice_get w.cells (field.extent.first + 0)) is_that ∙ wants.kept panel values message index field (field.extent.first + 0) at (is_character field.extent 0 (some_cell field.extent)) in
         let told : IsTextOf (belief_of conn.shadow field) = by_sure index field attribute text at_conn meets fits_it cell shows keeps.sure in
-        let stands : StandsAt field told.0 before = stands_at conn.shadow before field told.0 meets told.1 in
+        let stands : IsFieldText field told.0 before = stands_at conn.shadow before field told.0 meets told.1 in
         keeps.learnt index field at_conn ∙ learned_has conn.shadow (app.fields conn.panel) conn.values index field told.0 (wants.numbers conn.panel) at_conn told.1
         ∙ ap Some (sym (stands_text field told.0 before attribute text stands shows))
 
@@ -464,7 +464,7 @@ fields_shown written kept app is wants waits host before screen shown = by_keep 
 
 -- ---- the cursor
 
-pub cursor_shown : (app : Application) → WantsItsFields app → (waits : Bool) (host : Conn) (before screen : Screen) → ShowsItsPanel app waits host before screen
+pub cursor_shown : (app : Application) → WantsItsFields app → (waits : Bool) (host : Session) (before screen : Screen) → ShowsItsPanel app waits host before screen
     → screen.cursor ≡ (app.screen host.panel host.values host.message false).cursor
 cursor_shown app wants waits host before screen shown =
     let way = wanted_in_a_way app (when_shown shown.wanted_for.conn) host.panel host.message shown.wanted_for.keep host.values in

@@ -11,33 +11,33 @@ use Rattle.panels.specs.Panel.{AreSound, HasItemsApart, HaveNumbersApart, HaveOt
 use Rattle.panels.specs.declared.panel.Field.{Field as PanelField}
 use Rattle.host_core.specs.Application.{Application, IsApplication, application_of, no_panel, panel_at}
 use Rattle.host_core.specs.Laws.{PanelsAreShown}
-use Rattle.host_core.specs.Session.{Conn}
-use Rattle.world3270.specs.Always.{AlwaysOf}
-use Rattle.world3270.specs.ByteWorld.{is_there}
-use Rattle.world3270.specs.Given.{Given}
-use Rattle.world3270.specs.Happens.{run}
-use Rattle.world3270.specs.Link.{Link}
-use Rattle.world3270.specs.Moments.{Serving, Moment, turn_at, pending_at}
-use Rattle.world3270.specs.Refines.{Begin, after}
-use Rattle.world3270.specs.Seen.{SeenLink, TerminalSeen}
-use Rattle.world3270.specs.Showing.{ShowsItsPanel}
-use Rattle.world3270.specs.Shown.{FieldsAreShown, HasShown, IsPanelShown, PanelIsShown, PanelIsShownOverBytes, is_painting}
-use Rattle.world3270.specs.ShownFields.{WantsItsFields}
-use Rattle.world3270.specs.Stages.{Fact, Kept, Scene, scene_of, ShownAt}
-use Rattle.world3270.specs.Standing.{conn_of, link_of}
-use Rattle.world3270.specs.Stands.{LinkStands}
-use Rattle.world3270.specs.View.{view_of}
-use Rattle.world3270.specs.World.{World, new_world}
+use Rattle.host_core.specs.Session.{Session}
+use Rattle.world3270.specs.statement.Always.{AlwaysOf}
+use Rattle.world3270.specs.model.ByteWorld.{is_there}
+use Rattle.world3270.specs.refinement.LowerLaws.{LowerLaws}
+use Rattle.world3270.specs.model.Steps.{run}
+use Rattle.world3270.specs.model.Link.{Link}
+use Rattle.world3270.specs.refinement.Phases.{Serving, LinkPhase, turn_at, pending_at}
+use Rattle.world3270.specs.refinement.Refines.{Begin, after}
+use Rattle.world3270.specs.statement.Observation.{SeenLink, TerminalSeen}
+use Rattle.world3270.specs.statement.Showing.{ShowsItsPanel}
+use Rattle.world3270.specs.statement.Shown.{FieldsAreShown, HasShown, IsPanelShown, PanelIsShown, PanelIsShownOverBytes, is_painting}
+use Rattle.world3270.specs.statement.ShownFields.{WantsItsFields}
+use Rattle.world3270.specs.refinement.Invariant.{Fact, Kept, LocalState, local_state_of, ShownAt}
+use Rattle.world3270.specs.refinement.Representation.{conn_of, link_of}
+use Rattle.world3270.specs.refinement.Represents.{LinkRepresents}
+use Rattle.world3270.specs.refinement.View.{view_of}
+use Rattle.world3270.specs.model.World.{World, new_world}
 use Rattle.world3270.proofs.AskedOverBytes.{panel_there}
 use Rattle.world3270.proofs.Headline.{terminal_attached}
-use Rattle.world3270.proofs.SeenStands.{same_seen}
+use Rattle.world3270.proofs.SeenRepresents.{same_seen}
 use Rattle.world3270.proofs.ShownFields.{cursor_shown, fields_shown}
 use Rattle.world3270.proofs.Waits.{all_wait}
 use Rattle.world3270.proofs.Worlds.{new_good, run_good}
 
-module _ (app : Application) (waits : Bool) (host : Conn) (before left now : Screen) (has : HasShown host) where
-  shown_in : (lu : List ℕ) (serving : Serving) → host.turn ≡ turn_at (Moment.Serves lu serving) → is_painting (pending_at (Moment.Serves lu serving)) ≡ false
-      → ShownAt app waits host before left now (Moment.Serves lu serving) → ShowsItsPanel app waits host before left
+module _ (app : Application) (waits : Bool) (host : Session) (before left now : Screen) (has : HasShown host) where
+  shown_in : (lu : List ℕ) (serving : Serving) → host.turn ≡ turn_at (LinkPhase.Serves lu serving) → is_painting (pending_at (LinkPhase.Serves lu serving)) ≡ false
+      → ShownAt app waits host before left now (LinkPhase.Serves lu serving) → ShowsItsPanel app waits host before left
   shown_in lu Serving.Deciding turn answered shown = shown.0 (has.not_first turn)
   shown_in lu (Serving.Reading number) turn answered shown = shown (has.not_first turn)
   shown_in lu (Serving.Reported number parts) turn answered shown = shown (has.not_first turn)
@@ -52,17 +52,17 @@ module _ (app : Application) (waits : Bool) (host : Conn) (before left now : Scr
   shown_in lu (Serving.KeyNoted number command parts) turn answered shown = shown
   shown_in lu (Serving.KeyBefore number command parts) turn answered shown = shown
 
-  shown_at : (wanted : Option (List ℕ)) (s : Scene) (moment : Moment) → s.turn_reason ≡ host.turn_reason → host.turn ≡ turn_at moment → is_painting (pending_at moment) ≡ false → Fact wanted s moment
+  shown_at : (wanted : Option (List ℕ)) (s : LocalState) (moment : LinkPhase) → s.turn_reason ≡ host.turn_reason → host.turn ≡ turn_at moment → is_painting (pending_at moment) ≡ false → Fact wanted s moment
       → ShownAt app waits host before left now moment → ShowsItsPanel app waits host before left
-  shown_at wanted s (Moment.Talks talking) same turn answered fact shown = absurd (has.not_first turn (sym same ∙ fact.0.turn_reason))
-  shown_at wanted s (Moment.Begins lu number command wants over) same turn answered fact shown = absurd (cc)
-  shown_at wanted s (Moment.Serves lu serving) same turn answered fact shown = shown_in lu serving turn answered shown
+  shown_at wanted s (LinkPhase.Talks talking) same turn answered fact shown = absurd (has.not_first turn (sym same ∙ fact.0.turn_reason))
+  shown_at wanted s (LinkPhase.Begins lu number command wants over) same turn answered fact shown = absurd (cc)
+  shown_at wanted s (LinkPhase.Serves lu serving) same turn answered fact shown = shown_in lu serving turn answered shown
 
 pub shown_now : (app : Application) (link : Link) → Kept app (view_of link) → HasShown link.host → ShowsItsPanel app link.term.waits link.host link.term.display.before_restored link.term.display.last_restored
 shown_now app link k has =
-    shown_at app link.term.waits link.host link.term.display.before_restored link.term.display.last_restored link.term.display.screen has k.wanted (scene_of (view_of link)) k.moment refl k.at.turn (ap is_painting (sym k.at.pending) ∙ has.answered) k.fact k.shown
+    shown_at app link.term.waits link.host link.term.display.before_restored link.term.display.last_restored link.term.display.screen has k.wanted (local_state_of (view_of link)) k.moment refl k.at.turn (ap is_painting (sym k.at.pending) ∙ has.answered) k.fact k.shown
 
-pub panel_is_shown : Given → AlwaysOf PanelIsShown
+pub panel_is_shown : LowerLaws → AlwaysOf PanelIsShown
 panel_is_shown given app serves pool models events is lists few are =
     let world : World = run app events (new_world app serves pool models) in
     let g = run_good given app is events (new_world app serves pool models) are (new_good given app is serves pool models lists) in
@@ -163,7 +163,7 @@ panel_is_shown_over_bytes known always bytes is number rest host terminal servic
     let is_app : IsApplication app = known.application begin.panels is.is_begin.panels.otherwise is.is_begin.panels.laid_out is.is_begin.panels.apart in
     let world : World = after begin is.events in
     let link : Link = world.link number in
-    let stands : LinkStands (link_of number bytes) link = is.reached.stands.links number in
+    let stands : LinkRepresents (link_of number bytes) link = is.reached.stands.links number in
     let here : link.host_here ≡ true = sym stands.host_here ∙ ap is_there service_is in
     let same : host ≡ link.host = sym (ap conn_of service_is) ∙ (stands.host here).host in
     let seen_there = sym (ap (λ (l : SeenLink). l.terminal) (same_seen bytes world is.reached.stands number)) ∙ terminal_is in
@@ -171,4 +171,4 @@ panel_is_shown_over_bytes known always bytes is number rest host terminal servic
     always app begin.serves begin.pool begin.models is.events is_app is.is_begin.pool is.is_begin.few is.reached.are_events
     (wants_its_fields known begin.panels is.is_begin.panels) number terminal here seen_there (subst HasShown same has) in
     subst (λ (p : Panels). IsPanelShown (application_of p) true host terminal.before_restored terminal.last_restored) (sym is.reached.panels)
-    (subst (λ (c : Conn). IsPanelShown app true c terminal.before_restored terminal.last_restored) (sym same) shown)
+    (subst (λ (c : Session). IsPanelShown app true c terminal.before_restored terminal.last_restored) (sym same) shown)

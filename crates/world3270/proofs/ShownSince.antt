@@ -16,49 +16,49 @@ use Rattle.host_core.specs.Application.{Application, application_of}
 use Rattle.host_core.specs.Does.{DoesAnswer, with_conn}
 use Rattle.host_core.specs.Notes.{may_note, noted, noted_as}
 use Rattle.host_core.specs.Questions.{act_by, answered_by, answered_in, answered_on, has_its_panel, is_asking, is_ticket, ticket_of, values_for}
-use Rattle.host_core.specs.Session.{Conn, is_agreed, model_in}
+use Rattle.host_core.specs.Session.{Session, is_agreed, model_in}
 use Rattle.host_core.specs.State.{Connection, Service, connection_at, service_at, session_at}
 use Rattle.host_core.specs.Takes.{took as host_took}
 use Rattle.host_core.specs.declared.acted.Acted.{Acted}
 use Rattle.host_core.specs.declared.acted.Acted.TheVariants as acted_as
-use Rattle.host_core.specs.declared.question.Answer.{Answer as Said}
+use Rattle.host_core.specs.declared.question.Answer.{Answer as ApplicationAnswer}
 use Rattle.host_core.specs.declared.question.Ticket.{Ticket}
-use Rattle.world3270.specs.ByteSteps.{HappensIf, Steps, answer_acted, has_place as has_byte_place}
-use Rattle.world3270.specs.ByteWorld.{ByteWorld, is_there}
-use Rattle.world3270.specs.Link.{Link, host_sent}
-use Rattle.world3270.specs.Refines.{Begin, Reached, SkipsAreThose, StepsGoOn, after}
-use Rattle.world3270.specs.Shown.{PanelIsShownOverBytes}
-use Rattle.world3270.specs.ShownSince.{AnswersAreShownOverBytes, IsAnswered, IsSamePanel, StepsKeepPanels, WaitingKeepsTheScreen}
-use Rattle.world3270.specs.Standing.{conn_of}
-use Rattle.world3270.specs.Terminal.{Display, data_of, outcome_of}
-use Rattle.world3270.specs.World.{Event}
+use Rattle.world3270.specs.model.ByteSteps.{IsStepIf, Steps, answer_acted, is_enabled as is_enabled_over_bytes}
+use Rattle.world3270.specs.model.ByteWorld.{ByteWorld, is_there}
+use Rattle.world3270.specs.model.Link.{Link, host_sent}
+use Rattle.world3270.specs.refinement.Refines.{Begin, Reached, SkipsAreThose, StepsGoOn, after}
+use Rattle.world3270.specs.statement.Shown.{PanelIsShownOverBytes}
+use Rattle.world3270.specs.statement.ShownSince.{AnswersAreShownOverBytes, IsAnswered, IsSamePanel, StepsKeepPanels, WaitingKeepsTheScreen}
+use Rattle.world3270.specs.refinement.Representation.{conn_of}
+use Rattle.world3270.specs.model.Terminal.{Display, data_of, outcome_of}
+use Rattle.world3270.specs.model.World.{Event}
 use Rattle.world3270.specs.declared.event.Event.TheVariants as event
 use Rattle.world3270.specs.declared.event.Stepped.TheVariants as stepped
 use Rattle.world3270.proofs.HostSteps.{just_talks}
 use Rattle.world3270.proofs.Keys.{quiet_done, quiet_refused}
 use Rattle.world3270.proofs.Undecided.{Keeps, rests_hold, step_holds}
 
-same_panel : (conn : Conn) → IsSamePanel conn conn
+same_panel : (conn : Session) → IsSamePanel conn conn
 same_panel conn = record { panel = refl; values = refl; message = refl }
 
-same_on : (one other third : Conn) → IsSamePanel one other → IsSamePanel other third → IsSamePanel one third
+same_on : (one other third : Session) → IsSamePanel one other → IsSamePanel other third → IsSamePanel one third
 same_on one other third first second =
     record { panel = second.panel ∙ first.panel; values = second.values ∙ first.values; message = second.message ∙ first.message }
 
 -- ---- one event
 
 -- the host has the same panel for the connection as here
-abbrev HasPanel : Conn → Link → Type 0
+abbrev HasPanel : Session → Link → Type 0
 HasPanel conn link = IsSamePanel conn link.host
 
-noted_has : (conn : Conn) (text : List ℕ) (link : Link) → HasPanel conn link → HasPanel conn (host_sent (noted text link.host) link)
+noted_has : (conn : Session) (text : List ℕ) (link : Link) → HasPanel conn link → HasPanel conn (host_sent (noted text link.host) link)
 noted_has conn text link has = by_test (may_note link.host.turn link.host.pending (is_agreed link.host.talk.state))
   where
     by_test : (b : Bool) → HasPanel conn (host_sent (if b then Some (noted_as text link.host) else None) link)
     by_test true = record { panel = has.panel; values = has.values; message = has.message }
     by_test false = has
 
-keeps_panel : (conn : Conn) → Keeps (HasPanel conn)
+keeps_panel : (conn : Session) → Keeps (HasPanel conn)
 keeps_panel conn = record {
   up = λ pool link message rest is has.
       let talks = just_talks pool link.host message in
@@ -72,12 +72,12 @@ keeps_panel conn = record {
 }
 
 -- a connection over bytes at which the host is, and the one over messages
-pub record Stands (begin : Begin) (events : List Event) (number : ℕ) (conn : Conn) : Type 0 where
+pub record Means (begin : Begin) (events : List Event) (number : ℕ) (conn : Session) : Type 0 where
   pub here : ((after begin events).link number).host_here ≡ true
   pub same : conn ≡ ((after begin events).link number).host
 
-pub stands_at : (begin : Begin) (events : List Event) (bytes : ByteWorld) (number : ℕ) (rest : Rest) (conn : Conn) → Reached begin events bytes → service_at number bytes.host ≡ Service.Open rest conn
-    → Stands begin events number conn
+pub stands_at : (begin : Begin) (events : List Event) (bytes : ByteWorld) (number : ℕ) (rest : Rest) (conn : Session) → Reached begin events bytes → service_at number bytes.host ≡ Service.Open rest conn
+    → Means begin events number conn
 stands_at begin events bytes number rest conn reached is =
     let stands = reached.stands.links number in
     let here : ((after begin events).link number).host_here ≡ true = sym stands.host_here ∙ ap is_there is in
@@ -93,7 +93,7 @@ steps_keep go skips event old answer new is real steps number rest behind conn l
 
 -- ---- an answer
 
-done_answer : (app : Application) (conn : Conn) (said : Said) (panel : Option ℕ) → said.panel ≡ panel → IsAnswered app conn said (shown_by app conn (act_by app conn said panel)).conn
+done_answer : (app : Application) (conn : Session) (said : ApplicationAnswer) (panel : Option ℕ) → said.panel ≡ panel → IsAnswered app conn said (shown_by app conn (act_by app conn said panel)).conn
 done_answer app conn said None is = record {
   panel = ap (λ (p : Option ℕ). app.shown (model_in conn) (unwrap_or p conn.panel)) (sym is);
   values = ap (values_for app conn said) (sym is);
@@ -105,7 +105,7 @@ done_answer app conn said (Some panel) is = record {
   message = refl;
 }
 
-answered_sent : (app : Application) (session : ℕ) (ticket : Ticket) (said : Said) (conn : Conn) (sent : Sent) → answered_in app session ticket said conn ≡ Some sent → IsAnswered app conn said sent.conn
+answered_sent : (app : Application) (session : ℕ) (ticket : Ticket) (said : ApplicationAnswer) (conn : Session) (sent : Sent) → answered_in app session ticket said conn ≡ Some sent → IsAnswered app conn said sent.conn
 answered_sent app session ticket said conn sent is = by_ticket (is_ticket ticket (ticket_of session conn)) is
   where
     by_asked : (b : Bool) → (if b then Some (shown_by app conn (act_by app conn said said.panel)) else None) ≡ Some sent → IsAnswered app conn said sent.conn
@@ -117,12 +117,12 @@ answered_sent app session ticket said conn sent is = by_ticket (is_ticket ticket
     by_ticket false is = absurd (cc)
 
 -- what the connection is once the answer was taken
-taken_answer : (app : Application) (session number : ℕ) (ticket : Ticket) (said : Said) (rest : Rest) (conn : Conn) (old new : Connection) (act : Acted) → old.service ≡ Service.Open rest conn → answer_acted act ≡ stepped.Done
-    → DoesAnswer app said (answered_by app session ticket said old.service) old act new → (later : Conn) × (new.service ≡ Service.Open rest later) × IsAnswered app conn said later
+taken_answer : (app : Application) (session number : ℕ) (ticket : Ticket) (said : ApplicationAnswer) (rest : Rest) (conn : Session) (old new : Connection) (act : Acted) → old.service ≡ Service.Open rest conn → answer_acted act ≡ stepped.Done
+    → DoesAnswer app said (answered_by app session ticket said old.service) old act new → (later : Session) × (new.service ≡ Service.Open rest later) × IsAnswered app conn said later
 taken_answer app session number ticket said rest conn old new act is went does = by_sent (answered_in app session ticket said conn) refl act went (subst (λ (s : Service). DoesAnswer app said (answered_by app session ticket said s) old act new) is does)
   where
     by_sent : (sending : Option Sent) → answered_in app session ticket said conn ≡ sending → (act : Acted) → answer_acted act ≡ stepped.Done → DoesAnswer app said sending old act new
-        → (later : Conn) × (new.service ≡ Service.Open rest later) × IsAnswered app conn said later
+        → (later : Session) × (new.service ≡ Service.Open rest later) × IsAnswered app conn said later
     by_sent None e acted_as.Sent went does = absurd (let wrong = does.0 in cc)
     by_sent None e acted_as.Nothing went does = absurd (cc)
     by_sent None e acted_as.Memory went does = absurd (cc)
@@ -131,12 +131,12 @@ taken_answer app session number ticket said rest conn old new act is went does =
     by_sent (Some sent) e acted_as.Nothing went does = absurd (cc)
     by_sent (Some sent) e acted_as.Memory went does = absurd (cc)
 
-answer_taken : (number : ℕ) (ticket : Ticket) (said : Said) (old new : ByteWorld) (rest : Rest) (conn : Conn) → Steps (event.Answer number ticket said) old stepped.Done new → service_at number old.host ≡ Service.Open rest conn
-    → (later : Conn) × (service_at number new.host ≡ Service.Open rest later) × IsAnswered (application_of old.host.panels) conn said later
-answer_taken number ticket said old new rest conn steps is = by_place (has_byte_place (event.Answer number ticket said) old) steps
+answer_taken : (number : ℕ) (ticket : Ticket) (said : ApplicationAnswer) (old new : ByteWorld) (rest : Rest) (conn : Session) → Steps (event.Answer number ticket said) old stepped.Done new → service_at number old.host ≡ Service.Open rest conn
+    → (later : Session) × (service_at number new.host ≡ Service.Open rest later) × IsAnswered (application_of old.host.panels) conn said later
+answer_taken number ticket said old new rest conn steps is = by_place (is_enabled_over_bytes (event.Answer number ticket said) old) steps
   where
-    by_place : (b : Bool) → HappensIf b (event.Answer number ticket said) old stepped.Done new
-        → (later : Conn) × (service_at number new.host ≡ Service.Open rest later) × IsAnswered (application_of old.host.panels) conn said later
+    by_place : (b : Bool) → IsStepIf b (event.Answer number ticket said) old stepped.Done new
+        → (later : Session) × (service_at number new.host ≡ Service.Open rest later) × IsAnswered (application_of old.host.panels) conn said later
     by_place false skipped = absurd (let wrong = skipped.0 in cc)
     by_place true on =
         let went = taken_answer (application_of old.host.panels) (session_at number old.host) number ticket said rest conn (connection_at number old.host) (connection_at number on.host) on.act is (sym on.answers) on.acts in
@@ -195,7 +195,7 @@ locked Clear keyboard screen is = refuses keyboard screen is
 
 pub still_waits : (key : Key) (display : Display) → display.keyboard.lock ≡ Wait → StillWaits display.screen (outcome_of key display)
 still_waits key display is =
-    subst (λ (l : Lock). StillWaits display.screen (at_lock l display.shape.columns key display.keyboard display.screen)) (sym is) (locked key display.keyboard display.screen is)
+    subst (λ (l : Lock). StillWaits display.screen (at_lock l display.size.columns key display.keyboard display.screen)) (sym is) (locked key display.keyboard display.screen is)
 
 pub waiting_keeps : WaitingKeepsTheScreen
 waiting_keeps key display is = ((still_waits key display is).same, (still_waits key display is).lock)

@@ -5,7 +5,7 @@ use Rattle.codes3270.specs.declared.size.Model.TheVariants.{M5}
 use Rattle.std.specs.Prelude.{option_map, is_some}
 use Rattle.codes3270.specs.declared.attention.Aid.{Aid}
 use Rattle.lu_pool.specs.Asking.{answer_to}
-use Rattle.shadow.specs.Asked.{field_at}
+use Rattle.shadow.specs.Queries.{field_at}
 use Rattle.shadow.specs.Belief.{Fact, Belief}
 use Rattle.tn3270e_msg.specs.Device.{device_of}
 use Rattle.tn3270e_msg.specs.HostTable.{host_transition}
@@ -23,14 +23,14 @@ use Rattle.host_core.specs.declared.turn.Turn.{Turn}
 use Rattle.host_core.specs.declared.turn.Turn.TheVariants as whose
 use Rattle.host_core.specs.Takes.{talked_on}
 use Rattle.host_core.specs.declared.terminals.Terminals.TheVariants.{Waiting as WaitingTerminals}
-use Rattle.world3270.specs.ExampleApplication.{example, l1, example_pool}
-use Rattle.world3270.specs.ExampleEnds.{rounds, connects, connected, after, Decides}
-use Rattle.world3270.specs.Happens.{happens, run, host_took_it, came_up, term_took_it, came_down, went_down}
-use Rattle.world3270.specs.Headline.{IsHostsTurn}
-use Rattle.world3270.specs.Placed.{is_queued}
-use Rattle.world3270.specs.Seen.{conn_seen, end_seen, host_seen, seen_link, terminal_seen}
-use Rattle.world3270.specs.Terminal.{bound_to, replied}
-use Rattle.world3270.specs.World.{World, Event, new_world}
+use Rattle.world3270.specs.examples.ExampleApplication.{example, l1, example_pool}
+use Rattle.world3270.specs.examples.ExampleEnds.{rounds, connects, connected, after, Decides}
+use Rattle.world3270.specs.model.Steps.{stepped_by, run, host_took_it, came_up, term_took_it, came_down, went_down}
+use Rattle.world3270.specs.statement.Headline.{IsHostsTurn}
+use Rattle.world3270.specs.model.Enabled.{is_queued}
+use Rattle.world3270.specs.statement.Observation.{conn_seen, end_seen, host_seen, seen_link, terminal_seen}
+use Rattle.world3270.specs.model.Terminal.{bound_to, replied}
+use Rattle.world3270.specs.model.World.{World, Event, new_world}
 use Rattle.tn3270e_msg.proofs.Agreement.{responses_alone}
 use Rattle.world3270.proofs.RunsInPieces.{runs_compose}
 
@@ -58,14 +58,14 @@ pub record IsAgreed (world : World) : Type 0 where
   pub here : (world.link 0).term_here ≡ Some 0
   pub down : (world.link 0).down ≡ ToTerminal.TalksDown (Saying.Sub FunIs) ∷ drop 1 (world.link 0).down
 
-requested : (app : Application) (world : World) → IsRequested world → happens app (Event.Up 0) world ≡ request_taken ResponsesAlone world
+requested : (app : Application) (world : World) → IsRequested world → stepped_by app (Event.Up 0) world ≡ request_taken ResponsesAlone world
 unfolding request_taken
 requested app world is =
     ap (λ (here : Bool). if here && is_queued (world.link 0).up then came_up 0 (world.link 0).up world else world) is.here
     ∙ ap (λ (up : List ToHost). if is_queued up then came_up 0 up world else world) is.up
     ∙ ap (λ (wanted : FunctionsOffer). request_taken wanted world) responses_alone
 
-agreed : (app : Application) (world : World) → IsAgreed world → happens app (Event.Down 0) world ≡ agreement_taken ResponsesAlone world
+agreed : (app : Application) (world : World) → IsAgreed world → stepped_by app (Event.Down 0) world ≡ agreement_taken ResponsesAlone world
 unfolding agreement_taken
 agreed app world is =
     ap (λ (here : Option ℕ). if is_some here && is_queued (world.link 0).down then went_down 0 here world else world) is.here
@@ -74,7 +74,7 @@ agreed app world is =
 
 -- the host has taken the request, and acted
 unfoldable pub acted_on : Application → World → World
-acted_on app world = happens app (Event.Act 0) (request_taken ResponsesAlone world)
+acted_on app world = stepped_by app (Event.Act 0) (request_taken ResponsesAlone world)
 
 -- the round of a talk in which both ends agree
 unfoldable pub agree : Application → World → World
@@ -83,7 +83,7 @@ agree app world = agreement_taken ResponsesAlone (acted_on app world)
 round : (app : Application) (rest : List Event) (world : World) → IsRequested world → IsAgreed (acted_on app world) → run app (rounds 0 1 ++ rest) world ≡ run app rest (agree app world)
 unfolding acted_on agree
 round app rest world is after_it =
-    ap (λ (taken : World). run app rest (happens app (Event.Down 0) (happens app (Event.Act 0) taken))) (requested app world is)
+    ap (λ (taken : World). run app rest (stepped_by app (Event.Down 0) (stepped_by app (Event.Act 0) taken))) (requested app world is)
     ∙ ap (run app rest) (agreed app (acted_on app world) after_it)
 
 -- a run in which the terminal connects and agrees, from some world on

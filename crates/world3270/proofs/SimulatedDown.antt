@@ -17,12 +17,12 @@ use Rattle.tn3270e_msg.specs.TermTable.{Term}
 use Rattle.tn3270e_msg.specs.declared.cause.Cause.{Cause}
 use Rattle.host_core.specs.Application.{Application, IsApplication, message_place}
 use Rattle.host_core.specs.Messages.{ToHost, ToTerminal, Verdict}
-use Rattle.world3270.specs.EveryTerminal.{Told, paint_executed, told_if}
-use Rattle.world3270.specs.Given.{Given}
-use Rattle.world3270.specs.Link.{Link, sent, term_left_if, term_stepped}
-use Rattle.world3270.specs.Stages.{Kept}
-use Rattle.world3270.specs.Terminal.{Display, TermEnd, TermStep, bound_to, is_bound, note_came, once_bound, paint_came, read_came, talked}
-use Rattle.world3270.specs.View.{view_of}
+use Rattle.world3270.specs.statement.EveryTerminal.{ReportedLink, paint_executed, told_if}
+use Rattle.world3270.specs.refinement.LowerLaws.{LowerLaws}
+use Rattle.world3270.specs.model.Link.{Link, sent, term_left_if, term_stepped}
+use Rattle.world3270.specs.refinement.Invariant.{Kept}
+use Rattle.world3270.specs.model.Terminal.{Display, TermEnd, TermStep, bound_to, is_bound, note_came, once_bound, paint_came, read_came, talked}
+use Rattle.world3270.specs.refinement.View.{view_of}
 use Rattle.world3270.proofs.ComesDown.{note_comes, paint_comes, read_comes}
 use Rattle.world3270.proofs.Down.{bound, paints_on, read_of, reads_on, shape_of_model, showing, term_view}
 use Rattle.world3270.proofs.Obeys.{obeys}
@@ -33,7 +33,7 @@ use Rattle.world3270.proofs.SecondKeys.{Extras}
 use Rattle.world3270.proofs.Simulation.{Simulated, agrees_now, both_say, since_same}
 use Rattle.world3270.proofs.StillKept.{still_as_left, still_kept}
 
-module _ (given : Given) (app : Application) (is : IsApplication app) (lu : List ℕ) (t : Told) (s : Simulated app lu t) where
+module _ (given : LowerLaws) (app : Application) (is : IsApplication app) (lu : List ℕ) (t : ReportedLink) (s : Simulated app lu t) where
   abbrev end : Link
   end = s.told
 
@@ -41,7 +41,7 @@ module _ (given : Given) (app : Application) (is : IsApplication app) (lu : List
   now = t.link
 
   -- once the message is taken
-  abbrev taken_so : Bool → ToTerminal → TermStep → List ToTerminal → Told
+  abbrev taken_so : Bool → ToTerminal → TermStep → List ToTerminal → ReportedLink
   taken_so is_bound message step rest = told_if is_bound message t (term_stepped (once_bound is_bound step now.term) rest now)
 
   -- at a bound terminal
@@ -94,7 +94,7 @@ module _ (given : Given) (app : Application) (is : IsApplication app) (lu : List
   drawn_so number wanted drawn = record {
     end = record now.term {
       display = record now.term.display {
-        shape = wanted.size;
+        size = wanted.size;
         screen = drawn;
         keyboard = freed now.term.display.keyboard;
         last_restored = drawn;
@@ -125,7 +125,7 @@ module _ (given : Given) (app : Application) (is : IsApplication app) (lu : List
         agreed = s.agreed;
         any = s.any;
         unsure = s.unsure;
-        display = sym (ap (λ (d : Display). record d { shape = wanted.size; screen = new; keyboard = freed end.term.display.keyboard; last_restored = new; before_restored = screen; erased = false }) s.simulates.since.rest);
+        display = sym (ap (λ (d : Display). record d { size = wanted.size; screen = new; keyboard = freed end.term.display.keyboard; last_restored = new; before_restored = screen; erased = false }) s.simulates.since.rest);
         waits = refl;
         host_here = s.host_here;
         term_here = s.term_here;
@@ -136,7 +136,7 @@ module _ (given : Given) (app : Application) (is : IsApplication app) (lu : List
           talk = s.simulates.talk;
           up = both_say end now says s.simulates.lost s.simulates.up;
           since = since_same given step.end.display (paint_came number wanted now.term).end.display
-              (ap (λ (d : Display). record d { shape = wanted.size; screen = new; keyboard = freed now.term.display.keyboard; last_restored = new; before_restored = screen; erased = false }) s.simulates.since.rest)
+              (ap (λ (d : Display). record d { size = wanted.size; screen = new; keyboard = freed now.term.display.keyboard; last_restored = new; before_restored = screen; erased = false }) s.simulates.since.rest)
               (subst (λ (size : ℕ). new.cursor < size) (sym kept.whole) kept.cursor);
         };
       } in
@@ -154,18 +154,18 @@ module _ (given : Given) (app : Application) (is : IsApplication app) (lu : List
       let old : Screen = end.term.display.screen in
       let screen : Screen = now.term.display.screen in
       let erased : Bool = end.term.display.erased || since.erased in
-      let row : ℕ = message_place end.term.display.shape in
+      let row : ℕ = message_place end.term.display.size in
       let heard_as : Screen = record screen { aid = old.aid } in
-      let same_shape : now.term.display.shape ≡ end.term.display.shape = ap (λ (d : Display). d.shape) since.rest in
+      let same_shape : now.term.display.size ≡ end.term.display.size = ap (λ (d : Display). d.size) since.rest in
       let kept : Kept app (view_of (term_view (read_of screen erased end.term) rest end)) =
       reads_on app end rest s.kept comes.same comes.lu comes.number comes.at comes.fact comes.shown comes.left screen erased
       (since.held.same_length ∙ s.kept.whole)
       (subst (λ (size : ℕ). screen.cursor < size) (since.held.same_length ∙ s.kept.whole) since.cursor)
       (still_kept given.keys.round end.term.display.erased since.erased end.term.display.last_restored.cells old.cells screen.cells (s.kept.unreturned comes.fact.not_cleared) since.held)
       (still_as_left given.keys.round since.erased row end.term.display.last_restored.cells old.cells screen.cells (s.kept.as_left comes.fact.not_cleared) since.held)
-      (reads_input given.keys.round given.belief.reads given.belief.doubt_input end.host.shape since.erased end.host.shadow old heard_as comes.fact.decides.sees.meets since.held)
+      (reads_input given.keys.round given.belief.reads given.belief.doubt_input end.host.size since.erased end.host.shadow old heard_as comes.fact.decides.sees.meets since.held)
       (given.belief.unbroken since.erased end.host.shadow old heard_as comes.fact.decides.sees.meets since.held) in
-      let said : ToHost = ToHost.Data (buffer_data end.term.display.shape screen) in
+      let said : ToHost = ToHost.Data (buffer_data end.term.display.size screen) in
       let same_aid : old.aid ≡ t.told.screen.aid = ap (λ (d : Display). d.screen.aid) s.display in
       subst (λ (b : Bool). Simulated app lu (taken_so b (ToTerminal.ReadBuffer number) (read_came now.term) rest)) (sym (bound_now (bound end s.kept.wanted comes.lu _ comes.at)))
       (record {
@@ -205,7 +205,7 @@ module _ (given : Given) (app : Application) (is : IsApplication app) (lu : List
   noted_still number command rest e =
       let down : end.down ≡ ToTerminal.Note number command ∷ rest = sym s.simulates.down ∙ e in
       let comes = note_comes given app end number command rest down s.kept (agrees_now s) in
-      let bounds = given.notes.bounds command now.term.display.screen (given.notes.are_notes end.host.shape command (shape_of_model app end.term.display.model end.host.shape is s.kept.sizes.host) comes.note).note in
+      let bounds = given.notes.bounds command now.term.display.screen (given.notes.are_notes end.host.size command (shape_of_model app end.term.display.model end.host.size is s.kept.sizes.host) comes.note).note in
       let says : List ToHost = ToHost.Response number Verdict.Positive ∷ [] in
       let since = s.simulates.since in
       subst (λ (b : Bool). Simulated app lu (taken_so b (ToTerminal.Note number command) (note_came number command now.term) rest)) (sym (bound_now comes.bound))
@@ -228,8 +228,8 @@ module _ (given : Given) (app : Application) (is : IsApplication app) (lu : List
           up = both_say end now says s.simulates.lost s.simulates.up;
           since = record {
             erased = since.erased;
-            held = note_held given given.keys.round end.host.shape command since.erased end.term.display.screen now.term.display.screen
-                (shape_of_model app end.term.display.model end.host.shape is s.kept.sizes.host) comes.note (s.kept.whole ∙ ap (λ (shape : Shape). cells_in shape) comes.same) comes.takes since.held;
+            held = note_held given given.keys.round end.host.size command since.erased end.term.display.screen now.term.display.screen
+                (shape_of_model app end.term.display.model end.host.size is s.kept.sizes.host) comes.note (s.kept.whole ∙ ap (λ (shape : Shape). cells_in shape) comes.same) comes.takes since.held;
             rest = ap (λ (d : Display). record d { screen = after_command command d.screen }) since.rest;
             erasing = since.erasing;
             same = λ free. ap (λ (d : Display). record d { screen = after_command command d.screen }) (since.same free);

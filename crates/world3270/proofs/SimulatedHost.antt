@@ -10,19 +10,19 @@ use Rattle.host_core.specs.Application.{Application, IsApplication}
 use Rattle.host_core.specs.Messages.{ToHost, ToTerminal}
 use Rattle.host_core.specs.Notes.{IsNoteText, may_note, note_command, noted, noted_as}
 use Rattle.host_core.specs.Questions.{act_by, answered_on, has_its_panel, is_asking}
-use Rattle.host_core.specs.Session.{Conn, Pending, is_agreed}
+use Rattle.host_core.specs.Session.{Session, Pending, is_agreed}
 use Rattle.host_core.specs.Takes.{Answers, HostStep, dropping, may_have_changed, took as host_took}
-use Rattle.host_core.specs.declared.question.Answer.{Answer as Said}
+use Rattle.host_core.specs.declared.question.Answer.{Answer as ApplicationAnswer}
 use Rattle.host_core.specs.declared.turn.Turn.{Turn}
 use Rattle.host_core.specs.declared.turn.Turn.TheVariants as whose
 use Rattle.host_core.specs.declared.unheard.Unheard.{Unheard}
 use Rattle.host_core.specs.declared.unheard.Unheard.TheVariants as unheards
-use Rattle.world3270.specs.EveryTerminal.{Told}
-use Rattle.world3270.specs.Given.{Given}
-use Rattle.world3270.specs.Link.{Link, cut, host_left_if, host_sent, host_stepped, sent}
-use Rattle.world3270.specs.Moments.{IsAt, Moment, Serving, Talking, UnderWay, pending_at, turn_at}
-use Rattle.world3270.specs.Stages.{Kept}
-use Rattle.world3270.specs.View.{view_of}
+use Rattle.world3270.specs.statement.EveryTerminal.{ReportedLink}
+use Rattle.world3270.specs.refinement.LowerLaws.{LowerLaws}
+use Rattle.world3270.specs.model.Link.{Link, cut, host_left_if, host_sent, host_stepped, sent}
+use Rattle.world3270.specs.refinement.Phases.{IsAt, LinkPhase, Serving, Talking, UnderWay, pending_at, turn_at}
+use Rattle.world3270.specs.refinement.Invariant.{Kept}
+use Rattle.world3270.specs.refinement.View.{view_of}
 use Rattle.world3270.proofs.Acting.{acts, answers_are_shown, asking_parts, loses, may_act_when}
 use Rattle.world3270.proofs.Noting.{notes}
 use Rattle.world3270.proofs.HeardTurns.{goes_on}
@@ -35,14 +35,14 @@ use Rattle.world3270.proofs.Up.{answers, host_view}
 
 -- ---- the host hears
 
-module _ (given : Given) (app : Application) (lu : List ℕ) (t : Told) (s : Simulated app lu t) where
+module _ (given : LowerLaws) (app : Application) (lu : List ℕ) (t : ReportedLink) (s : Simulated app lu t) where
   abbrev told : Link
   told = s.told
 
   abbrev now : Link
   now = t.link
 
-  abbrev heard_by : Conn → Option Cause → List ToTerminal → List ToHost → Told
+  abbrev heard_by : Session → Option Cause → List ToTerminal → List ToHost → ReportedLink
   heard_by conn closes sends rest = record t { link = host_left_if closes (record now { up = rest; host = conn; down = sent now.lost now.down sends }) }
 
   -- a second key is dropped
@@ -51,7 +51,7 @@ module _ (given : Given) (app : Application) (lu : List ℕ) (t : Told) (s : Sim
   drops_still pool message rest drops second x =
       let host : now.host ≡ told.host = s.simulates.host in
       let is : host_took pool now.host message ≡ dropping second.parts.aid now.host =
-      second_key_dropped pool now.host message second (ap (λ (c : Conn). is_agreed c.talk.state) host ∙ agrees_now s) (ap (λ (c : Conn). may_have_changed c.unheard) host ∙ s.any) (ap (λ (c : Conn). is_dropping c.turn c.pending) host ∙ drops) in
+      second_key_dropped pool now.host message second (ap (λ (c : Session). is_agreed c.talk.state) host ∙ agrees_now s) (ap (λ (c : Session). may_have_changed c.unheard) host ∙ s.any) (ap (λ (c : Session). is_dropping c.turn c.pending) host ∙ drops) in
       subst (λ (step : HostStep). Simulated app lu (record t { link = host_stepped step rest now })) (sym is)
       (still_simulated app lu t s told (heard_by now.host None [] rest).link refl refl refl refl s.kept refl s.any host s.simulates.lost (nothing_sent now.lost now.down ∙ s.simulates.down) x)
 
@@ -63,7 +63,7 @@ module _ (given : Given) (app : Application) (lu : List ℕ) (t : Told) (s : Sim
       let step : HostStep = host_took pool told.host message in
       let heard = answers given app entries sound told message others is s.kept in
       let goes = goes_on given app pool told message others is s.kept (agrees_now s) in
-      subst (λ (host : Conn). Simulated app lu (record t { link = host_stepped (host_took pool host message) rest now })) (sym s.simulates.host)
+      subst (λ (host : Session). Simulated app lu (record t { link = host_stepped (host_took pool host message) rest now })) (sym s.simulates.host)
       (subst (λ (closes : Option Cause). Simulated app lu (heard_by step.conn closes step.sends rest)) (sym heard.open_end)
       (still_simulated app lu t s (host_view step others told) (heard_by step.conn None step.sends rest).link refl refl refl refl heard.kept goes.talk (still_any (just_talks pool told.host message).unheard) refl s.simulates.lost
       (ap (λ (lost : Bool). sent lost now.down step.sends) s.simulates.lost ∙ ap (λ (down : List ToTerminal). sent told.lost down step.sends) s.simulates.down)
@@ -96,10 +96,10 @@ nothing_up app link k agrees turns pends = by_moment k.moment k.at
         no_front [] vanished is = refl
         no_front (message ∷ queue) vanished is = absurd (cc)
 
-    by_talk : (talking : Talking) → IsAt (view_of link) k.wanted (Moment.Talks talking) → (lu : List ℕ) × (talking ≡ Talking.Agreeing lu) → link.up ≡ []
-    by_talk talking at is = quiet (subst (λ (t : Talking). IsAt (view_of link) k.wanted (Moment.Talks t)) is.1 at).goes_up
+    by_talk : (talking : Talking) → IsAt (view_of link) k.wanted (LinkPhase.Talks talking) → (lu : List ℕ) × (talking ≡ Talking.Agreeing lu) → link.up ≡ []
+    by_talk talking at is = quiet (subst (λ (t : Talking). IsAt (view_of link) k.wanted (LinkPhase.Talks t)) is.1 at).goes_up
 
-    by_serving : (lu : List ℕ) (serving : Serving) → IsAt (view_of link) k.wanted (Moment.Serves lu serving) → turn_at (Moment.Serves lu serving) ≡ whose.Host → pending_at (Moment.Serves lu serving) ≡ Pending.Nothing → link.up ≡ []
+    by_serving : (lu : List ℕ) (serving : Serving) → IsAt (view_of link) k.wanted (LinkPhase.Serves lu serving) → turn_at (LinkPhase.Serves lu serving) ≡ whose.Host → pending_at (LinkPhase.Serves lu serving) ≡ Pending.Nothing → link.up ≡ []
     by_serving lu Serving.Deciding at turn pending = quiet at.goes_up
     by_serving lu (Serving.Reading number) at turn pending = absurd (cc)
     by_serving lu (Serving.Reported number parts) at turn pending = absurd (cc)
@@ -114,10 +114,10 @@ nothing_up app link k agrees turns pends = by_moment k.moment k.at
     by_serving lu (Serving.KeyNoted number command parts) at turn pending = absurd (cc)
     by_serving lu (Serving.KeyBefore number command parts) at turn pending = absurd (cc)
 
-    by_moment : (moment : Moment) → IsAt (view_of link) k.wanted moment → link.up ≡ []
-    by_moment (Moment.Talks talking) at = by_talk talking at (agreed_there link.term.display.model talking link.host.talk at.host_talk agrees)
-    by_moment (Moment.Begins lu number command wanted over) at = absurd (let clash = sym at.turn ∙ turns in cc)
-    by_moment (Moment.Serves lu serving) at = by_serving lu serving at (sym at.turn ∙ turns) (sym at.pending ∙ pends)
+    by_moment : (moment : LinkPhase) → IsAt (view_of link) k.wanted moment → link.up ≡ []
+    by_moment (LinkPhase.Talks talking) at = by_talk talking at (agreed_there link.term.display.model talking link.host.talk at.host_talk agrees)
+    by_moment (LinkPhase.Begins lu number command wanted over) at = absurd (let clash = sym at.turn ∙ turns in cc)
+    by_moment (LinkPhase.Serves lu serving) at = by_serving lu serving at (sym at.turn ∙ turns) (sym at.pending ∙ pends)
 
 still_unheard : (unheard : Unheard) → may_have_changed unheard ≡ true → may_have_changed (unheard_next unheard) ≡ true
 still_unheard unheards.Nothing any = absurd (cc)
@@ -125,15 +125,15 @@ still_unheard unheards.Input any = refl
 still_unheard unheards.Clear any = refl
 
 -- an act leaves a host that drops keys
-act_drops : (app : Application) (conn : Conn) (act : Act) → conn.turn ≡ whose.Host → is_dropping (done app conn act).conn.turn (done app conn act).conn.pending ≡ true
+act_drops : (app : Application) (conn : Session) (act : Act) → conn.turn ≡ whose.Host → is_dropping (done app conn act).conn.turn (done app conn act).conn.pending ≡ true
 act_drops app conn Act.Read turns = ap (λ (turn : Turn). is_dropping turn (Pending.Reading conn.next_seq)) turns
 act_drops app conn (Act.Show panel message keep values) turns = refl
 
-act_unheard : (app : Application) (conn : Conn) (act : Act) → may_have_changed conn.unheard ≡ true → may_have_changed (done app conn act).conn.unheard ≡ true
+act_unheard : (app : Application) (conn : Session) (act : Act) → may_have_changed conn.unheard ≡ true → may_have_changed (done app conn act).conn.unheard ≡ true
 act_unheard app conn Act.Read any = any
 act_unheard app conn (Act.Show panel message keep values) any = still_unheard conn.unheard any
 
-act_talk : (app : Application) (conn : Conn) (act : Act) → (done app conn act).conn.talk ≡ conn.talk
+act_talk : (app : Application) (conn : Session) (act : Act) → (done app conn act).conn.talk ≡ conn.talk
 act_talk app conn Act.Read = refl
 act_talk app conn (Act.Show panel message keep values) = refl
 
@@ -144,14 +144,14 @@ may_note_when whose.Terminal (Pending.Reading number) agreed may = absurd (cc)
 may_note_when whose.Terminal (Pending.Noting number command) agreed may = absurd (cc)
 may_note_when whose.Host pending agreed may = absurd (cc)
 
-module _ (given : Given) (app : Application) (is : IsApplication app) (lu : List ℕ) (t : Told) (s : Simulated app lu t) where
+module _ (given : LowerLaws) (app : Application) (is : IsApplication app) (lu : List ℕ) (t : ReportedLink) (s : Simulated app lu t) where
   abbrev end : Link
   end = s.told
 
   abbrev may_act_now : Bool
   may_act_now = may_act end.host.turn end.host.pending (is_agreed end.host.talk.state)
 
-  abbrev sends_so : Option Sent → Told
+  abbrev sends_so : Option Sent → ReportedLink
   sends_so sending = record t { link = host_sent sending t.link }
 
   -- both ends send this
@@ -174,7 +174,7 @@ module _ (given : Given) (app : Application) (is : IsApplication app) (lu : List
 
   pub acts_still : Simulated app lu (sends_so (acted app t.link.host))
   acts_still =
-      subst (λ (conn : Conn). Simulated app lu (sends_so (acted app conn))) (sym s.simulates.host)
+      subst (λ (conn : Session). Simulated app lu (sends_so (acted app conn))) (sym s.simulates.host)
       (by_may may_act_now refl (decision_on app end.host end.host.turn_reason) (acts given app is end s.kept))
     where
       by_may : (may : Bool) → may_act_now ≡ may → (decision : Decision)
@@ -183,9 +183,9 @@ module _ (given : Given) (app : Application) (is : IsApplication app) (lu : List
       by_may true may Decision.Asks kept = s
       by_may false may decision kept = s
 
-  pub answers_still : (said : Said) → Simulated app lu (sends_so (answered_on app t.link.host said))
+  pub answers_still : (said : ApplicationAnswer) → Simulated app lu (sends_so (answered_on app t.link.host said))
   answers_still said =
-      subst (λ (conn : Conn). Simulated app lu (sends_so (answered_on app conn said))) (sym s.simulates.host)
+      subst (λ (conn : Session). Simulated app lu (sends_so (answered_on app conn said))) (sym s.simulates.host)
       (by_open (is_asking app end.host) refl (has_its_panel app said) (answers_are_shown given app is end s.kept said))
     where
       act : Act
@@ -199,7 +199,7 @@ module _ (given : Given) (app : Application) (is : IsApplication app) (lu : List
 
   pub notes_still : (text : List ℕ) → IsNoteText text → Simulated app lu (sends_so (noted text t.link.host))
   notes_still text is_text =
-      subst (λ (conn : Conn). Simulated app lu (sends_so (noted text conn))) (sym s.simulates.host)
+      subst (λ (conn : Session). Simulated app lu (sends_so (noted text conn))) (sym s.simulates.host)
       (by_may (may_note end.host.turn end.host.pending (is_agreed end.host.talk.state)) refl (notes app text is_text end s.kept))
     where
       by_may : (may : Bool) → may_note end.host.turn end.host.pending (is_agreed end.host.talk.state) ≡ may
@@ -207,7 +207,7 @@ module _ (given : Given) (app : Application) (is : IsApplication app) (lu : List
       by_may false may kept = s
       by_may true may kept =
           let when = may_note_when end.host.turn end.host.pending (is_agreed end.host.talk.state) may in
-          let command = note_command end.host.shape text in
+          let command = note_command end.host.size text in
           both_send (noted_as text end.host) kept refl s.any
           (subst (λ (turn : Turn). Extras turn (Pending.Noting end.host.next_seq command) end.up t.link.up) (sym when.0)
           (noted_extras end.host.next_seq command end.up t.link.up

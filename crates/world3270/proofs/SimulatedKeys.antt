@@ -5,7 +5,7 @@ use Rattle.codes3270.specs.Size.{Shape}
 use Rattle.codes3270.specs.declared.attention.Aid.{Aid}
 use Rattle.codes3270.specs.declared.attention.Aid.TheVariants.{NoAid, Enter, Clear, Pf, Pa}
 use Rattle.codes3270.specs.declared.attribute.Cell.{Cell}
-use Rattle.datastream.specs.Held.{Held}
+use Rattle.datastream.specs.KeptByKeys.{KeptByKeys}
 use Rattle.datastream.specs.InboundFields.{modified_data}
 use Rattle.datastream.specs.Screen.{Screen}
 use Rattle.datastream.specs.declared.inbound_part.Form.TheVariants.{Modified}
@@ -15,12 +15,12 @@ use Rattle.keyboard.specs.declared.key.Lock.TheVariants.{Free, Wait, Error}
 use Rattle.keyboard.specs.declared.key.Pressed.TheVariants.{Send}
 use Rattle.host_core.specs.Application.{Application}
 use Rattle.host_core.specs.Messages.{ToHost}
-use Rattle.world3270.specs.EveryTerminal.{Told, key_pressed, operated}
-use Rattle.world3270.specs.Given.{Given}
-use Rattle.world3270.specs.Link.{Link, sent, term_stepped}
-use Rattle.world3270.specs.Placed.{is_queued}
-use Rattle.world3270.specs.Rules.{Operates, after_sending, data_by, edited, shows, with_aid}
-use Rattle.world3270.specs.Terminal.{Display, TermStep, bound_to, data_of, is_bound}
+use Rattle.world3270.specs.statement.EveryTerminal.{ReportedLink, key_pressed, operated}
+use Rattle.world3270.specs.refinement.LowerLaws.{LowerLaws}
+use Rattle.world3270.specs.model.Link.{Link, sent, term_stepped}
+use Rattle.world3270.specs.model.Enabled.{is_queued}
+use Rattle.world3270.specs.statement.Rules.{Operates, after_sending, data_by, edited, shows, with_aid}
+use Rattle.world3270.specs.model.Terminal.{Display, TermStep, bound_to, data_of, is_bound}
 use Rattle.world3270.proofs.Keys.{types_now}
 use Rattle.world3270.proofs.Queues.{nothing_sent}
 use Rattle.world3270.proofs.RuleKeys.{edited_link, edits_kept, sends_kept, sent_link, with_aid-aid, with_aid-cursor, with_aid-whole}
@@ -47,7 +47,7 @@ or_again : (one more other : Bool) → ((one || more) || other) ≡ (one || (mor
 or_again true more other = refl
 or_again false more other = refl
 
-module _ (given : Given) (app : Application) (lu : List ℕ) (t : Told) (s : Simulated app lu t) where
+module _ (given : LowerLaws) (app : Application) (lu : List ℕ) (t : ReportedLink) (s : Simulated app lu t) where
   abbrev told : Link
   told = s.told
 
@@ -60,14 +60,14 @@ module _ (given : Given) (app : Application) (lu : List ℕ) (t : Told) (s : Sim
 
   -- ---- in the operator's turn
 
-  abbrev typed : TermStep → Told
+  abbrev typed : TermStep → ReportedLink
   typed step = record { link = term_stepped step now.down now; told = step.end.display; waits = is_queued step.sends }
 
-  edits_typing : (told.term.display.keyboard.lock ≡ Wait → ⊥) → (keyboard : Keyboard) (cells : List Cell) (cursor : ℕ) (erases : Bool) → Held erases now.term.display.screen.cells cells → cursor < length cells
+  edits_typing : (told.term.display.keyboard.lock ≡ Wait → ⊥) → (keyboard : Keyboard) (cells : List Cell) (cursor : ℕ) (erases : Bool) → KeptByKeys erases now.term.display.screen.cells cells → cursor < length cells
       → Simulated app lu (typed (shows keyboard (edited cells cursor erases now.term.display) [] now.term))
   edits_typing free keyboard cells cursor erases held on =
       let same : now.term.display ≡ record told.term.display { keyboard = now.term.display.keyboard } = s.simulates.since.same free in
-      let held_told : Held erases told.term.display.screen.cells cells = subst (λ (d : Display). Held erases d.screen.cells cells) same held in
+      let held_told : KeptByKeys erases told.term.display.screen.cells cells = subst (λ (d : Display). KeptByKeys erases d.screen.cells cells) same held in
       let end : Link = edited_link cells cursor erases told in
       let link : Link = (typed (shows keyboard (edited cells cursor erases now.term.display) [] now.term)).link in
       record {
@@ -100,8 +100,8 @@ module _ (given : Given) (app : Application) (lu : List ℕ) (t : Told) (s : Sim
       let bound_told : is_bound told.term ≡ true = ap (λ state. is_some (bound_to state)) (types_now given app told s.kept free).at.term_talk in
       let bound_both : is_bound now.term ≡ is_bound told.term = ap (λ talk. is_some (bound_to talk.talk.state)) s.simulates.talk in
       let says_so : data_by aid now.term ≡ data_by aid told.term =
-      ap (λ (bound : Bool). data_of bound (Send aid) now.term.display.shape (with_aid aid now.term.display.screen)) bound_both
-      ∙ ap (λ (d : Display). data_of (is_bound told.term) (Send aid) d.shape (with_aid aid d.screen)) same in
+      ap (λ (bound : Bool). data_of bound (Send aid) now.term.display.size (with_aid aid now.term.display.screen)) bound_both
+      ∙ ap (λ (d : Display). data_of (is_bound told.term) (Send aid) d.size (with_aid aid d.screen)) same in
       record {
         told = end;
         kept = sends_kept given app told aid s.kept free some;
@@ -109,7 +109,7 @@ module _ (given : Given) (app : Application) (lu : List ℕ) (t : Told) (s : Sim
         any = s.any;
         unsure = s.unsure;
         display = ap (λ (d : Display). record (after_sending aid d) { keyboard = record told.term.display.keyboard { lock = Wait } }) (sym same);
-        waits = ap (λ (bound : Bool). is_queued (data_of bound (Send aid) now.term.display.shape (with_aid aid now.term.display.screen))) (bound_both ∙ bound_told);
+        waits = ap (λ (bound : Bool). is_queued (data_of bound (Send aid) now.term.display.size (with_aid aid now.term.display.screen))) (bound_both ∙ bound_told);
         host_here = s.host_here;
         term_here = s.term_here;
         simulates = record {
@@ -126,10 +126,10 @@ module _ (given : Given) (app : Application) (lu : List ℕ) (t : Told) (s : Sim
 
   -- ---- in the wait
 
-  abbrev untold : TermStep → Told
+  abbrev untold : TermStep → ReportedLink
   untold step = record { link = term_stepped step now.down now; told = t.told; waits = true }
 
-  edits_waiting : told.term.display.keyboard.lock ≡ Wait → (keyboard : Keyboard) (cells : List Cell) (cursor : ℕ) (erases : Bool) → Held erases now.term.display.screen.cells cells → cursor < length cells
+  edits_waiting : told.term.display.keyboard.lock ≡ Wait → (keyboard : Keyboard) (cells : List Cell) (cursor : ℕ) (erases : Bool) → KeptByKeys erases now.term.display.screen.cells cells → cursor < length cells
       → Simulated app lu (untold (shows keyboard (edited cells cursor erases now.term.display) [] now.term))
   edits_waiting waits keyboard cells cursor erases held on =
       let since = s.simulates.since in
@@ -161,14 +161,14 @@ module _ (given : Given) (app : Application) (lu : List ℕ) (t : Told) (s : Sim
       }
 
   abbrev key_data : Aid → ToHost
-  key_data aid = ToHost.Data (modified_data Modified now.term.display.shape (with_aid aid now.term.display.screen))
+  key_data aid = ToHost.Data (modified_data Modified now.term.display.size (with_aid aid now.term.display.screen))
 
   -- a second key, but Clear
   sends_waiting : told.term.display.keyboard.lock ≡ Wait → (keyboard : Keyboard) (aid : Aid) → is_key aid ≡ true
       → Simulated app lu (untold (shows keyboard (after_sending aid now.term.display) (data_by aid now.term) now.term))
   sends_waiting waits keyboard aid key =
       let since = s.simulates.since in
-      let shape : Shape = now.term.display.shape in
+      let shape : Shape = now.term.display.size in
       let screen : Screen = with_aid aid now.term.display.screen in
       record {
         told = told;
@@ -188,7 +188,7 @@ module _ (given : Given) (app : Application) (lu : List ℕ) (t : Told) (s : Sim
           up = by_bound (is_bound now.term) now.lost refl;
           since = record {
             erased = since.erased;
-            held = subst (λ (cells : List Cell). Held since.erased told.term.display.screen.cells cells) (sym (same_cells aid now.term.display.screen key)) since.held;
+            held = subst (λ (cells : List Cell). KeptByKeys since.erased told.term.display.screen.cells cells) (sym (same_cells aid now.term.display.screen key)) since.held;
             rest = ap (λ (d : Display). record (after_sending aid d) { keyboard = keyboard }) since.rest;
             erasing = since.erasing;
             same = λ free. absurd (free waits);
@@ -199,13 +199,13 @@ module _ (given : Given) (app : Application) (lu : List ℕ) (t : Told) (s : Sim
     where
       second : IsSecondKey (key_data aid)
       second = record {
-        parts = modified_data Modified now.term.display.shape (with_aid aid now.term.display.screen);
+        parts = modified_data Modified now.term.display.size (with_aid aid now.term.display.screen);
         is = refl;
-        form = key_form now.term.display.shape (with_aid aid now.term.display.screen);
-        key = ap is_key (key_aid now.term.display.shape (with_aid aid now.term.display.screen) ∙ with_aid-aid aid now.term.display.screen) ∙ key;
+        form = key_form now.term.display.size (with_aid aid now.term.display.screen);
+        key = ap is_key (key_aid now.term.display.size (with_aid aid now.term.display.screen) ∙ with_aid-aid aid now.term.display.screen) ∙ key;
       }
 
-      by_bound : (bound lost : Bool) → now.lost ≡ lost → Extras told.host.turn told.host.pending told.up (sent lost now.up (data_of bound (Send aid) now.term.display.shape (with_aid aid now.term.display.screen)))
+      by_bound : (bound lost : Bool) → now.lost ≡ lost → Extras told.host.turn told.host.pending told.up (sent lost now.up (data_of bound (Send aid) now.term.display.size (with_aid aid now.term.display.screen)))
       by_bound false lost is = subst (λ (up : List ToHost). Extras told.host.turn told.host.pending told.up up) (sym (nothing_sent lost now.up)) s.simulates.up
       by_bound true true is = s.simulates.up
       by_bound true false is =
@@ -214,7 +214,7 @@ module _ (given : Given) (app : Application) (lu : List ℕ) (t : Told) (s : Sim
 
   -- ---- both
 
-  abbrev then_it_is : Bool → TermStep → Told
+  abbrev then_it_is : Bool → TermStep → ReportedLink
   then_it_is waits step = record { link = term_stepped step now.down now; told = if waits then t.told else step.end.display; waits = waits || is_queued step.sends }
 
   typing : (told.term.display.keyboard.lock ≡ Wait → ⊥) → (step : TermStep) → Operates now.term step → Simulated app lu (typed step)

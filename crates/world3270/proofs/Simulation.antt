@@ -2,7 +2,7 @@
 -- what was told, and which the host can't tell from it.
 use Rattle.std.proofs.Common.{◌≡◌, ◌<◌, ◌||◌, ℕ, Bool, true, false, List, Some, length, refl, ap, sym, subst, ◌∙◌}
 use Rattle.std.specs.Prelude.{is_some}
-use Rattle.datastream.specs.Held.{Held}
+use Rattle.datastream.specs.KeptByKeys.{KeptByKeys}
 use Rattle.keyboard.specs.declared.key.Lock.{Lock}
 use Rattle.keyboard.specs.declared.key.Lock.TheVariants.{Free, Wait, Error}
 use Rattle.host_core.specs.Application.{Application}
@@ -11,29 +11,29 @@ use Rattle.host_core.specs.Session.{agreed_lu, is_agreed}
 use Rattle.host_core.specs.Takes.{may_have_changed}
 use Rattle.tn3270e_msg.specs.declared.host_talk.HostState.{HostState}
 use Rattle.tn3270e_msg.specs.declared.host_talk.HostState.TheVariants.{Offered, Asked, Asking, Named, Countered, Agreed, Closed}
-use Rattle.world3270.specs.EveryTerminal.{Told}
-use Rattle.world3270.specs.Given.{Given}
-use Rattle.world3270.specs.Link.{Link, sent}
-use Rattle.world3270.specs.Stages.{Kept}
-use Rattle.world3270.specs.Terminal.{Display, TermEnd}
-use Rattle.world3270.specs.View.{view_of}
+use Rattle.world3270.specs.statement.EveryTerminal.{ReportedLink}
+use Rattle.world3270.specs.refinement.LowerLaws.{LowerLaws}
+use Rattle.world3270.specs.model.Link.{Link, sent}
+use Rattle.world3270.specs.refinement.Invariant.{Kept}
+use Rattle.world3270.specs.model.Terminal.{Display, TermEnd}
+use Rattle.world3270.specs.refinement.View.{view_of}
 use Rattle.world3270.proofs.Keys.{or_false}
 use Rattle.world3270.proofs.SecondKeys.{Extras, same_more}
 
 -- What is displayed at a terminal that doesn't wait differs from what one displays that does in input alone, and only while that one waits.
 pub record Since (told now : Display) : Type 0 where
   pub erased : Bool
-  pub held : Held erased told.screen.cells now.screen.cells
+  pub held : KeptByKeys erased told.screen.cells now.screen.cells
   pub rest : now ≡ record told { screen = now.screen; keyboard = now.keyboard; erased = now.erased }
   pub erasing : now.erased ≡ (told.erased || erased)
   pub same : (told.keyboard.lock ≡ Wait → ⊥) → now ≡ record told { keyboard = now.keyboard }
   pub cursor : now.screen.cursor < length now.screen.cells
 
 -- both display the same
-pub since_same : Given → (told now : Display) → now ≡ record told { keyboard = now.keyboard } → now.screen.cursor < length now.screen.cells → Since told now
+pub since_same : LowerLaws → (told now : Display) → now ≡ record told { keyboard = now.keyboard } → now.screen.cursor < length now.screen.cells → Since told now
 since_same given told now is cursor = record {
   erased = false;
-  held = subst (λ (d : Display). Held false told.screen.cells d.screen.cells) (sym is) (given.keys.at_first told.screen.cells);
+  held = subst (λ (d : Display). KeptByKeys false told.screen.cells d.screen.cells) (sym is) (given.keys.at_first told.screen.cells);
   rest = is ∙ ap (λ (d : Display). record told { screen = d.screen; keyboard = now.keyboard; erased = d.erased }) (sym is);
   erasing = ap (λ (d : Display). d.erased) is ∙ sym (or_false told.erased);
   same = λ free. is;
@@ -55,7 +55,7 @@ is_waiting Free = false
 is_waiting Error = false
 
 -- in a session of a host that doesn't rely on the wait
-pub record Simulated (app : Application) (lu : List ℕ) (t : Told) : Type 0 where
+pub record Simulated (app : Application) (lu : List ℕ) (t : ReportedLink) : Type 0 where
   pub told : Link
   pub kept : Kept app (view_of told)
   pub agreed : agreed_lu told.host.talk.state ≡ Some lu
@@ -77,11 +77,11 @@ has_agreed lu (Named device granted) is = absurd (cc)
 has_agreed lu (Countered device granted) is = absurd (cc)
 has_agreed lu (Closed cause) is = absurd (cc)
 
-pub agrees_now : {app : Application} {lu : List ℕ} {t : Told} (s : Simulated app lu t) → is_agreed s.told.host.talk.state ≡ true
+pub agrees_now : {app : Application} {lu : List ℕ} {t : ReportedLink} (s : Simulated app lu t) → is_agreed s.told.host.talk.state ≡ true
 agrees_now {app} {lu} s = has_agreed lu s.told.host.talk.state s.agreed
 
 -- What happens at the host's end, and on the way, leaves what is displayed. `end`: the waiting terminal's link then.
-pub still_simulated : (app : Application) (lu : List ℕ) (t : Told) (s : Simulated app lu t) (end link : Link) → end.term ≡ s.told.term → link.term ≡ t.link.term → link.term_here ≡ t.link.term_here → link.host_here ≡ t.link.host_here
+pub still_simulated : (app : Application) (lu : List ℕ) (t : ReportedLink) (s : Simulated app lu t) (end link : Link) → end.term ≡ s.told.term → link.term ≡ t.link.term → link.term_here ≡ t.link.term_here → link.host_here ≡ t.link.host_here
     → Kept app (view_of end) → end.host.talk ≡ s.told.host.talk → may_have_changed end.host.unheard ≡ true → link.host ≡ end.host → link.lost ≡ end.lost → link.down ≡ end.down
     → Extras end.host.turn end.host.pending end.up link.up → Simulated app lu (record t { link = link })
 still_simulated app lu t s end link end_term link_term term_here host_here kept talk any host lost down up = record {

@@ -12,14 +12,14 @@ use Rattle.keyboard.specs.declared.key.Pressed.TheVariants.{Done, Refused, Send}
 use Rattle.term_core.specs.Feeds.{Feeds, StopsFor, IsAttached}
 use Rattle.term_core.specs.Presses.{LacksKeyRoom, data_pressed, key_outcome}
 use Rattle.term_core.specs.Room.{out_room}
-use Rattle.term_core.specs.State.{Device, Terminal, Link, Closed, Detached, is_bound, phase_of}
+use Rattle.term_core.specs.State.{TerminalWithRoom, Terminal, Link, Closed, Detached, is_bound, phase_of}
 use Rattle.tn3270e_msg.specs.declared.cause.Cause.{Cause}
 use Rattle.tn3270e_msg.specs.declared.cause.Fed.{Fed}
 use Rattle.tn3270e_msg.specs.declared.cause.Stop.{Stop}
 use Rattle.tn3270e_msg.specs.declared.cause.Stop.TheVariants as stop
-use Rattle.world3270.specs.ByteWorld.{TerminalSlot}
-use Rattle.world3270.specs.InFlight.{IsSoundSlot}
-use Rattle.world3270.specs.TrackedTerminals.{TrackedTerminal, TrackedTakes, TrackedTakesByte, restored_by}
+use Rattle.world3270.specs.model.ByteWorld.{TerminalSlot}
+use Rattle.world3270.specs.model.InFlight.{IsSoundSlot}
+use Rattle.world3270.specs.model.TrackedTerminals.{TrackedTerminal, TrackedTakes, TrackedTakesByte, restored_by}
 
 abbrev begins_as : Terminal → (left before : Screen) → Option ℕ → TerminalSlot
 begins_as terminal left before at = record { tracked = record { terminal = terminal; history = record { last_restored = left; before_restored = before; erased = false } }; at = at }
@@ -79,7 +79,7 @@ unbound_sends_nothing (Refused why) screen body sends = cc
 unbound_sends_nothing (Send aid) screen body sends = cc
 
 -- a key for which there was no memory
-pub key_lacked : (at : Option ℕ) (old : Device) (key : Key) → IsSoundSlot at old → LacksKeyRoom old.room key old.terminal → LacksKeyRoom out_room key old.terminal
+pub key_lacked : (at : Option ℕ) (old : TerminalWithRoom) (key : Key) → IsSoundSlot at old → LacksKeyRoom old.room key old.terminal → LacksKeyRoom out_room key old.terminal
 key_lacked None old key sound lacks =
     let outcome = key_outcome key old.terminal.station in
     let unbound : is_bound (phase_of old.terminal.link) ≡ false = ap (λ (link : Link). is_bound (phase_of link)) sound in

@@ -9,22 +9,22 @@ use Rattle.host_core.specs.KeepAlive.{kept_alive, kept_alive_answer, may_keep_al
 use Rattle.host_core.specs.State.{Host, Connection, Service, unused, connection_at, with_connection, most_connections, phase_of, service_at}
 use Rattle.host_core.specs.declared.phase.Phase.TheVariants as phase
 use Rattle.host_core.specs.declared.acted.Acted.{Acted}
-use Rattle.host_core.specs.declared.question.Answer.{Answer as Said}
+use Rattle.host_core.specs.declared.question.Answer.{Answer as ApplicationAnswer}
 use Rattle.host_core.specs.declared.acted.Acted.TheVariants as acted
-use Rattle.world3270.specs.ByteWorld.{ByteWorld, host_there, is_there, terminal_there, with_host}
-use Rattle.world3270.specs.ByteSteps.{OnConnection, Steps, Happens, HappensIf, has_place, answer_acted, is_link, is_held, free_from, host_gone_below, host_gone_if_there}
+use Rattle.world3270.specs.model.ByteWorld.{ByteWorld, host_there, is_there, terminal_there, with_host}
+use Rattle.world3270.specs.model.ByteSteps.{OnConnection, Steps, IsStep, IsStepIf, is_enabled, answer_acted, is_link, is_held, free_from, host_gone_below, host_gone_if_there}
 use Rattle.world3270.specs.declared.event.Event.{Event}
 use Rattle.world3270.specs.declared.event.Event.TheVariants as event
 use Rattle.world3270.specs.declared.event.Stepped.{Stepped}
 use Rattle.world3270.specs.declared.event.Stepped.TheVariants as stepped
 
-pub it_happens : (event : Event) (old : ByteWorld) (answer : Stepped) (new : ByteWorld) → has_place event old ≡ true
-    → Happens event old answer new → Steps event old answer new
-it_happens event old answer new is happens = subst (λ (b : Bool). HappensIf b event old answer new) (sym is) happens
+pub it_happens : (event : Event) (old : ByteWorld) (answer : Stepped) (new : ByteWorld) → is_enabled event old ≡ true
+    → IsStep event old answer new → Steps event old answer new
+it_happens event old answer new is stepped_by = subst (λ (b : Bool). IsStepIf b event old answer new) (sym is) stepped_by
 
-pub it_is_skipped : (event : Event) (old : ByteWorld) (answer : Stepped) (new : ByteWorld) → has_place event old ≡ false → answer ≡ stepped.Skipped → new ≡ old
+pub it_is_skipped : (event : Event) (old : ByteWorld) (answer : Stepped) (new : ByteWorld) → is_enabled event old ≡ false → answer ≡ stepped.Skipped → new ≡ old
     → Steps event old answer new
-it_is_skipped event old answer new is skips same = subst (λ (b : Bool). HappensIf b event old answer new) (sym is) (skips, same)
+it_is_skipped event old answer new is skips same = subst (λ (b : Bool). IsStepIf b event old answer new) (sym is) (skips, same)
 
 -- ---- the host acts
 
@@ -41,27 +41,27 @@ same_host number old host connection others =
 
 pub host_acted : (event : Event) (does : Option Sent) (number : ℕ) (old : ByteWorld) (act : Acted) (answer : Stepped) (host : Host)
     → number < most_connections → HostDoes does (connection_at number old.host) act (connection_at number host) → host ≡ with_connection number (connection_at number host) old.host
-    → answer ≡ answer_acted act → has_place event old ≡ (is_link number && is_some does)
-    → (OnConnection (HostDoes does) number old answer (with_host host old) → Happens event old answer (with_host host old))
+    → answer ≡ answer_acted act → is_enabled event old ≡ (is_link number && is_some does)
+    → (OnConnection (HostDoes does) number old answer (with_host host old) → IsStep event old answer (with_host host old))
     → Steps event old answer (with_host host old)
-host_acted event None number old act answer host below acts others answers place happens =
+host_acted event None number old act answer host below acts others answers place stepped_by =
     it_is_skipped event old answer (with_host host old) (place ∙ neither (is_link number)) (answers ∙ ap answer_acted acts.0)
     (ap (λ (h : Host). with_host h old) (same_host number old.host host acts.1 others))
-host_acted event (Some sent) number old act answer host below acts others answers place happens =
+host_acted event (Some sent) number old act answer host below acts others answers place stepped_by =
     it_happens event old answer (with_host host old) (place ∙ both (is_link number) true (lt-ltb number most_connections below) refl)
-    (happens (record { act = act; host = host; acts = acts; others = others; answers = answers; leaves = refl }))
+    (stepped_by (record { act = act; host = host; acts = acts; others = others; answers = answers; leaves = refl }))
 
-pub host_answered : (event : Event) (app : Application) (said : Said) (does : Option Sent) (number : ℕ) (old : ByteWorld) (act : Acted) (answer : Stepped) (host : Host)
+pub host_answered : (event : Event) (app : Application) (said : ApplicationAnswer) (does : Option Sent) (number : ℕ) (old : ByteWorld) (act : Acted) (answer : Stepped) (host : Host)
     → number < most_connections → DoesAnswer app said does (connection_at number old.host) act (connection_at number host) → host ≡ with_connection number (connection_at number host) old.host
-    → answer ≡ answer_acted act → has_place event old ≡ (is_link number && is_some does)
-    → (OnConnection (DoesAnswer app said does) number old answer (with_host host old) → Happens event old answer (with_host host old))
+    → answer ≡ answer_acted act → is_enabled event old ≡ (is_link number && is_some does)
+    → (OnConnection (DoesAnswer app said does) number old answer (with_host host old) → IsStep event old answer (with_host host old))
     → Steps event old answer (with_host host old)
-host_answered event app said None number old act answer host below acts others answers place happens =
+host_answered event app said None number old act answer host below acts others answers place stepped_by =
     it_is_skipped event old answer (with_host host old) (place ∙ neither (is_link number)) (answers ∙ ap answer_acted acts.0)
     (ap (λ (h : Host). with_host h old) (same_host number old.host host acts.1 others))
-host_answered event app said (Some sent) number old act answer host below acts others answers place happens =
+host_answered event app said (Some sent) number old act answer host below acts others answers place stepped_by =
     it_happens event old answer (with_host host old) (place ∙ both (is_link number) true (lt-ltb number most_connections below) refl)
-    (happens (record { act = act; host = host; acts = acts; others = others; answers = answers; leaves = refl }))
+    (stepped_by (record { act = act; host = host; acts = acts; others = others; answers = answers; leaves = refl }))
 
 -- the host sends NOP, or nothing
 pub host_kept_alive : (number : ℕ) (old : ByteWorld) (act : Acted) (answer : Stepped) (host : Host) → number < most_connections

@@ -5,12 +5,12 @@ use Rattle.std.specs.Option.{option_or}
 use Rattle.codes3270.specs.declared.attribute.Attr.{Attr as Attribute}
 use Rattle.codes3270.specs.declared.attribute.Cell.{Cell}
 use Rattle.codes3270.specs.declared.attribute.Cell.TheVariants.{Char, Attr}
-use Rattle.datastream.specs.Held.{AttrHeld, Held, Hold, hold_of, hold_under}
+use Rattle.datastream.specs.KeptByKeys.{AttrHeld, KeptByKeys, Hold, hold_of, hold_under}
 use Rattle.datastream.specs.HeldLaws.{HeldIsRound}
 use Rattle.datastream.specs.HeldRound.{HeldFrom}
 use Rattle.datastream.specs.Screen.{attribute_over, is_char, last_attribute, protects, ring}
-use Rattle.world3270.specs.AsLeft.{ProtectedIsAsLeft}
-use Rattle.world3270.specs.Unreturned.{IsInUnmodified, IsKept, UnmodifiedIsKept}
+use Rattle.world3270.specs.statement.AsLeft.{ProtectedIsAsLeft}
+use Rattle.world3270.specs.refinement.Unreturned.{IsInUnmodified, IsKept, UnmodifiedIsKept}
 use Rattle.world3270.proofs.Unreturned.{cell_kept, held_attribute, held_cell, held_places, places_compose}
 
 -- ---- attributes, cell by cell
@@ -78,7 +78,7 @@ last_alike more (Char left ∷ lefts) (Attr now ∷ nows) alike = absurd alike.0
 last_alike more (Attr left ∷ lefts) (Char now ∷ nows) alike = absurd alike.0
 last_alike more (Attr left ∷ lefts) (Attr now ∷ nows) alike = last_or more (last_attribute lefts) (last_attribute nows) (Some left) (Some now) (last_alike more lefts nows alike.1) alike.0
 
-over_follows : HeldIsRound → (more : Bool) (left now : List Cell) → Held more left now → (place : ℕ) → Follows more (attribute_over left place) (attribute_over now place)
+over_follows : HeldIsRound → (more : Bool) (left now : List Cell) → KeptByKeys more left now → (place : ℕ) → Follows more (attribute_over left place) (attribute_over now place)
 over_follows round more left now held place =
     let alike : Alike more left now = walked more (hold_under more (last_attribute now)) left now ((round more left now).0 held) in
     last_alike more (ring (place + 1) left) (ring (place + 1) now)
@@ -107,7 +107,7 @@ kept_cell false true (Char left) (Char told) (Char now) kind kept before = kept
 kept_cell true false (Char left) (Char told) (Char now) kind kept before = kept ∙ before refl
 kept_cell false false (Char left) (Char told) (Char now) kind kept before = kept ∙ before refl
 
-pub still_kept : HeldIsRound → (erased more : Bool) (left told now : List Cell) → UnmodifiedIsKept erased left told → Held more told now → UnmodifiedIsKept (erased || more) left now
+pub still_kept : HeldIsRound → (erased more : Bool) (left told now : List Cell) → UnmodifiedIsKept erased left told → KeptByKeys more told now → UnmodifiedIsKept (erased || more) left now
 still_kept round erased more left told now kept held = record { places = places_compose left told now kept.places (held_places more told now held); each = λ place within unmodified. at_place place within unmodified }
   where
     at_place : (place : ℕ) → place < length now → IsInUnmodified (attribute_over now place) → IsKept (erased || more) (slice_index_or left place (Char 0)) (slice_index_or now place (Char 0))
@@ -119,7 +119,7 @@ still_kept round erased more left told now kept held = record { places = places_
         before : more ≡ false → Follows more (attribute_over told place) (attribute_over now place) → IsInUnmodified (attribute_over told place)
         before none follows = unmodified_before (attribute_over told place) (attribute_over now place) (subst (λ (b : Bool). Follows b (attribute_over told place) (attribute_over now place)) none follows) unmodified
 
-pub still_as_left : HeldIsRound → (erased : Bool) (row : ℕ) (left told now : List Cell) → ProtectedIsAsLeft row left told → Held erased told now → ProtectedIsAsLeft row left now
+pub still_as_left : HeldIsRound → (erased : Bool) (row : ℕ) (left told now : List Cell) → ProtectedIsAsLeft row left told → KeptByKeys erased told now → ProtectedIsAsLeft row left now
 still_as_left round erased row left told now was held = record {
   size = held.same_length ∙ was.size;
   attributes = λ place. held_attribute erased told now held place ∙ was.attributes place;

@@ -8,8 +8,8 @@ use Rattle.tn3270e_msg.specs.Talk.{Talk}
 use Rattle.tn3270e_msg.specs.TermTable.{Term}
 use Rattle.tn3270e_msg.specs.declared.host_talk.HostState.{HostState}
 use Rattle.host_core.specs.Session.{agreed_lu, is_agreed}
-use Rattle.world3270.specs.Moments.{IsAgreed, IsHostIn, IsTermTalk, Moment, Talking, term_in_talk, term_state_at}
-use Rattle.world3270.specs.Terminal.{bound_to}
+use Rattle.world3270.specs.refinement.Phases.{IsAgreed, IsHostIn, IsTermTalk, LinkPhase, Talking, term_in_talk, term_state_at}
+use Rattle.world3270.specs.model.Terminal.{bound_to}
 
 -- the device that a terminal of ours asks for has its model
 pub own_model : (model : Model) → model_of (device_for model) ≡ model
@@ -37,12 +37,12 @@ agreed_there model (Talking.Rejecting reason) talk is agrees = absurd (let wrong
 agreed_there model (Talking.Rejected reason) talk is agrees = absurd (let wrong = sym (ap (λ (t : Talk HostState). is_agreed t.state) is) ∙ agrees in cc)
 
 -- the state of the terminal's talk
-pub term_state : (model : Model) (wanted : Option (List ℕ)) (moment : Moment) (term : Term) → IsTermTalk model wanted moment term → term.talk.state ≡ term_state_at moment
-term_state model wanted (Moment.Begins lu number command paints over) term is = is
-term_state model wanted (Moment.Serves lu serving) term is = is
-term_state model wanted (Moment.Talks talking) term is = by_talk talking is
+pub term_state : (model : Model) (wanted : Option (List ℕ)) (moment : LinkPhase) (term : Term) → IsTermTalk model wanted moment term → term.talk.state ≡ term_state_at moment
+term_state model wanted (LinkPhase.Begins lu number command paints over) term is = is
+term_state model wanted (LinkPhase.Serves lu serving) term is = is
+term_state model wanted (LinkPhase.Talks talking) term is = by_talk talking is
   where
-    by_talk : (talking : Talking) → IsTermTalk model wanted (Moment.Talks talking) term → term.talk.state ≡ term_in_talk talking
+    by_talk : (talking : Talking) → IsTermTalk model wanted (LinkPhase.Talks talking) term → term.talk.state ≡ term_in_talk talking
     by_talk (Talking.Agreeing lu) is = is
     by_talk Talking.Offering is = ap (λ (t : Term). t.talk.state) is
     by_talk Talking.Accepting is = ap (λ (t : Term). t.talk.state) is
@@ -54,8 +54,8 @@ term_state model wanted (Moment.Talks talking) term is = by_talk talking is
     by_talk (Talking.Rejected reason) is = ap (λ (t : Term). t.talk.state) is
 
 -- a terminal that is bound serves a session
-pub talking_unbound : (model : Model) (wanted : Option (List ℕ)) (talking : Talking) (term : Term) → IsTermTalk model wanted (Moment.Talks talking) term → is_some (bound_to term.talk.state) ≡ true → ⊥
-talking_unbound model wanted talking term is bound = by_talk talking (sym (ap (λ state. is_some (bound_to state)) (term_state model wanted (Moment.Talks talking) term is)) ∙ bound)
+pub talking_unbound : (model : Model) (wanted : Option (List ℕ)) (talking : Talking) (term : Term) → IsTermTalk model wanted (LinkPhase.Talks talking) term → is_some (bound_to term.talk.state) ≡ true → ⊥
+talking_unbound model wanted talking term is bound = by_talk talking (sym (ap (λ state. is_some (bound_to state)) (term_state model wanted (LinkPhase.Talks talking) term is)) ∙ bound)
   where
     by_talk : (talking : Talking) → is_some (bound_to (term_in_talk talking)) ≡ true → ⊥
     by_talk Talking.Offering bound = absurd (cc)

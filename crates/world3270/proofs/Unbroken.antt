@@ -19,23 +19,23 @@ use Rattle.term_core.specs.declared.outcome.Outcome.TheVariants.{DeviceEnd, Refu
 use Rattle.host_core.specs.Application.{Application, application_of}
 use Rattle.host_core.specs.Messages.{ToTerminal, ToHost, Verdict}
 use Rattle.host_core.specs.Takes.{HostStep, pool_after, took as host_took}
-use Rattle.world3270.specs.Always.{is_refusal}
-use Rattle.world3270.specs.ByteWorld.{ByteWorld}
-use Rattle.world3270.specs.Happens.{came_down, came_up, closed_if, done, happens, place_after, said, went_down}
-use Rattle.world3270.specs.Known.{Known, KnownWorlds}
-use Rattle.world3270.specs.Link.{Link, host_left_if, host_stepped, sent, term_left_if, term_stepped}
-use Rattle.world3270.specs.Placed.{has_place}
-use Rattle.world3270.specs.Refines.{Begin, IsBegin, Reached, GoesOn, StepsGoOn, after}
-use Rattle.world3270.specs.Sendable.{IsTyped}
-use Rattle.world3270.specs.Standing.{link_of}
-use Rattle.world3270.specs.Stands.{StandsUp, without_nops}
-use Rattle.world3270.specs.Terminal.{TermStep, took as term_took}
-use Rattle.world3270.specs.Unbroken.{SameEnds, DeliveriesCloseNothing, IsNegativeResponse, IsNotNegative, NobodyHasRefused, NothingIsRefused, UnderWayRefusesNothing}
-use Rattle.world3270.specs.World.{World, Event, IsEvent, AreEvents, with_at}
+use Rattle.world3270.specs.statement.Always.{is_refusal}
+use Rattle.world3270.specs.model.ByteWorld.{ByteWorld}
+use Rattle.world3270.specs.model.Steps.{came_down, came_up, closed_if, done, stepped_by, place_after, said, went_down}
+use Rattle.world3270.specs.refinement.MessageLaws.{MessageLaws, WorldLaws}
+use Rattle.world3270.specs.model.Link.{Link, host_left_if, host_stepped, sent, term_left_if, term_stepped}
+use Rattle.world3270.specs.model.Enabled.{is_enabled}
+use Rattle.world3270.specs.refinement.Refines.{Begin, IsBegin, Reached, GoesOn, StepsGoOn, after}
+use Rattle.world3270.specs.refinement.Sendable.{IsWellFormed}
+use Rattle.world3270.specs.refinement.Representation.{link_of}
+use Rattle.world3270.specs.refinement.Represents.{RepresentsUp, without_nops}
+use Rattle.world3270.specs.model.Terminal.{TermStep, took as term_took}
+use Rattle.world3270.specs.statement.Unbroken.{SameEnds, DeliveriesCloseNothing, IsNegativeResponse, IsNotNegative, NobodyHasRefused, NothingIsRefused, UnderWayRefusesNothing}
+use Rattle.world3270.specs.model.World.{World, Event, IsEvent, AreEvents, with_at}
 use Rattle.world3270.specs.declared.event.Event.TheVariants as event
 use Rattle.world3270.specs.declared.event.Stepped.{Stepped}
 use Rattle.world3270.proofs.Known.{facts, after_more, are_more}
-use Rattle.world3270.proofs.StandsLinks.{up_behind_rest}
+use Rattle.world3270.proofs.RepresentsLinks.{up_behind_rest}
 
 -- ---- over messages: who is at the ends of a connection
 
@@ -114,10 +114,10 @@ went_stays number (Some terminal) world none other = down_stays number terminal 
 
 -- an event leaves all at their ends, where no end ever closed
 abbrev LeavesEnds : Application → Event → Type 0
-LeavesEnds app event = (world : World) → (happens app event world).causes ≡ [] → (other : ℕ) → Stays (world.link other) ((happens app event world).link other)
+LeavesEnds app event = (world : World) → (stepped_by app event world).causes ≡ [] → (other : ℕ) → Stays (world.link other) ((stepped_by app event world).link other)
 
 up_leaves : (app : Application) (number : ℕ) → LeavesEnds app (Event.Up number)
-up_leaves app number world none other = by_place (has_place app (Event.Up number) world) none
+up_leaves app number world none other = by_place (is_enabled app (Event.Up number) world) none
   where
     by_place : (b : Bool) → World.causes (if b then done app (Event.Up number) world else world) ≡ []
         → Stays (world.link other) (World.link (if b then done app (Event.Up number) world else world) other)
@@ -125,7 +125,7 @@ up_leaves app number world none other = by_place (has_place app (Event.Up number
     by_place false none = same (world.link other)
 
 down_leaves : (app : Application) (number : ℕ) → LeavesEnds app (Event.Down number)
-down_leaves app number world none other = by_place (has_place app (Event.Down number) world) none
+down_leaves app number world none other = by_place (is_enabled app (Event.Down number) world) none
   where
     by_place : (b : Bool) → World.causes (if b then done app (Event.Down number) world else world) ≡ []
         → Stays (world.link other) (World.link (if b then done app (Event.Down number) world else world) other)
@@ -133,8 +133,8 @@ down_leaves app number world none other = by_place (has_place app (Event.Down nu
     by_place false none = same (world.link other)
 
 -- so does an event that happens again and again
-all_stay : KnownWorlds → (begin : Begin) → IsBegin begin → (event : Event) → IsEvent event → IsTyped event → LeavesEnds (application_of begin.panels) event
-    → (count : ℕ) (events : List Event) → AreEvents events → All IsTyped events → (other : ℕ)
+all_stay : WorldLaws → (begin : Begin) → IsBegin begin → (event : Event) → IsEvent event → IsWellFormed event → LeavesEnds (application_of begin.panels) event
+    → (count : ℕ) (events : List Event) → AreEvents events → All IsWellFormed events → (other : ℕ)
     → Stays ((after begin events).link other) ((after begin (events ++ replicate count event)).link other)
 all_stay known begin is event real typed leaves zero events are all other =
     subst (λ (es : List Event). Stays ((after begin events).link other) ((after begin es).link other)) (sym (append-nil events)) (same ((after begin events).link other))
@@ -142,9 +142,9 @@ all_stay known begin is event real typed leaves (suc count) events are all other
     let app : Application = application_of begin.panels in
     let more : List Event = events ++ event ∷ [] in
     let are_all : AreEvents more = are_more events (event ∷ []) are (real, tt) in
-    let all_typed : All IsTyped more = All-append IsTyped events (event ∷ []) all (All-cons IsTyped event [] typed (All-nil IsTyped)) in
-    let next : after begin more ≡ happens app event (after begin events) = after_more begin events (event ∷ []) in
-    let none : (happens app event (after begin events)).causes ≡ [] =
+    let all_typed : All IsWellFormed more = All-append IsWellFormed events (event ∷ []) all (All-cons IsWellFormed event [] typed (All-nil IsWellFormed)) in
+    let next : after begin more ≡ stepped_by app event (after begin events) = after_more begin events (event ∷ []) in
+    let none : (stepped_by app event (after begin events)).causes ≡ [] =
     ap (λ (w : World). w.causes) (sym next) ∙ (facts known begin is more are_all all_typed).nobody_refuses.none_closed in
     let one : Stays ((after begin events).link other) ((after begin more).link other) =
     subst (λ (w : World). Stays ((after begin events).link other) (w.link other)) (sym next) (leaves (after begin events) none other) in
@@ -154,9 +154,9 @@ all_stay known begin is event real typed leaves (suc count) events are all other
 
 -- ---- over bytes
 
-module _ (known : KnownWorlds) where
+module _ (known : WorldLaws) where
   ends_stay : (begin : Begin) (events : List Event) (old new : ByteWorld) → IsBegin begin → Reached begin events old → (event : Event) (more : List Event)
-      → IsEvent event → IsTyped event → LeavesEnds (application_of begin.panels) event → (count : ℕ) → more ≡ replicate count event → Reached begin (events ++ more) new
+      → IsEvent event → IsWellFormed event → LeavesEnds (application_of begin.panels) event → (count : ℕ) → more ≡ replicate count event → Reached begin (events ++ more) new
       → (number : ℕ) → SameEnds number old new
   ends_stay begin events old new is before event more real typed leaves count repeats reached number =
       let all = all_stay known begin is event real typed leaves count events before.are_events before.typed number in
@@ -182,7 +182,7 @@ module _ (known : KnownWorlds) where
       ends_stay begin events old new is reached (Event.Down at) goes.more tt tt (down_leaves (application_of begin.panels) at) (length (without_nops goes.comes_to.completed))
       goes.comes_to.one_each goes.reached number
 
-module _ (known : KnownWorlds) (goes : StepsGoOn) where
+module _ (known : WorldLaws) (goes : StepsGoOn) where
   pub deliveries_close_nothing : DeliveriesCloseNothing
   deliveries_close_nothing (event.Up at count) old answer new is delivery steps number =
       up_same known is.begin is.events at count old answer new is.is_begin is.reached
@@ -221,7 +221,7 @@ carried_out : (outcome : Outcome) → outcome_flag outcome ≡ 0 → outcome ≡
 carried_out DeviceEnd e = refl
 carried_out (Refused sense) e = absurd (cc)
 
-says_done : (sequence : ℕ) (outcome : Outcome) (message : ToHost) → StandsUp (response sequence outcome) message → is_refusal message ≡ false → outcome ≡ DeviceEnd
+says_done : (sequence : ℕ) (outcome : Outcome) (message : ToHost) → RepresentsUp (response sequence outcome) message → is_refusal message ≡ false → outcome ≡ DeviceEnd
 says_done sequence outcome (ToHost.TalksUp (Saying.Opt verb code)) stands none = absurd (cc)
 says_done sequence outcome (ToHost.TalksUp (Saying.Sub sending)) stands none = absurd (cc)
 says_done sequence outcome (ToHost.Data parts) stands none =
@@ -236,7 +236,7 @@ not_either true other e = absurd (cc)
 not_either false other e = (refl, e)
 
 pub among : (sequence : ℕ) (outcome : Outcome) (before behind : List WireItem) (messages : List ToHost)
-    → Pairwise StandsUp (before ++ response sequence outcome ∷ behind) messages → list_any is_refusal messages ≡ false → outcome ≡ DeviceEnd
+    → Pairwise RepresentsUp (before ++ response sequence outcome ∷ behind) messages → list_any is_refusal messages ≡ false → outcome ≡ DeviceEnd
 among sequence outcome [] behind [] pairs none = absurd pairs
 among sequence outcome [] behind (message ∷ messages) pairs none =
     says_done sequence outcome message pairs.0 (not_either (is_refusal message) (list_any is_refusal messages) none).0
@@ -252,7 +252,7 @@ third_is : (item : WireItem) (is : IsNegativeResponse item) → third_of (bytes_
 third_is item is = ap (λ (i : WireItem). third_of (bytes_of i)) is.is_record ∙ ap third_of is.begins.spelt ∙ is.flag
 
 -- no item that represents a message other than a refusal is one
-not_negative : (item : WireItem) (message : ToHost) → StandsUp item message → is_refusal message ≡ false → IsNotNegative item
+not_negative : (item : WireItem) (message : ToHost) → RepresentsUp item message → is_refusal message ≡ false → IsNotNegative item
 not_negative item (ToHost.TalksUp (Saying.Opt verb code)) stands none = λ is. absurd (let both = sym stands ∙ is.is_record in cc)
 not_negative item (ToHost.TalksUp (Saying.Sub sending)) stands none = λ is. absurd (let both = sym stands ∙ is.is_record in cc)
 not_negative item (ToHost.Data parts) stands none = λ is.
@@ -262,27 +262,27 @@ not_negative item (ToHost.Response number Verdict.Positive) stands none = λ is.
     sym (third_is item is) ∙ ap (λ (i : WireItem). third_of (bytes_of i)) stands.1 ∙ ap outcome_flag stands.3 in absurd (cc)
 not_negative item (ToHost.Response number Verdict.Negative) stands none = absurd (cc)
 
-pub none_negative : (items : List WireItem) (messages : List ToHost) → Pairwise StandsUp items messages → list_any is_refusal messages ≡ false → AllByRecursion IsNotNegative items
+pub none_negative : (items : List WireItem) (messages : List ToHost) → Pairwise RepresentsUp items messages → list_any is_refusal messages ≡ false → AllByRecursion IsNotNegative items
 none_negative [] messages pairs none = tt
 none_negative (item ∷ items) [] pairs none = absurd pairs
 none_negative (item ∷ items) (message ∷ messages) pairs none =
     let both = not_either (is_refusal message) (list_any is_refusal messages) none in
     (not_negative item message pairs.0 both.0, none_negative items messages pairs.1 both.1)
 
-pub nobody_has_refused : KnownWorlds → NobodyHasRefused
+pub nobody_has_refused : WorldLaws → NobodyHasRefused
 nobody_has_refused known begin events bytes is reached = (facts known begin is events reached.are_events reached.typed).nobody_refuses
 
-pub nothing_is_refused : Known → NothingIsRefused
+pub nothing_is_refused : MessageLaws → NothingIsRefused
 nothing_is_refused known bytes number sequence outcome before behind is there delivers =
     let link : Link = (after is.begin is.events).link number in
     let stands = is.reached.stands.links number in
     let up = up_behind_rest (link_of number bytes) link stands (sym stands.host_here ∙ there) in
     let one = known.links.one_delivery record_limit (link_of number bytes).host_rest (link_of number bytes).up up.items (before ++ response sequence outcome ∷ behind)
     nothing nothing up.delivers delivers in
-    among sequence outcome before behind link.up (subst (λ (items : List WireItem). Pairwise StandsUp items link.up) one.0 up.each)
+    among sequence outcome before behind link.up (subst (λ (items : List WireItem). Pairwise RepresentsUp items link.up) one.0 up.each)
     ((facts known.worlds is.begin is.is_begin is.events is.reached.are_events is.reached.typed).nobody_refuses.none_refused number)
 
-pub under_way_refuses_nothing : KnownWorlds → UnderWayRefusesNothing
+pub under_way_refuses_nothing : WorldLaws → UnderWayRefusesNothing
 under_way_refuses_nothing known begin events bytes number is reached =
     let stands = reached.stands.links number in
     let none = (facts known begin is events reached.are_events reached.typed).nobody_refuses.none_refused number in
@@ -292,5 +292,5 @@ under_way_refuses_nothing known begin events bytes number is reached =
       spelt = stands.up;
       carried_out = λ sequence outcome before behind among_them.
           among sequence outcome before behind ((after begin events).link number).up
-          (subst (λ (items : List WireItem). Pairwise StandsUp items ((after begin events).link number).up) among_them stands.up.each) none;
+          (subst (λ (items : List WireItem). Pairwise RepresentsUp items ((after begin events).link number).up) among_them stands.up.each) none;
     }

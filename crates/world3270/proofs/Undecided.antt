@@ -13,19 +13,19 @@ use Rattle.host_core.specs.Notes.{noted}
 use Rattle.host_core.specs.Questions.{answered_on}
 use Rattle.host_core.specs.State.{service_at}
 use Rattle.host_core.specs.Takes.{Answers, HostStep, took as host_took}
-use Rattle.host_core.specs.declared.question.Answer.{Answer as Said}
+use Rattle.host_core.specs.declared.question.Answer.{Answer as ApplicationAnswer}
 use Rattle.host_core.specs.declared.question.Ticket.{Ticket}
-use Rattle.world3270.specs.ByteSteps.{HappensIf, Steps}
-use Rattle.world3270.specs.ByteWorld.{ByteWorld, is_there}
-use Rattle.world3270.specs.Happens.{came_down, came_up, done, happens, joined, key_went, run, term_anew, term_saw, went_down}
-use Rattle.world3270.specs.Link.{Link, cut, host_left, host_left_if, host_sent, host_stepped, is_free, sent, term_left, term_left_if, term_stepped}
-use Rattle.world3270.specs.Placed.{free_number, has_place}
-use Rattle.world3270.specs.Refines.{AreReal, Begin, GoesOn, IsBegin, IsReal, Reached, SkipsAreThose, StepsGoOn, after, once, once_taken}
-use Rattle.world3270.specs.ScreensFound.{HostRestsOver, decides_over}
-use Rattle.world3270.specs.ShownSince.{DecidesNothing, HostRests}
-use Rattle.world3270.specs.Stands.{all_items, without_nops}
-use Rattle.world3270.specs.Terminal.{TermStep, key_came, took as term_took}
-use Rattle.world3270.specs.World.{Event, Place, World, display_at, link_count, with_at}
+use Rattle.world3270.specs.model.ByteSteps.{IsStepIf, Steps}
+use Rattle.world3270.specs.model.ByteWorld.{ByteWorld, is_there}
+use Rattle.world3270.specs.model.Steps.{came_down, came_up, done, stepped_by, joined, key_went, run, term_anew, term_saw, went_down}
+use Rattle.world3270.specs.model.Link.{Link, cut, host_left, host_left_if, host_sent, host_stepped, is_free, sent, term_left, term_left_if, term_stepped}
+use Rattle.world3270.specs.model.Enabled.{free_number, is_enabled}
+use Rattle.world3270.specs.refinement.Refines.{AreReal, Begin, GoesOn, IsBegin, IsReal, Reached, SkipsAreThose, StepsGoOn, after, once, once_taken}
+use Rattle.world3270.specs.statement.ScreensFound.{HostRestsOver, decides_over}
+use Rattle.world3270.specs.statement.ShownSince.{DecidesNothing, HostRests}
+use Rattle.world3270.specs.refinement.Represents.{all_items, without_nops}
+use Rattle.world3270.specs.model.Terminal.{TermStep, key_came, took as term_took}
+use Rattle.world3270.specs.model.World.{Event, Place, World, display_at, link_count, with_at}
 use Rattle.world3270.specs.declared.event.Event.{Event as ByteEvent}
 use Rattle.world3270.specs.declared.event.Event.TheVariants as event
 use Rattle.world3270.specs.declared.event.Stepped.{Stepped}
@@ -84,13 +84,13 @@ module _ (app : Application) (Holds : Link → Type 0) (keeps : Keeps Holds) (nu
   went_down_holds at None world holds = holds
   went_down_holds at (Some terminal) world holds = came_down_holds at terminal (world.link at).down world refl holds
 
-  up_holds : (at : ℕ) (world : World) → HoldsIn world → HoldsIn (happens app (Event.Up at) world)
+  up_holds : (at : ℕ) (world : World) → HoldsIn world → HoldsIn (stepped_by app (Event.Up at) world)
   up_holds at world holds =
-      if_placed HoldsIn (has_place app (Event.Up at) world) (done app (Event.Up at) world) world holds (came_up_holds at (world.link at).up world refl holds)
+      if_placed HoldsIn (is_enabled app (Event.Up at) world) (done app (Event.Up at) world) world holds (came_up_holds at (world.link at).up world refl holds)
 
-  down_holds : (at : ℕ) (world : World) → HoldsIn world → HoldsIn (happens app (Event.Down at) world)
+  down_holds : (at : ℕ) (world : World) → HoldsIn world → HoldsIn (stepped_by app (Event.Down at) world)
   down_holds at world holds =
-      if_placed HoldsIn (has_place app (Event.Down at) world) (done app (Event.Down at) world) world holds (went_down_holds at (world.link at).term_here world holds)
+      if_placed HoldsIn (is_enabled app (Event.Down at) world) (done app (Event.Down at) world) world holds (went_down_holds at (world.link at).term_here world holds)
 
   -- nobody connects by a number that the host holds
   joined_holds : (terminal : ℕ) (wanted : Option (List ℕ)) (found : Option ℕ) (world : World) → free_number world.link ≡ found → IsHere (world.link number) → HoldsIn world
@@ -117,19 +117,19 @@ module _ (app : Application) (Holds : Link → Type 0) (keeps : Keeps Holds) (nu
       by_here false = holds
 
   -- an act, or an answer, that is skipped there or is elsewhere
-  decided_holds : (it : Event) (at : ℕ) (link : Link) (world : World) → decides_over number it ≡ (number == at) → (decides_over number it ≡ true → has_place app it world ≡ false)
-      → World.link (done app it world) ≡ with_at at link world.link → HoldsIn world → HoldsIn (happens app it world)
+  decided_holds : (it : Event) (at : ℕ) (link : Link) (world : World) → decides_over number it ≡ (number == at) → (decides_over number it ≡ true → is_enabled app it world ≡ false)
+      → World.link (done app it world) ≡ with_at at link world.link → HoldsIn world → HoldsIn (stepped_by app it world)
   decided_holds it at link world its none made holds = by_number (number == at) refl
     where
-      by_number : (b : Bool) → (number == at) ≡ b → HoldsIn (happens app it world)
+      by_number : (b : Bool) → (number == at) ≡ b → HoldsIn (stepped_by app it world)
       by_number true same = subst (λ (place : Bool). HoldsIn (if place then done app it world else world)) (sym (none (its ∙ same))) holds
       by_number false differs =
-          if_placed HoldsIn (has_place app it world) (done app it world) world holds
+          if_placed HoldsIn (is_enabled app it world) (done app it world) world holds
           (subst (λ (links : ℕ → Link). Holds (links number)) (sym made) (other_kept Holds at link world.link number differs holds))
 
-  event_holds : (it : Event) (world : World) → (decides_over number it ≡ true → has_place app it world ≡ false) → IsHere (world.link number) → HoldsIn world → HoldsIn (happens app it world)
+  event_holds : (it : Event) (world : World) → (decides_over number it ≡ true → is_enabled app it world ≡ false) → IsHere (world.link number) → HoldsIn world → HoldsIn (stepped_by app it world)
   event_holds (Event.Press terminal key) world none here holds =
-      if_placed HoldsIn (has_place app (Event.Press terminal key) world) (done app (Event.Press terminal key) world) world holds (by_place (world.place terminal))
+      if_placed HoldsIn (is_enabled app (Event.Press terminal key) world) (done app (Event.Press terminal key) world) world holds (by_place (world.place terminal))
     where
       by_place : (place : Place) → HoldsIn (key_went terminal key place world)
       by_place (Place.At at) = one_kept Holds at _ world.link (keeps.key key (world.link at)) number holds
@@ -140,40 +140,40 @@ module _ (app : Application) (Holds : Link → Type 0) (keeps : Keeps Holds) (nu
   event_holds (Event.Answer at said) world none here holds =
       decided_holds (Event.Answer at said) at (host_sent (answered_on app (world.link at).host said) (world.link at)) world refl none refl holds
   event_holds (Event.Note at text) world none here holds =
-      if_placed HoldsIn (has_place app (Event.Note at text) world) (done app (Event.Note at text) world) world holds
+      if_placed HoldsIn (is_enabled app (Event.Note at text) world) (done app (Event.Note at text) world) world holds
       (one_kept Holds at _ world.link (keeps.notes text (world.link at)) number holds)
   event_holds (Event.Lose at) world none here holds =
-      if_placed HoldsIn (has_place app (Event.Lose at) world) (done app (Event.Lose at) world) world holds (one_kept Holds at _ world.link (keeps.loses (world.link at)) number holds)
+      if_placed HoldsIn (is_enabled app (Event.Lose at) world) (done app (Event.Lose at) world) world holds (one_kept Holds at _ world.link (keeps.loses (world.link at)) number holds)
   event_holds (Event.HostSees at) world none here holds =
-      if_placed HoldsIn (has_place app (Event.HostSees at) world) (done app (Event.HostSees at) world) world holds
+      if_placed HoldsIn (is_enabled app (Event.HostSees at) world) (done app (Event.HostSees at) world) world holds
       (one_kept Holds at _ world.link (keeps.host_leaves (world.link at)) number holds)
   event_holds (Event.TermSees terminal) world none here holds =
-      if_placed HoldsIn (has_place app (Event.TermSees terminal) world) (done app (Event.TermSees terminal) world) world holds (by_place (world.place terminal))
+      if_placed HoldsIn (is_enabled app (Event.TermSees terminal) world) (done app (Event.TermSees terminal) world) world holds (by_place (world.place terminal))
     where
       by_place : (place : Place) → HoldsIn (term_saw terminal place world)
       by_place (Place.At at) = one_kept Holds at _ world.link (keeps.term_leaves (world.link at)) number holds
       by_place (Place.Alone display) = holds
   event_holds (Event.Connect terminal wanted) world none here holds =
-      if_placed HoldsIn (has_place app (Event.Connect terminal wanted) world) (done app (Event.Connect terminal wanted) world) world holds
+      if_placed HoldsIn (is_enabled app (Event.Connect terminal wanted) world) (done app (Event.Connect terminal wanted) world) world holds
       (joined_holds terminal wanted (free_number world.link) world refl here holds)
   event_holds (Event.RestartTerm terminal) world none here holds =
-      if_placed HoldsIn (has_place app (Event.RestartTerm terminal) world) (done app (Event.RestartTerm terminal) world) world holds (by_place (world.place terminal))
+      if_placed HoldsIn (is_enabled app (Event.RestartTerm terminal) world) (done app (Event.RestartTerm terminal) world) world holds (by_place (world.place terminal))
     where
       by_place : (place : Place) → HoldsIn (term_anew app terminal place world)
       by_place (Place.At at) = one_kept Holds at _ world.link (keeps.term_leaves (world.link at)) number holds
       by_place (Place.Alone display) = holds
   event_holds Event.RestartHost world none here holds =
-      if_placed HoldsIn (has_place app Event.RestartHost world) (done app Event.RestartHost world) world holds (anew_holds world holds)
+      if_placed HoldsIn (is_enabled app Event.RestartHost world) (done app Event.RestartHost world) world holds (anew_holds world holds)
 
   -- ---- events, one after another
 
-  all_hold : (it : Event) → ((world : World) → HoldsIn world → HoldsIn (happens app it world)) → (count : ℕ) (world : World) → HoldsIn world → HoldsIn (run app (replicate count it) world)
+  all_hold : (it : Event) → ((world : World) → HoldsIn world → HoldsIn (stepped_by app it world)) → (count : ℕ) (world : World) → HoldsIn world → HoldsIn (run app (replicate count it) world)
   all_hold it goes zero world holds = holds
-  all_hold it goes (suc count) world holds = all_hold it goes count (happens app it world) (goes world holds)
+  all_hold it goes (suc count) world holds = all_hold it goes count (stepped_by app it world) (goes world holds)
 
   pub rests_hold_over : (events : List Event) (world : World) → HostRestsOver app number events world → HoldsIn world → HoldsIn (run app events world)
   rests_hold_over [] world rests holds = holds
-  rests_hold_over (it ∷ events) world rests holds = rests_hold_over events (happens app it world) rests.2 (event_holds it world rests.1 rests.0 holds)
+  rests_hold_over (it ∷ events) world rests holds = rests_hold_over events (stepped_by app it world) rests.2 (event_holds it world rests.1 rests.0 holds)
 
 -- ---- one event over bytes
 
@@ -189,7 +189,7 @@ module _ (skips : SkipsAreThose) (begin : Begin) (is : IsBegin begin) (Holds : L
   abbrev Leave : List Event → Type 0
   Leave more = Holds ((run (application_of begin.panels) more (after begin events)).link number)
 
-  once_holds : (it : Event) → (decides_over number it ≡ true → has_place (application_of begin.panels) it (after begin events) ≡ false) → (a : Stepped) → Leave (once it a)
+  once_holds : (it : Event) → (decides_over number it ≡ true → is_enabled (application_of begin.panels) it (after begin events) ≡ false) → (a : Stepped) → Leave (once it a)
   once_holds it none stepped.Done = event_holds (application_of begin.panels) Holds keeps number it (after begin events) none here holds
   once_holds it none (stepped.Refused why) = event_holds (application_of begin.panels) Holds keeps number it (after begin events) none here holds
   once_holds it none stepped.Skipped = event_holds (application_of begin.panels) Holds keeps number it (after begin events) none here holds
@@ -199,7 +199,7 @@ module _ (skips : SkipsAreThose) (begin : Begin) (is : IsBegin begin) (Holds : L
   other_holds : (it : Event) → decides_over number it ≡ false → (more : List Event) → more ≡ once it answer → Leave more
   other_holds it other more comes = subst Leave (sym comes) (once_holds it (λ decides. absurd (let wrong = sym other ∙ decides in cc)) answer)
 
-  answer_holds : (at : ℕ) (ticket : Ticket) (said : Said) → DecidesNothing number (event.Answer at ticket said) old → Steps (event.Answer at ticket said) old answer new
+  answer_holds : (at : ℕ) (ticket : Ticket) (said : ApplicationAnswer) → DecidesNothing number (event.Answer at ticket said) old → Steps (event.Answer at ticket said) old answer new
       → (more : List Event) → more ≡ once_taken (Event.Answer at said) answer → Leave more
   answer_holds at ticket said none steps more comes = by_number (number == at) refl
     where
@@ -213,7 +213,7 @@ module _ (skips : SkipsAreThose) (begin : Begin) (is : IsBegin begin) (Holds : L
       by_number : (b : Bool) → (number == at) ≡ b → Leave more
       by_number false other = subst Leave (sym comes) (by_taken answer other)
       by_number true same =
-          let skipped = subst (λ (p : Bool). HappensIf p (event.Answer at ticket said) old answer new) (none same) steps in
+          let skipped = subst (λ (p : Bool). IsStepIf p (event.Answer at ticket said) old answer new) (none same) steps in
           subst Leave (sym (comes ∙ ap (once_taken (Event.Answer at said)) skipped.0)) holds
 
   leaves : (it : ByteEvent) → DecidesNothing number it old → Steps it old answer new → (goes : GoesOn begin events it old answer new) → Leave goes.more

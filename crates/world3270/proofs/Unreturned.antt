@@ -13,31 +13,31 @@ use Rattle.codes3270.specs.declared.attribute.Attr.{Attr as Attribute}
 use Rattle.codes3270.specs.declared.attribute.Cell.{Cell}
 use Rattle.codes3270.specs.declared.attribute.Cell.TheVariants.{Char, Attr}
 use Rattle.datastream.specs.Grammar.{CommandParts}
-use Rattle.datastream.specs.Held.{Hold, Held, CharHeld, CellHeld, without_mdt}
+use Rattle.datastream.specs.KeptByKeys.{Hold, KeptByKeys, CharHeld, CellHeld, without_mdt}
 use Rattle.datastream.specs.Meaning.{after_command}
 use Rattle.datastream.specs.Note.{IsNote, IsNoteOrder, IsProtectedChar, OverCharacters, WritesProtected, places_noted, quiet}
 use Rattle.datastream.specs.NoteLaws.{HeldStaysProtected, NoteKeepsForm, NotesCompose, SameForm}
 use Rattle.datastream.specs.Screen.{Screen, attribute_in, attribute_over, is_char, is_char_at, is_protected, last_attribute, protects, ring}
 use Rattle.datastream.specs.declared.command_code.CommandCode.TheVariants.{Write}
-use Rattle.datastream.specs.declared.order.Order.TheVariants.{Sba, Char as Data}
+use Rattle.datastream.specs.declared.order.Order.TheVariants.{Sba, Char as CharData}
 use Rattle.datastream.proofs.Fields.{attribute_over_is}
-use Rattle.world3270.specs.AsLeft.{ProtectedIsAsLeft, attribute_at}
-use Rattle.world3270.specs.Unreturned.{IsInUnmodified, IsKept, NotedSince, SamePlaces, UnmodifiedIsKept}
+use Rattle.world3270.specs.statement.AsLeft.{ProtectedIsAsLeft, attribute_at}
+use Rattle.world3270.specs.refinement.Unreturned.{IsInUnmodified, IsKept, NotedSince, SamePlaces, UnmodifiedIsKept}
 
 -- ---- one place
 
 -- a note of one character
 abbrev single : ℕ → CommandParts
-single place = record { code = Write; size = model_2; wcc = Some quiet; orders = Sba place ∷ Data 0 ∷ [] }
+single place = record { code = Write; size = model_2; wcc = Some quiet; orders = Sba place ∷ CharData 0 ∷ [] }
 
 single_is : (place : ℕ) → IsNote (single place)
-single_is place = record { first = place; others = Data 0 ∷ []; code = refl; wcc = refl; orders = refl; each = All-cons IsNoteOrder (Data 0) [] tt (All-nil IsNoteOrder) }
+single_is place = record { first = place; others = CharData 0 ∷ []; code = refl; wcc = refl; orders = refl; each = All-cons IsNoteOrder (CharData 0) [] tt (All-nil IsNoteOrder) }
 
 writes_single : (cells : List Cell) (place : ℕ) → IsProtectedChar cells place → WritesProtected (single place) cells
 writes_single cells place is = record { note = single_is place; each = All-cons (IsProtectedChar cells) place [] is (All-nil (IsProtectedChar cells)) }
 
 -- a protected character stays one under keys
-protected_held : HeldStaysProtected → (erased : Bool) (shown now : List Cell) (place : ℕ) → Held erased shown now → IsProtectedChar shown place → IsProtectedChar now place
+protected_held : HeldStaysProtected → (erased : Bool) (shown now : List Cell) (place : ℕ) → KeptByKeys erased shown now → IsProtectedChar shown place → IsProtectedChar now place
 protected_held stays erased shown now place held is =
     All-head (IsProtectedChar now) place [] (stays erased (single place) shown now (writes_single shown place is) held).each
 
@@ -71,7 +71,7 @@ held_kind erased over (Char shown) (Attr now) h = absurd h
 held_kind erased over (Attr shown) (Char now) h = absurd h
 held_kind erased over (Attr shown) (Attr now) h = refl
 
-pub held_places : (erased : Bool) (shown now : List Cell) → Held erased shown now → SamePlaces shown now
+pub held_places : (erased : Bool) (shown now : List Cell) → KeptByKeys erased shown now → SamePlaces shown now
 held_places erased shown now held = record { size = held.same_length; kinds = λ place. by_place place (cases_lt place (length now)) }
   where
     by_place : (place : ℕ) → (place < length now) ⊎ (length now ≤ place) → is_char_at now place ≡ is_char_at shown place
@@ -84,7 +84,7 @@ places_compose left shown now first second =
     record { size = second.size ∙ first.size; kinds = λ place. second.kinds place ∙ first.kinds place }
 
 -- what keys kept of the screen that was shown they kept of what was left
-pub kept_of : HeldStaysProtected → (erased : Bool) (row : ℕ) (left shown now : List Cell) → Held erased shown now → NotedSince row left shown → UnmodifiedIsKept erased left now
+pub kept_of : HeldStaysProtected → (erased : Bool) (row : ℕ) (left shown now : List Cell) → KeptByKeys erased shown now → NotedSince row left shown → UnmodifiedIsKept erased left now
 kept_of stays erased row left shown now held noted =
     record { places = places_compose left shown now noted.places (held_places erased shown now held); each = λ place within unmodified. by_note place within unmodified (noted.each place) }
   where
@@ -219,7 +219,7 @@ cell_attribute erased over (Char shown) (Attr now) h = absurd h
 cell_attribute erased over (Attr shown) (Char now) h = absurd h
 cell_attribute erased over (Attr shown) (Attr now) h = ap (λ (a : Attribute). Some a) h.0
 
-pub held_attribute : (erased : Bool) (shown now : List Cell) → Held erased shown now → (place : ℕ) → attribute_at now place ≡ attribute_at shown place
+pub held_attribute : (erased : Bool) (shown now : List Cell) → KeptByKeys erased shown now → (place : ℕ) → attribute_at now place ≡ attribute_at shown place
 held_attribute erased shown now held place = by_place (cases_lt place (length now))
   where
     by_place : (place < length now) ⊎ (length now ≤ place) → attribute_at now place ≡ attribute_at shown place
@@ -246,7 +246,7 @@ cell_same erased (Some over) (Attr shown) (Attr now) guarded itself h =
     let still : now.protected ≡ true = sym (ap (λ (a : Attribute). a.protected) here) ∙ guarded in
     ap (λ (a : Attribute). Attr a) (whole_attribute now shown h.0 (h.1 still))
 
-pub held_cell : (erased : Bool) (shown now : List Cell) → Held erased shown now → (place : ℕ) → is_protected now place ≡ true
+pub held_cell : (erased : Bool) (shown now : List Cell) → KeptByKeys erased shown now → (place : ℕ) → is_protected now place ≡ true
     → slice_index_or now place (Char 0) ≡ slice_index_or shown place (Char 0)
 held_cell erased shown now held place guarded = by_place (cases_lt place (length now))
   where
@@ -260,7 +260,7 @@ held_cell erased shown now held place guarded = by_place (cases_lt place (length
     by_place (inr beyond) = rw (get_or_past now place (Char 0) beyond, get_or_past shown place (Char 0) (subst (λ n. n ≤ place) held.same_length beyond)) refl
 
 -- what keys kept of the screen that was shown they kept of what was left
-pub as_left_of : (erased : Bool) (row : ℕ) (left shown now : List Cell) → Held erased shown now → NotedSince row left shown → ProtectedIsAsLeft row left now
+pub as_left_of : (erased : Bool) (row : ℕ) (left shown now : List Cell) → KeptByKeys erased shown now → NotedSince row left shown → ProtectedIsAsLeft row left now
 as_left_of erased row left shown now held noted = record {
   size = held.same_length ∙ noted.places.size;
   attributes = λ place. held_attribute erased shown now held place ∙ noted_attribute row left shown noted place;

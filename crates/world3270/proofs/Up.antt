@@ -22,8 +22,8 @@ use Rattle.shadow.specs.Belief.{Shadow, fields_of}
 use Rattle.shadow.specs.Exactness.{KnownIsExact, ProtectedIsExact}
 use Rattle.shadow.specs.Heard.{heard, heard_form}
 use Rattle.shadow.specs.Laws.{Believed}
-use Rattle.shadow.specs.Openness.{NothingIsOpen}
-use Rattle.shadow.specs.Seen.{belief_seen, denies_buffer, formatted_or, seen}
+use Rattle.shadow.specs.TextUnknown.{NothingIsOpen}
+use Rattle.shadow.specs.AfterReadBuffer.{belief_seen, denies_buffer, formatted_or, seen}
 use Rattle.shadow.specs.declared.fault.HeardFault.{HeardFault}
 use Rattle.shadow.specs.declared.fault.HeardFault.TheVariants.{Contradiction}
 use Rattle.telnet_wire.specs.declared.wire.Verb.TheVariants.{Will}
@@ -43,18 +43,18 @@ use Rattle.host_core.specs.Messages.{ToTerminal, ToHost, Verdict}
 use Rattle.host_core.specs.declared.turn.Turn.TheVariants as whose
 use Rattle.host_core.specs.declared.turn_reason.TurnReason.{TurnReason}
 use Rattle.host_core.specs.declared.turn_reason.TurnReason.TheVariants as turn_reasons
-use Rattle.host_core.specs.Session.{Conn, Pending, is_agreed}
+use Rattle.host_core.specs.Session.{Session, Pending, is_agreed}
 use Rattle.host_core.specs.Rejections.{lu_asked}
 use Rattle.host_core.specs.declared.rejection.Rejection.{Rejection}
 use Rattle.host_core.specs.Takes.{buffer_heard, is_verified, rule_broken_by, unless_broken, HostStep, Answers, quiet, with_talk, replied, granted_by, talked_on, talked, hears, believed, once_read, key_came, key_data_came, data_came, answered, if_answers, response_came, once_agreed, took}
 use Rattle.std.specs.Prelude.{All, map, unwrap_or, if◌then◌else◌}
 use Rattle.std.proofs.lemmas.List.Elements.{All-nil, All-cons}
-use Rattle.world3270.specs.Given.{Given}
-use Rattle.world3270.specs.Link.{Link, sent}
-use Rattle.world3270.specs.Moments.{Kind, awaiting, Talking, Serving, Moment, UnderWay, IsAgreed, IsAt, IsHostTalk, IsTermTalk, host_in_talk, turn_at, pending_at, down_at, up_at, served_down, served_up}
-use Rattle.world3270.specs.TurnReasons.{IsOccasion, IsCursorFor, IsOpenBy, IsOpenFor}
-use Rattle.world3270.specs.Stages.{scene_of, once_taken, FactsAreExact, Suits, Sees, IsPressed, WillBeHeard, IsReported, Fact, Kept, Sizes, IsTextKnown, IsKnownIfRead, IsUnread, ShownAt}
-use Rattle.world3270.specs.View.{view_of}
+use Rattle.world3270.specs.refinement.LowerLaws.{LowerLaws}
+use Rattle.world3270.specs.model.Link.{Link, sent}
+use Rattle.world3270.specs.refinement.Phases.{Kind, awaiting, Talking, Serving, LinkPhase, UnderWay, IsAgreed, IsAt, IsHostTalk, IsTermTalk, host_in_talk, turn_at, pending_at, down_at, up_at, served_down, served_up}
+use Rattle.world3270.specs.statement.TurnReasons.{IsOccasion, IsCursorFor, IsOpenBy, IsOpenFor}
+use Rattle.world3270.specs.refinement.Invariant.{local_state_of, once_taken, FactsAreExact, MayBeGranted, Sees, IsPressed, WillBeHeard, IsReported, Fact, Kept, Sizes, IsTextKnown, IsKnownIfRead, IsUnread, ShownAt}
+use Rattle.world3270.specs.refinement.View.{view_of}
 use Rattle.world3270.proofs.OneOfMany.{same_number}
 use Rattle.world3270.proofs.Queues.{more, front, nothing}
 use Rattle.world3270.proofs.TalkStates.{is_agreed_on, own_model}
@@ -64,11 +64,11 @@ abbrev pub host_view : HostStep → List ToHost → Link → Link
 host_view step rest link = record link { up = rest; host = step.conn; down = sent link.lost link.down step.sends }
 
 -- the LU that the host's end has, if it has one
-abbrev pub claim : Conn → Option (List ℕ)
+abbrev pub claim : Session → Option (List ℕ)
 claim conn = granted conn.talk.state
 
 -- what a step grants is what the pool answered, and the host's end has it then
-pub data Grants (pool : List Entry) (old : Conn) (step : HostStep) : Type 0 where
+pub data Grants (pool : List Entry) (old : Session) (step : HostStep) : Type 0 where
   none : step.grants ≡ None → claim step.conn ≡ claim old → Grants pool old step
   one : (name : Option (List ℕ)) (lu : List ℕ) → step.grants ≡ Some lu → claim step.conn ≡ Some lu → answer_to pool name ≡ Ok lu → Grants pool old step
 
@@ -80,11 +80,11 @@ pub record Answered (app : Application) (pool : List Entry) (link : Link) (rest 
 -- ---- from moment to moment
 
 -- the host's step leaves the terminal's end as it is
-record Leads (model : Model) (wanted : Option (List ℕ)) (from to : Moment) (sends : List ToTerminal) : Type 0 where
+record Leads (model : Model) (wanted : Option (List ℕ)) (from to : LinkPhase) (sends : List ToTerminal) : Type 0 where
   term : (term : Term) → IsTermTalk model wanted from term → IsTermTalk model wanted to term
   down : down_at model from ++ sends ≡ down_at model to
 
-leads : (link : Link) (step : HostStep) (rest : List ToHost) (wanted : Option (List ℕ)) (from to : Moment) → IsAt (view_of link) wanted from → Leads link.term.display.model wanted from to step.sends
+leads : (link : Link) (step : HostStep) (rest : List ToHost) (wanted : Option (List ℕ)) (from to : LinkPhase) → IsAt (view_of link) wanted from → Leads link.term.display.model wanted from to step.sends
     → IsHostTalk link.term.display.model to step.conn.talk → step.conn.turn ≡ turn_at to → step.conn.pending ≡ pending_at to → UnderWay link.lost rest (up_at link.term.display.model wanted to) → IsAt (view_of (host_view step rest link)) wanted to
 leads link step rest wanted from to at l talk turn pending left = record {
   host_talk = talk;
@@ -102,12 +102,12 @@ talk_step link next sends grants rejects = record { conn = with_talk link.host n
 
 -- the talk moves on, by a step that is known
 talks : (app : Application) (pool : List Entry) (link : Link) (rest : List ToHost) (k : Kept app (view_of link)) (from to : Talking) (saying : Saying) (sends : List ToTerminal) (grants : Option (List ℕ)) (rejects : Option Rejection) (message : ToHost)
-    → link.term.display.shape ≡ link.host.shape
-    → IsAt (view_of link) k.wanted (Moment.Talks from) → link.host.talk ≡ host_in_talk link.term.display.model from → IsHostTalk link.term.display.model (Moment.Talks to) (host_in_talk link.term.display.model to) → message ≡ ToHost.TalksUp saying
+    → link.term.display.size ≡ link.host.size
+    → IsAt (view_of link) k.wanted (LinkPhase.Talks from) → link.host.talk ≡ host_in_talk link.term.display.model from → IsHostTalk link.term.display.model (LinkPhase.Talks to) (host_in_talk link.term.display.model to) → message ≡ ToHost.TalksUp saying
     → talked (answer_to pool) link.host (host_in_talk link.term.display.model from) (says saying) ≡ talk_step link (host_in_talk link.term.display.model to) sends grants rejects
-    → Grants pool link.host (talk_step link (host_in_talk link.term.display.model to) sends grants rejects) → Leads link.term.display.model k.wanted (Moment.Talks from) (Moment.Talks to) sends
-    → UnderWay link.lost rest (up_at link.term.display.model k.wanted (Moment.Talks to))
-    → Fact k.wanted (scene_of (view_of link)) (Moment.Talks to) → Answered app pool link rest (took (answer_to pool) link.host message)
+    → Grants pool link.host (talk_step link (host_in_talk link.term.display.model to) sends grants rejects) → Leads link.term.display.model k.wanted (LinkPhase.Talks from) (LinkPhase.Talks to) sends
+    → UnderWay link.lost rest (up_at link.term.display.model k.wanted (LinkPhase.Talks to))
+    → Fact k.wanted (local_state_of (view_of link)) (LinkPhase.Talks to) → Answered app pool link rest (took (answer_to pool) link.host message)
 talks app pool link rest k from to saying sends grants rejects message same at talk then_talk is step g l left fact =
     subst (λ m. Answered app pool link rest (took (answer_to pool) link.host m)) (sym is)
     (subst (Answered app pool link rest) (sym (ap (λ (t : Talk HostState). talked (answer_to pool) link.host t (says saying)) talk ∙ step))
@@ -119,9 +119,9 @@ talks app pool link rest k from to saying sends grants rejects message same at t
         as_left = k.as_left;
         exact = k.exact;
         wanted = k.wanted;
-        moment = Moment.Talks to;
+        moment = LinkPhase.Talks to;
         sizes = record { host = k.sizes.host; screen = k.sizes.screen; same = λ steady. same };
-        at = leads link (talk_step link (host_in_talk link.term.display.model to) sends grants rejects) rest k.wanted (Moment.Talks from) (Moment.Talks to) at l then_talk at.turn at.pending left;
+        at = leads link (talk_step link (host_in_talk link.term.display.model to) sends grants rejects) rest k.wanted (LinkPhase.Talks from) (LinkPhase.Talks to) at l then_talk at.turn at.pending left;
         fact = fact;
         shown = tt;
       };
@@ -129,7 +129,7 @@ talks app pool link rest k from to saying sends grants rejects message same at t
       grants = g;
     }))
 
-claim_at : (conn : Conn) (talk : Talk HostState) → conn.talk ≡ talk → granted talk.state ≡ claim conn
+claim_at : (conn : Session) (talk : Talk HostState) → conn.talk ≡ talk → granted talk.state ≡ claim conn
 claim_at conn talk e = ap (λ (t : Talk HostState). granted t.state) (sym e)
 
 -- a terminal that asks for its type of device, and for an LU, if it wants one
@@ -139,30 +139,30 @@ asking_type model wanted = Saying.Sub (TypeRequest model wanted)
 abbrev at_asking : Model → Talk HostState
 at_asking model = start_at (Asking (device_for model))
 
-asks_pool : Given → (model : Model) (wanted : Option (List ℕ)) → IsLuIfSome wanted
+asks_pool : LowerLaws → (model : Model) (wanted : Option (List ℕ)) → IsLuIfSome wanted
     → follow HostClosed (start_at Asked) (host_transition Asked (says (asking_type model wanted))) ≡ (at_asking model, reply.AskPool wanted)
 asks_pool given model None is = ap (λ d. follow HostClosed (start_at Asked) (request_transition d None)) (own_device model)
 asks_pool given model (Some name) is =
     ap (λ d. follow HostClosed (start_at Asked) (request_transition d (Some (Connect name)))) (own_device model)
     ∙ ap (λ l. follow HostClosed (start_at Asked) (named_transition (device_for model) l)) (given.belief.names name is)
 
-pool_asked : Given → (pool : Answers) (conn : Conn) (model : Model) (wanted : Option (List ℕ)) → IsLuIfSome wanted
+pool_asked : LowerLaws → (pool : Answers) (conn : Session) (model : Model) (wanted : Option (List ℕ)) → IsLuIfSome wanted
     → talked pool conn (start_at Asked) (says (asking_type model wanted))
     ≡ replied conn (lu_asked (says (asking_type model wanted))) (granted_by (pool wanted)) (follow HostClosed (at_asking model) (answer_transition (device_for model) (pool wanted)))
 pool_asked given pool conn model wanted is =
     ap (λ (p : Talk HostState × Reply). talked_on pool conn (lu_asked (says (asking_type model wanted))) p.0 p.1) (asks_pool given model wanted is)
 
-abbrev answered_by : Conn → Model → Option (List ℕ) → Result (List ℕ) Reason → HostStep
+abbrev answered_by : Session → Model → Option (List ℕ) → Result (List ℕ) Reason → HostStep
 answered_by conn model wanted answer =
     replied conn (lu_asked (says (asking_type model wanted))) (granted_by answer) (follow HostClosed (at_asking model) (answer_transition (device_for model) answer))
 
-suits : Given → (pool : List Entry) (wanted : Option (List ℕ)) (lu : List ℕ) → IsSound pool → IsLuIfSome wanted → answer_to pool wanted ≡ Ok lu → Suits wanted lu
+suits : LowerLaws → (pool : List Entry) (wanted : Option (List ℕ)) (lu : List ℕ) → IsSound pool → IsLuIfSome wanted → answer_to pool wanted ≡ Ok lu → MayBeGranted wanted lu
 suits given pool None lu sound is e = record { is_lu = given.pool.lus pool None lu sound e; is_wanted = tt }
 suits given pool (Some name) lu sound is e = record { is_lu = given.pool.lus pool (Some name) lu sound e; is_wanted = given.pool.asked pool name lu is e }
 
-grants_type : Given → (app : Application) (pool : List Entry) → IsSound pool → (link : Link) (rest : List ToHost) (k : Kept app (view_of link)) (message : ToHost)
-    → link.term.display.shape ≡ link.host.shape
-    → IsAt (view_of link) k.wanted (Moment.Talks Talking.NamingType) → Fact k.wanted (scene_of (view_of link)) (Moment.Talks Talking.NamingType) → UnderWay link.lost rest []
+grants_type : LowerLaws → (app : Application) (pool : List Entry) → IsSound pool → (link : Link) (rest : List ToHost) (k : Kept app (view_of link)) (message : ToHost)
+    → link.term.display.size ≡ link.host.size
+    → IsAt (view_of link) k.wanted (LinkPhase.Talks Talking.NamingType) → Fact k.wanted (local_state_of (view_of link)) (LinkPhase.Talks Talking.NamingType) → UnderWay link.lost rest []
     → message ≡ ToHost.TalksUp (asking_type link.term.display.model k.wanted) → Answered app pool link rest (took (answer_to pool) link.host message)
 grants_type given app pool sound link rest k message same at f left e = by_answer (answer_to pool k.wanted) refl
   where
@@ -180,12 +180,12 @@ grants_type given app pool sound link rest k message same at f left e = by_answe
 -- ---- records
 
 module _ (app : Application) (pool : List Entry) (link : Link) (rest : List ToHost) (k : Kept app (view_of link)) where
-  agreed_at : (lu : List ℕ) (serving : Serving) → IsAt (view_of link) k.wanted (Moment.Serves lu serving) → is_agreed link.host.talk.state ≡ true
+  agreed_at : (lu : List ℕ) (serving : Serving) → IsAt (view_of link) k.wanted (LinkPhase.Serves lu serving) → is_agreed link.host.talk.state ≡ true
   agreed_at lu serving at = is_agreed_on link.host.talk at.host_talk
 
-  serves : (lu : List ℕ) (from to : Serving) (conn : Conn) → link.term.display.shape ≡ link.host.shape → IsAt (view_of link) k.wanted (Moment.Serves lu from) → conn.talk ≡ link.host.talk → conn.shape ≡ link.host.shape → FactsAreExact conn.shadow
-      → conn.turn ≡ turn_at (Moment.Serves lu to) → conn.pending ≡ pending_at (Moment.Serves lu to) → served_down from ++ [] ≡ served_down to → UnderWay link.lost rest (served_up to)
-      → Fact k.wanted (scene_of (view_of (host_view (quiet conn) rest link))) (Moment.Serves lu to) → ShownAt app link.term.waits conn link.term.display.before_restored link.term.display.last_restored link.term.display.screen (Moment.Serves lu to)
+  serves : (lu : List ℕ) (from to : Serving) (conn : Session) → link.term.display.size ≡ link.host.size → IsAt (view_of link) k.wanted (LinkPhase.Serves lu from) → conn.talk ≡ link.host.talk → conn.size ≡ link.host.size → FactsAreExact conn.shadow
+      → conn.turn ≡ turn_at (LinkPhase.Serves lu to) → conn.pending ≡ pending_at (LinkPhase.Serves lu to) → served_down from ++ [] ≡ served_down to → UnderWay link.lost rest (served_up to)
+      → Fact k.wanted (local_state_of (view_of (host_view (quiet conn) rest link))) (LinkPhase.Serves lu to) → ShownAt app link.term.waits conn link.term.display.before_restored link.term.display.last_restored link.term.display.screen (LinkPhase.Serves lu to)
       → Answered app pool link rest (quiet conn)
   serves lu from to conn same at talk shape exact turn pending down left fact shown = record {
     kept = record {
@@ -195,13 +195,13 @@ module _ (app : Application) (pool : List Entry) (link : Link) (rest : List ToHo
       as_left = k.as_left;
       exact = exact;
       wanted = k.wanted;
-      moment = Moment.Serves lu to;
+      moment = LinkPhase.Serves lu to;
       sizes = record {
         host = subst (λ (s : Shape). IsSizeOf app link.term.display.model s) (sym shape) k.sizes.host;
         screen = k.sizes.screen;
         same = λ steady. same ∙ sym shape;
       };
-      at = leads link (quiet conn) rest k.wanted (Moment.Serves lu from) (Moment.Serves lu to) at (record { term = λ term is. is; down = down })
+      at = leads link (quiet conn) rest k.wanted (LinkPhase.Serves lu from) (LinkPhase.Serves lu to) at (record { term = λ term is. is; down = down })
           (subst (IsAgreed link.term.display.model lu) (sym talk) at.host_talk) turn pending left;
       fact = fact;
       shown = shown;
@@ -215,11 +215,11 @@ module _ (app : Application) (pool : List Entry) (link : Link) (rest : List ToHo
 
 -- ---- responses
 
-answers_it : (kind : Kind) (number : ℕ) (command : CommandParts) (conn : Conn) → response_came number Verdict.Positive (awaiting kind number command) conn ≡ quiet (answered command conn)
+answers_it : (kind : Kind) (number : ℕ) (command : CommandParts) (conn : Session) → response_came number Verdict.Positive (awaiting kind number command) conn ≡ quiet (answered command conn)
 answers_it Kind.APaint number command conn = ap (λ b. if_answers b (quiet (answered command conn)) conn) (same_number number)
 answers_it Kind.ANote number command conn = ap (λ b. if_answers b (quiet (answered command conn)) conn) (same_number number)
 
-pub response_took : (pool : Answers) (conn : Conn) (kind : Kind) (number : ℕ) (command : CommandParts) → is_agreed conn.talk.state ≡ true → conn.pending ≡ awaiting kind number command
+pub response_took : (pool : Answers) (conn : Session) (kind : Kind) (number : ℕ) (command : CommandParts) → is_agreed conn.talk.state ≡ true → conn.pending ≡ awaiting kind number command
     → took pool conn (ToHost.Response number Verdict.Positive) ≡ quiet (answered command conn)
 response_took pool conn kind number command agrees pends =
     ap (λ b. once_agreed b (response_came number Verdict.Positive conn.pending conn) conn) agrees
@@ -233,7 +233,7 @@ pub data IsKeyTime (pending : Pending) : Type 0 where
   nothing_waits : pending ≡ Pending.Nothing → IsKeyTime pending
   note_waits : (number : ℕ) (command : CommandParts) → pending ≡ Pending.Noting number command → IsKeyTime pending
 
-key_data_took : (parts : InboundParts) (conn : Conn) (aid : Aid) → parts.form ≡ Modified → parts.aid ≡ aid → (aid ≡ NoAid → ⊥)
+key_data_took : (parts : InboundParts) (conn : Session) (aid : Aid) → parts.form ≡ Modified → parts.aid ≡ aid → (aid ≡ NoAid → ⊥)
     → key_data_came parts parts.form conn ≡ believed (turn_reasons.Key aid false) conn.pending parts.cursor conn (hears parts conn)
 key_data_took parts conn aid form is some = ap (λ f. key_data_came parts f conn) form ∙ ap (λ a. key_came parts a conn) is ∙ by_aid aid some
   where
@@ -244,18 +244,18 @@ key_data_took parts conn aid form is some = ap (λ f. key_data_came parts f conn
     by_aid (Pf key) n = refl
     by_aid (Pa key) n = refl
 
-data_took : (parts : InboundParts) (conn : Conn) (pending : Pending) → conn.turn ≡ whose.Terminal → IsKeyTime pending → data_came parts conn.turn pending conn ≡ key_data_came parts parts.form conn
+data_took : (parts : InboundParts) (conn : Session) (pending : Pending) → conn.turn ≡ whose.Terminal → IsKeyTime pending → data_came parts conn.turn pending conn ≡ key_data_came parts parts.form conn
 data_took parts conn pending turns (IsKeyTime.nothing_waits e) = ap (λ p. data_came parts conn.turn p conn) e ∙ ap (λ t. data_came parts t Pending.Nothing conn) turns
 data_took parts conn pending turns (IsKeyTime.note_waits number command e) = ap (λ p. data_came parts conn.turn p conn) e ∙ ap (λ t. data_came parts t (Pending.Noting number command) conn) turns
 
-pub key_took : (pool : Answers) (conn : Conn) (parts : InboundParts) (aid : Aid) → is_agreed conn.talk.state ≡ true → conn.turn ≡ whose.Terminal → IsKeyTime conn.pending → parts.form ≡ Modified → parts.aid ≡ aid → (aid ≡ NoAid → ⊥)
+pub key_took : (pool : Answers) (conn : Session) (parts : InboundParts) (aid : Aid) → is_agreed conn.talk.state ≡ true → conn.turn ≡ whose.Terminal → IsKeyTime conn.pending → parts.form ≡ Modified → parts.aid ≡ aid → (aid ≡ NoAid → ⊥)
     → took pool conn (ToHost.Data parts) ≡ believed (turn_reasons.Key aid false) conn.pending parts.cursor conn (hears parts conn)
 key_took pool conn parts aid agrees turns time form is some =
     ap (λ b. once_agreed b (data_came parts conn.turn conn.pending conn) conn) agrees
     ∙ data_took parts conn conn.pending turns time
     ∙ key_data_took parts conn aid form is some
 
-pub buffer_took : (pool : Answers) (conn : Conn) (size : Shape) (screen : Screen) (number : ℕ) → is_agreed conn.talk.state ≡ true → conn.pending ≡ Pending.Reading number
+pub buffer_took : (pool : Answers) (conn : Session) (size : Shape) (screen : Screen) (number : ℕ) → is_agreed conn.talk.state ≡ true → conn.pending ≡ Pending.Reading number
     → rule_broken_by (buffer_data size screen) conn ≡ None
     → took pool conn (ToHost.Data (buffer_data size screen)) ≡ believed (once_read conn.turn_reason) Pending.Nothing (buffer_data size screen).cursor conn (hears (buffer_data size screen) conn)
 buffer_took pool conn size screen number agrees pends unbroken =
@@ -269,7 +269,7 @@ none_broken : (verified : Bool) (broken : Option RuleBreak) → broken ≡ None 
 none_broken true broken e = e
 none_broken false broken e = refl
 
-pub unbroken_read : (conn : Conn) (size : Shape) (screen : Screen) → rule_break conn.shadow screen.cells ≡ None → rule_broken_by (buffer_data size screen) conn ≡ None
+pub unbroken_read : (conn : Session) (size : Shape) (screen : Screen) → rule_break conn.shadow screen.cells ≡ None → rule_broken_by (buffer_data size screen) conn ≡ None
 unbroken_read conn size screen unbroken =
     none_broken (is_verified conn) (rule_break conn.shadow (cells_sent (buffer_data size screen).parts)) (ap (rule_break conn.shadow) (cells_back screen.cells) ∙ unbroken)
 
@@ -328,38 +328,38 @@ read_cursor turn_reasons.Agreement place = tt
 read_cursor (turn_reasons.Key aid buffered) place = refl
 read_cursor turn_reasons.Refusal place = tt
 
-module _ (given : Given) (app : Application) (pool : List Entry) (link : Link) (rest : List ToHost) (k : Kept app (view_of link)) (same : link.term.display.shape ≡ link.host.shape) where
+module _ (given : LowerLaws) (app : Application) (pool : List Entry) (link : Link) (rest : List ToHost) (k : Kept app (view_of link)) (same : link.term.display.size ≡ link.host.size) where
   abbrev screen : Screen
   screen = link.term.display.screen
 
   abbrev size : ℕ
-  size = cells_in link.host.shape
+  size = cells_in link.host.size
 
   -- the host's end once it heard this
-  abbrev heard_conn : TurnReason → Pending → Option ℕ → Shadow → Conn
+  abbrev heard_conn : TurnReason → Pending → Option ℕ → Shadow → Session
   heard_conn turn_reason pending cursor shadow =
       record link.host { shadow = shadow; turn = whose.Host; pending = pending; turn_reason = turn_reason; cursor = unwrap_or cursor link.host.cursor }
 
   -- what is heard is believed, and it is the host's turn
   believes : (lu : List ℕ) (from to : Serving) (parts : InboundParts) (turn_reason : TurnReason) (pending : Pending) (cursor : Option ℕ) (Then : Shadow → Type 0) (r : Result Shadow HeardFault)
-      → IsAt (view_of link) k.wanted (Moment.Serves lu from) → IfOk r KnownIsExact → IfOk r ProtectedIsExact → IsOkAnd r Then
-      → whose.Host ≡ turn_at (Moment.Serves lu to) → pending ≡ pending_at (Moment.Serves lu to) → served_down from ++ [] ≡ served_down to → UnderWay link.lost rest (served_up to)
+      → IsAt (view_of link) k.wanted (LinkPhase.Serves lu from) → IfOk r KnownIsExact → IfOk r ProtectedIsExact → IsOkAnd r Then
+      → whose.Host ≡ turn_at (LinkPhase.Serves lu to) → pending ≡ pending_at (LinkPhase.Serves lu to) → served_down from ++ [] ≡ served_down to → UnderWay link.lost rest (served_up to)
       → ((shadow : Shadow) → Then shadow
-      → Fact k.wanted (record { shape = link.host.shape; shadow = shadow; turn_reason = turn_reason; cursor = unwrap_or cursor link.host.cursor; unheard = link.host.unheard; lock = link.term.display.keyboard.lock; screen = screen; last_restored = link.term.display.last_restored; erased = link.term.display.erased }) (Moment.Serves lu to))
-      → ((shadow : Shadow) → Then shadow → ShownAt app link.term.waits (heard_conn turn_reason pending cursor shadow) link.term.display.before_restored link.term.display.last_restored link.term.display.screen (Moment.Serves lu to))
+      → Fact k.wanted (record { size = link.host.size; shadow = shadow; turn_reason = turn_reason; cursor = unwrap_or cursor link.host.cursor; unheard = link.host.unheard; lock = link.term.display.keyboard.lock; screen = screen; last_restored = link.term.display.last_restored; erased = link.term.display.erased }) (LinkPhase.Serves lu to))
+      → ((shadow : Shadow) → Then shadow → ShownAt app link.term.waits (heard_conn turn_reason pending cursor shadow) link.term.display.before_restored link.term.display.last_restored link.term.display.screen (LinkPhase.Serves lu to))
       → Answered app pool link rest (believed turn_reason pending cursor link.host r)
   believes lu from to parts turn_reason pending cursor Then (Ok shadow) at knows protects ok turn pends down left fact shown =
       serves app pool link rest k lu from to (heard_conn turn_reason pending cursor shadow) same at refl refl (record { known = knows; protected = protects }) turn pends down left (fact shadow ok) (shown shadow ok)
   believes lu from to parts turn_reason pending cursor Then (Err fault) at knows protects ok turn pends down left fact shown = absurd ok
 
   -- a key's data
-  hears_key : (lu : List ℕ) (from to : Serving) (parts : InboundParts) (message : ToHost) (Then : Shadow → Type 0) → IsAt (view_of link) k.wanted (Moment.Serves lu from) → IsPressed (scene_of (view_of link)) parts
-      → WillBeHeard link.host.shape link.host.shadow parts Then → message ≡ ToHost.Data parts → turn_at (Moment.Serves lu from) ≡ whose.Terminal → IsKeyTime (pending_at (Moment.Serves lu from))
-      → whose.Host ≡ turn_at (Moment.Serves lu to) → pending_at (Moment.Serves lu from) ≡ pending_at (Moment.Serves lu to) → served_down from ++ [] ≡ served_down to
+  hears_key : (lu : List ℕ) (from to : Serving) (parts : InboundParts) (message : ToHost) (Then : Shadow → Type 0) → IsAt (view_of link) k.wanted (LinkPhase.Serves lu from) → IsPressed (local_state_of (view_of link)) parts
+      → WillBeHeard link.host.size link.host.shadow parts Then → message ≡ ToHost.Data parts → turn_at (LinkPhase.Serves lu from) ≡ whose.Terminal → IsKeyTime (pending_at (LinkPhase.Serves lu from))
+      → whose.Host ≡ turn_at (LinkPhase.Serves lu to) → pending_at (LinkPhase.Serves lu from) ≡ pending_at (LinkPhase.Serves lu to) → served_down from ++ [] ≡ served_down to
       → UnderWay link.lost rest (served_up to)
       → ((shadow : Shadow) → Then shadow
-      → Fact k.wanted (record { shape = link.host.shape; shadow = shadow; turn_reason = turn_reasons.Key screen.aid false; cursor = unwrap_or parts.cursor link.host.cursor; unheard = link.host.unheard; lock = link.term.display.keyboard.lock; screen = screen; last_restored = link.term.display.last_restored; erased = link.term.display.erased }) (Moment.Serves lu to))
-      → ((shadow : Shadow) → Then shadow → ShownAt app link.term.waits (heard_conn (turn_reasons.Key screen.aid false) link.host.pending parts.cursor shadow) link.term.display.before_restored link.term.display.last_restored link.term.display.screen (Moment.Serves lu to))
+      → Fact k.wanted (record { size = link.host.size; shadow = shadow; turn_reason = turn_reasons.Key screen.aid false; cursor = unwrap_or parts.cursor link.host.cursor; unheard = link.host.unheard; lock = link.term.display.keyboard.lock; screen = screen; last_restored = link.term.display.last_restored; erased = link.term.display.erased }) (LinkPhase.Serves lu to))
+      → ((shadow : Shadow) → Then shadow → ShownAt app link.term.waits (heard_conn (turn_reasons.Key screen.aid false) link.host.pending parts.cursor shadow) link.term.display.before_restored link.term.display.last_restored link.term.display.screen (LinkPhase.Serves lu to))
       → Answered app pool link rest (took (answer_to pool) link.host message)
   hears_key lu from to parts message Then at p will e turns time turn pends down left fact shown =
       as_step app pool link rest k (ToHost.Data parts) message (believed (turn_reasons.Key screen.aid false) link.host.pending parts.cursor link.host (hears parts link.host)) e
@@ -368,27 +368,27 @@ module _ (given : Given) (app : Application) (pool : List Entry) (link : Link) (
       (given.belief.heard_exact size link.host.shadow parts k.exact.known) (given.belief.heard_protected size link.host.shadow parts k.exact.protected) will turn (at.pending ∙ pends) down left fact shown)
 
   -- a response to a write
-  hears_response : (lu : List ℕ) (from to : Serving) (kind : Kind) (number : ℕ) (command : CommandParts) (message : ToHost) → IsAt (view_of link) k.wanted (Moment.Serves lu from) → message ≡ ToHost.Response number Verdict.Positive
-      → pending_at (Moment.Serves lu from) ≡ awaiting kind number command → FactsAreExact (once_taken link.host.shape command link.host.shadow)
-      → turn_at (Moment.Serves lu from) ≡ turn_at (Moment.Serves lu to) → Pending.Nothing ≡ pending_at (Moment.Serves lu to) → served_down from ++ [] ≡ served_down to
-      → UnderWay link.lost rest (served_up to) → Fact k.wanted (scene_of (view_of (host_view (quiet (answered command link.host)) rest link))) (Moment.Serves lu to)
-      → ShownAt app link.term.waits (answered command link.host) link.term.display.before_restored link.term.display.last_restored link.term.display.screen (Moment.Serves lu to) → Answered app pool link rest (took (answer_to pool) link.host message)
+  hears_response : (lu : List ℕ) (from to : Serving) (kind : Kind) (number : ℕ) (command : CommandParts) (message : ToHost) → IsAt (view_of link) k.wanted (LinkPhase.Serves lu from) → message ≡ ToHost.Response number Verdict.Positive
+      → pending_at (LinkPhase.Serves lu from) ≡ awaiting kind number command → FactsAreExact (once_taken link.host.size command link.host.shadow)
+      → turn_at (LinkPhase.Serves lu from) ≡ turn_at (LinkPhase.Serves lu to) → Pending.Nothing ≡ pending_at (LinkPhase.Serves lu to) → served_down from ++ [] ≡ served_down to
+      → UnderWay link.lost rest (served_up to) → Fact k.wanted (local_state_of (view_of (host_view (quiet (answered command link.host)) rest link))) (LinkPhase.Serves lu to)
+      → ShownAt app link.term.waits (answered command link.host) link.term.display.before_restored link.term.display.last_restored link.term.display.screen (LinkPhase.Serves lu to) → Answered app pool link rest (took (answer_to pool) link.host message)
   hears_response lu from to kind number command message at e waits exact turn pends down left fact shown =
       as_step app pool link rest k (ToHost.Response number Verdict.Positive) message (quiet (answered command link.host)) e
       (response_took (answer_to pool) link.host kind number command (agreed_at app pool link rest k lu from at) (at.pending ∙ waits))
       (serves app pool link rest k lu from to (answered command link.host) same at refl refl exact (at.turn ∙ turn) pends down left fact shown)
 
   -- the whole screen, as it was asked for
-  hears_buffer : (lu : List ℕ) (number : ℕ) (parts : InboundParts) (message : ToHost) → IsAt (view_of link) k.wanted (Moment.Serves lu (Serving.Reported number parts)) → IsReported (scene_of (view_of link)) parts
-      → message ≡ ToHost.Data parts → UnderWay link.lost rest [] → ShownAt app link.term.waits link.host link.term.display.before_restored link.term.display.last_restored link.term.display.screen (Moment.Serves lu (Serving.Reported number parts))
+  hears_buffer : (lu : List ℕ) (number : ℕ) (parts : InboundParts) (message : ToHost) → IsAt (view_of link) k.wanted (LinkPhase.Serves lu (Serving.Reported number parts)) → IsReported (local_state_of (view_of link)) parts
+      → message ≡ ToHost.Data parts → UnderWay link.lost rest [] → ShownAt app link.term.waits link.host link.term.display.before_restored link.term.display.last_restored link.term.display.screen (LinkPhase.Serves lu (Serving.Reported number parts))
       → Answered app pool link rest (took (answer_to pool) link.host message)
   hears_buffer lu number parts message at f e left shown =
       let said : Screen = record screen { aid = parts.aid } in
-      let read : InboundParts = buffer_data link.host.shape said in
+      let read : InboundParts = buffer_data link.host.size said in
       as_step app pool link rest k (ToHost.Data read) message (believed (once_read link.host.turn_reason) Pending.Nothing read.cursor link.host (hears read link.host)) (e ∙ ap (λ p. ToHost.Data p) f.says)
-      (buffer_took (answer_to pool) link.host link.host.shape said number (agreed_at app pool link rest k lu (Serving.Reported number parts) at) at.pending
-      (unbroken_read link.host link.host.shape said f.unbroken))
-      (believes lu (Serving.Reported number parts) Serving.Deciding read (once_read link.host.turn_reason) Pending.Nothing read.cursor (λ s. Sees link.host.unheard link.host.shape screen s × NothingIsOpen s × All IsTextKnown (fields_of s)) (hears read link.host) at
+      (buffer_took (answer_to pool) link.host link.host.size said number (agreed_at app pool link rest k lu (Serving.Reported number parts) at) at.pending
+      (unbroken_read link.host link.host.size said f.unbroken))
+      (believes lu (Serving.Reported number parts) Serving.Deciding read (once_read link.host.turn_reason) Pending.Nothing read.cursor (λ s. Sees link.host.unheard link.host.size screen s × NothingIsOpen s × All IsTextKnown (fields_of s)) (hears read link.host) at
       (given.belief.heard_exact size link.host.shadow read k.exact.known) (given.belief.heard_protected size link.host.shadow read k.exact.protected)
       (by_result (heard size link.host.shadow read) f.will
       (given.belief.heard_exact size link.host.shadow read k.exact.known) (given.belief.heard_protected size link.host.shadow read k.exact.protected) (given.belief.read_leaves size link.host.shadow read refl) (read_is_settled size link.host.shadow read refl))
@@ -396,14 +396,14 @@ module _ (given : Given) (app : Application) (pool : List Entry) (link : Link) (
       (λ shadow sees. (λ later. shown (λ is_first. later (ap once_read is_first)), settled_read link.host.turn_reason shadow sees.2)))
     where
       by_result : (r : Result Shadow HeardFault) → IsOkAnd r (Believed false screen) → IfOk r KnownIsExact → IfOk r ProtectedIsExact → IfOk r NothingIsOpen → IfOk r (λ s. All IsTextKnown (fields_of s))
-          → IsOkAnd r (λ s. Sees link.host.unheard link.host.shape screen s × NothingIsOpen s × All IsTextKnown (fields_of s))
+          → IsOkAnd r (λ s. Sees link.host.unheard link.host.size screen s × NothingIsOpen s × All IsTextKnown (fields_of s))
       by_result (Ok s) believed known protected closed settled =
           (record { exact = record { known = known; protected = protected }; closed = λ relies. all_open screen.aid false s closed; cleared = λ clear. absurd (f.not_cleared clear); meets = believed.0; lists = believed.1; told = λ sent. believed.2 refl }, closed, settled)
       by_result (Err fault) believed known protected closed settled = absurd believed
 
 -- ---- any message, at any moment
 
-pub answers : Given → (app : Application) (pool : List Entry) → IsSound pool → (link : Link) (message : ToHost) (rest : List ToHost) → link.up ≡ message ∷ rest → Kept app (view_of link)
+pub answers : LowerLaws → (app : Application) (pool : List Entry) → IsSound pool → (link : Link) (message : ToHost) (rest : List ToHost) → link.up ≡ message ∷ rest → Kept app (view_of link)
     → Answered app pool link rest (took (answer_to pool) link.host message)
 answers given app pool sound link message rest e k = by_moment k.moment k.sizes k.at k.fact k.shown
   where
@@ -413,7 +413,7 @@ answers given app pool sound link message rest e k = by_moment k.moment k.sizes 
     no_more : UnderWay link.lost link.up [] → Answered app pool link rest (took (answer_to pool) link.host message)
     no_more way = absurd (nothing link.lost link.up message rest e way)
 
-    by_talk : (talking : Talking) → link.term.display.shape ≡ link.host.shape → IsAt (view_of link) k.wanted (Moment.Talks talking) → Fact k.wanted (scene_of (view_of link)) (Moment.Talks talking) → Answered app pool link rest (took (answer_to pool) link.host message)
+    by_talk : (talking : Talking) → link.term.display.size ≡ link.host.size → IsAt (view_of link) k.wanted (LinkPhase.Talks talking) → Fact k.wanted (local_state_of (view_of link)) (LinkPhase.Talks talking) → Answered app pool link rest (took (answer_to pool) link.host message)
     by_talk Talking.Accepting same at f =
         let first = front link.lost link.up message rest _ [] e at.goes_up in
         talks app pool link rest k Talking.Accepting Talking.AskingType (Saying.Opt Will 40) (ToTerminal.TalksDown (Saying.Sub SendType) ∷ []) None None message same at at.host_talk refl first.0 refl
@@ -433,8 +433,8 @@ answers given app pool sound link message rest e k = by_moment k.moment k.sizes 
     by_talk (Talking.Rejecting reason) same at f = no_more at.goes_up
     by_talk (Talking.Rejected reason) same at f = no_more at.goes_up
 
-    by_serving : (lu : List ℕ) (serving : Serving) → Sizes app (view_of link) (Moment.Serves lu serving) → IsAt (view_of link) k.wanted (Moment.Serves lu serving) → Fact k.wanted (scene_of (view_of link)) (Moment.Serves lu serving)
-        → ShownAt app link.term.waits link.host link.term.display.before_restored link.term.display.last_restored link.term.display.screen (Moment.Serves lu serving) → Answered app pool link rest (took (answer_to pool) link.host message)
+    by_serving : (lu : List ℕ) (serving : Serving) → Sizes app (view_of link) (LinkPhase.Serves lu serving) → IsAt (view_of link) k.wanted (LinkPhase.Serves lu serving) → Fact k.wanted (local_state_of (view_of link)) (LinkPhase.Serves lu serving)
+        → ShownAt app link.term.waits link.host link.term.display.before_restored link.term.display.last_restored link.term.display.screen (LinkPhase.Serves lu serving) → Answered app pool link rest (took (answer_to pool) link.host message)
     by_serving lu (Serving.Reported number parts) s at f shown =
         let first = front link.lost link.up message rest _ [] e at.goes_up in
         hears_buffer given app pool link rest k (s.same refl) lu number parts message at f first.0 first.1 shown
@@ -442,7 +442,7 @@ answers given app pool sound link message rest e k = by_moment k.moment k.sizes 
         let first = front link.lost link.up message rest _ [] e at.goes_up in
         hears_response given app pool link rest k (s.same refl) lu (Serving.AnsweredLate number command) Serving.Deciding Kind.ANote number command message at first.0 refl f.sees.exact refl refl refl first.1
         (record { lock = f.lock; turn_reason = f.turn_reason; cursor = f.cursor; closed = f.closed; sees = f.sees })
-        (λ _. shown.0, unread_settled link.host.turn_reason (once_taken link.host.shape command link.host.shadow) shown.1)
+        (λ _. shown.0, unread_settled link.host.turn_reason (once_taken link.host.size command link.host.shadow) shown.1)
     by_serving lu (Serving.Answering kind number command) s at f shown =
         let first = front link.lost link.up message rest _ [] e at.goes_up in
         hears_response given app pool link rest k (s.same refl) lu (Serving.Answering kind number command) Serving.Operating kind number command message at first.0 refl f.exact refl refl refl first.1
@@ -456,17 +456,17 @@ answers given app pool sound link message rest e k = by_moment k.moment k.sizes 
         shown
     by_serving lu (Serving.KeyAlone parts) s at f shown =
         let first = front link.lost link.up message rest _ [] e at.goes_up in
-        hears_key given app pool link rest k (s.same refl) lu (Serving.KeyAlone parts) Serving.Deciding parts message (Sees link.host.unheard link.host.shape screen) at f.0 f.1 first.0 refl (IsKeyTime.nothing_waits refl) refl refl refl first.1
+        hears_key given app pool link rest k (s.same refl) lu (Serving.KeyAlone parts) Serving.Deciding parts message (Sees link.host.unheard link.host.size screen) at f.0 f.1 first.0 refl (IsKeyTime.nothing_waits refl) refl refl refl first.1
         (λ shadow sees. record { lock = f.0.lock; turn_reason = (refl, f.0.some); cursor = λ long. ap (λ (c : Option ℕ). unwrap_or c link.host.cursor) (f.0.cursor long); closed = sees.closed; sees = sees })
         (λ shadow sees. (λ _. shown, tt))
     by_serving lu (Serving.KeyNoted number command parts) s at f shown =
         let first = front link.lost link.up message rest _ [] e at.goes_up in
-        hears_key given app pool link rest k (s.same refl) lu (Serving.KeyNoted number command parts) (Serving.NotedLate number command) parts message (Sees link.host.unheard link.host.shape screen) at f.0 f.1 first.0 refl (IsKeyTime.note_waits number command refl) refl refl refl first.1
+        hears_key given app pool link rest k (s.same refl) lu (Serving.KeyNoted number command parts) (Serving.NotedLate number command) parts message (Sees link.host.unheard link.host.size screen) at f.0 f.1 first.0 refl (IsKeyTime.note_waits number command refl) refl refl refl first.1
         (λ shadow sees. (record { lock = f.0.lock; turn_reason = (refl, f.0.some); cursor = λ long. ap (λ (c : Option ℕ). unwrap_or c link.host.cursor) (f.0.cursor long); closed = sees.closed; sees = sees }, record { note = f.2.note; takes = f.2.takes }))
         (λ shadow sees. (shown, tt))
     by_serving lu (Serving.KeyBefore number command parts) s at f shown =
         let first = front link.lost link.up message rest _ _ e at.goes_up in
-        hears_key given app pool link rest k (s.same refl) lu (Serving.KeyBefore number command parts) (Serving.AnsweredLate number command) parts message (λ shadow. Sees link.host.unheard link.host.shape screen (once_taken link.host.shape command shadow)) at f.0 f.1 first.0 refl
+        hears_key given app pool link rest k (s.same refl) lu (Serving.KeyBefore number command parts) (Serving.AnsweredLate number command) parts message (λ shadow. Sees link.host.unheard link.host.size screen (once_taken link.host.size command shadow)) at f.0 f.1 first.0 refl
         (IsKeyTime.note_waits number command refl) refl refl refl first.1
         (λ shadow sees. record { lock = f.0.lock; turn_reason = (refl, f.0.some); cursor = λ long. ap (λ (c : Option ℕ). unwrap_or c link.host.cursor) (f.0.cursor long); closed = sees.closed; sees = sees })
         (λ shadow sees. (shown, tt))
@@ -477,8 +477,8 @@ answers given app pool sound link message rest e k = by_moment k.moment k.sizes 
     by_serving lu Serving.Operating s at f shown = no_more at.goes_up
     by_serving lu (Serving.Noting number command) s at f shown = no_more at.goes_up
 
-    by_moment : (moment : Moment) → Sizes app (view_of link) moment → IsAt (view_of link) k.wanted moment → Fact k.wanted (scene_of (view_of link)) moment
+    by_moment : (moment : LinkPhase) → Sizes app (view_of link) moment → IsAt (view_of link) k.wanted moment → Fact k.wanted (local_state_of (view_of link)) moment
         → ShownAt app link.term.waits link.host link.term.display.before_restored link.term.display.last_restored link.term.display.screen moment → Answered app pool link rest (took (answer_to pool) link.host message)
-    by_moment (Moment.Talks talking) s at f shown = by_talk talking (s.same refl) at f
-    by_moment (Moment.Begins lu number command wants over) s at f shown = no_more at.goes_up
-    by_moment (Moment.Serves lu serving) s at f shown = by_serving lu serving s at f shown
+    by_moment (LinkPhase.Talks talking) s at f shown = by_talk talking (s.same refl) at f
+    by_moment (LinkPhase.Begins lu number command wants over) s at f shown = no_more at.goes_up
+    by_moment (LinkPhase.Serves lu serving) s at f shown = by_serving lu serving s at f shown

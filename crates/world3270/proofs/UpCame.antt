@@ -4,18 +4,18 @@ use Rattle.std.specs.Prelude.{⊤}
 use Rattle.std.proofs.Math.Seq.{drop-nil}
 use Rattle.std.proofs.lemmas.List.{length-set, set-get_or, set-set}
 use Rattle.telnet_wire.specs.Reading.{Rest}
-use Rattle.host_core.specs.Bytes.{Counter}
-use Rattle.host_core.specs.Feeds.{counter_at, with_counter}
-use Rattle.host_core.specs.Session.{Conn}
+use Rattle.host_core.specs.Bytes.{ConnectionAndPool}
+use Rattle.host_core.specs.Feeds.{connection_and_pool_at, with_connection_and_pool}
+use Rattle.host_core.specs.Session.{Session}
 use Rattle.host_core.specs.State.{Host, Service, Connection, most_connections, connection_at, service_at, unused}
-use Rattle.world3270.specs.ByteSteps.{is_lost, sent_of, terminal_told, up_came}
-use Rattle.world3270.specs.ByteWorld.{ByteWorld, Transit, Transits, TerminalSlot, under_way, came, is_live, is_senders, is_there, unused_transits, no_slot, transits_at, slot_at, with_transits, with_host, terminal_at, host_there, host_out, out_of, down_of, up_of}
-use Rattle.world3270.specs.Link.{Link, sent}
-use Rattle.world3270.specs.Places.{EndsAgree}
-use Rattle.world3270.specs.TrackedTerminals.{TrackedTerminal}
-use Rattle.world3270.specs.Standing.{WorldStands, IsFlow, IsAt, IsNotClosed, AreTransits, conn_of, rest_of, with_out, tracked_of, link_with}
-use Rattle.world3270.specs.Stands.{ByteLink, LinkStands}
-use Rattle.world3270.specs.World.{Place, World}
+use Rattle.world3270.specs.model.ByteSteps.{is_lost, sent_of, terminal_told, up_came}
+use Rattle.world3270.specs.model.ByteWorld.{ByteWorld, Transit, Transits, TerminalSlot, under_way, came, is_live, is_senders, is_there, unused_transits, no_slot, transits_at, slot_at, with_transits, with_host, terminal_at, host_there, host_out, out_of, down_of, up_of}
+use Rattle.world3270.specs.model.Link.{Link, sent}
+use Rattle.world3270.specs.model.Places.{EndsAgree}
+use Rattle.world3270.specs.model.TrackedTerminals.{TrackedTerminal}
+use Rattle.world3270.specs.refinement.Representation.{WorldRepresents, IsFlow, IsAt, IsNotClosed, AreTransits, conn_of, rest_of, with_out, tracked_of, link_with}
+use Rattle.world3270.specs.refinement.Represents.{ByteLink, LinkRepresents}
+use Rattle.world3270.specs.model.World.{Place, World}
 use Rattle.world3270.proofs.Frames.{transits_same, transits_other, slot_same, slot_other, connection_same, connection_other, IsHere, Changed, beyond_is_alone, changed_stands, found_within, connection_within, of_parts, sits_same, there_settled, who_was_there, way_within, who_is_there}
 use Rattle.world3270.proofs.UnderWay.{came_flows, came_live, came_senders, came_under_way, more_flows, more_under_way}
 
@@ -108,13 +108,13 @@ told_place false count here world place below is = is
 -- ---- bytes came up
 
 -- the world once so many bytes came up from the terminal that is there, where they are the sender's, and the host has taken them
-abbrev made : ℕ → ℕ → Counter → Bool → Option ℕ → ByteWorld → ByteWorld
+abbrev made : ℕ → ℕ → ConnectionAndPool → Bool → Option ℕ → ByteWorld → ByteWorld
 made count number counter senders here old =
     with_transits number (record (transits_at number old) { up = came count (transits_at number old).up })
-    (terminal_told senders count here (with_host (with_counter number counter old.host) old))
+    (terminal_told senders count here (with_host (with_connection_and_pool number counter old.host) old))
 
-abbrev pub took_up : ℕ → ℕ → Counter → ByteWorld → ByteWorld
-took_up count number counter old = up_came count number (with_host (with_counter number counter old.host) old)
+abbrev pub took_up : ℕ → ℕ → ConnectionAndPool → ByteWorld → ByteWorld
+took_up count number counter old = up_came count number (with_host (with_connection_and_pool number counter old.host) old)
 
 world_same : (one other : ByteWorld) → one.host ≡ other.host → one.links ≡ other.links → one.slots ≡ other.slots → one ≡ other
 world_same one other hosts links slots =
@@ -142,13 +142,13 @@ terminals_none true None slots = refl
 terminals_none false here slots = refl
 
 -- no bytes came
-pub took_none : (number : ℕ) (world : ByteWorld) → took_up 0 number (counter_at number world.host) world ≡ world
+pub took_none : (number : ℕ) (world : ByteWorld) → took_up 0 number (connection_and_pool_at number world.host) world ≡ world
 took_none number world =
     let here : Option ℕ = terminal_at number world.slots in
     let senders : Bool = is_senders (transits_at number world).up in
-    let host : Host = with_counter number (counter_at number world.host) world.host in
+    let host : Host = with_connection_and_pool number (connection_and_pool_at number world.host) world.host in
     let mid : ByteWorld = with_host host world in
-    world_same (took_up 0 number (counter_at number world.host) world) world
+    world_same (took_up 0 number (connection_and_pool_at number world.host) world) world
     (told_host senders 0 here mid ∙ ap (λ ls. record world.host { connections = ls }) (set-get_or world.host.connections number unused))
     (ap (λ (l : List Transits). slice_set l number (record (transits_at number world) { up = came 0 (transits_at number world).up })) (told_links senders 0 here mid)
     ∙ ap (λ (u : Transit). slice_set world.links number (record (transits_at number world) { up = u })) (came_zero (transits_at number world).up)
@@ -169,7 +169,7 @@ terminals_next false count here world below = refl
 
 -- ---- what is there once one byte came
 
-module _ (number : ℕ) (counter : Counter) (old : ByteWorld) (linked : number < length old.links) (lined : number < length old.host.connections) where
+module _ (number : ℕ) (counter : ConnectionAndPool) (old : ByteWorld) (linked : number < length old.links) (lined : number < length old.host.connections) where
   abbrev here : Option ℕ
   here = terminal_at number old.slots
 
@@ -177,7 +177,7 @@ module _ (number : ℕ) (counter : Counter) (old : ByteWorld) (linked : number <
   senders = is_senders (transits_at number old).up
 
   abbrev mid : ByteWorld
-  mid = with_host (with_counter number counter old.host) old
+  mid = with_host (with_connection_and_pool number counter old.host) old
 
   abbrev told : ByteWorld
   told = terminal_told senders 1 here mid
@@ -188,7 +188,7 @@ module _ (number : ℕ) (counter : Counter) (old : ByteWorld) (linked : number <
   abbrev new : ByteWorld
   new = took_up 1 number counter old
 
-  pub host_is : new.host ≡ with_counter number counter old.host
+  pub host_is : new.host ≡ with_connection_and_pool number counter old.host
   host_is = told_host senders 1 here mid
 
   links_are : new.links ≡ slice_set old.links number transits
@@ -200,7 +200,7 @@ module _ (number : ℕ) (counter : Counter) (old : ByteWorld) (linked : number <
   connection_is : connection_at number new.host ≡ counter.connection
   connection_is = ap (connection_at number) host_is ∙ connection_same number counter.connection (record old.host { pool = counter.pool }) lined
 
-  pub counter_is : counter_at number new.host ≡ counter
+  pub counter_is : connection_and_pool_at number new.host ≡ counter
   counter_is =
       ap (λ (h : Host). record { pool = h.pool; connection = connection_at number new.host }) host_is
       ∙ ap (λ (l : Connection). record { pool = counter.pool; connection = l }) connection_is
@@ -217,10 +217,10 @@ module _ (number : ℕ) (counter : Counter) (old : ByteWorld) (linked : number <
       ∙ came_under_way 1 (transits_at number old).up (out_of here old)
 
   -- and then more
-  pub took_next : (count : ℕ) (next : Counter) → terminal_at number new.slots ≡ here → took_up count number next new ≡ took_up (suc count) number next old
+  pub took_next : (count : ℕ) (next : ConnectionAndPool) → terminal_at number new.slots ≡ here → took_up count number next new ≡ took_up (suc count) number next old
   took_next count next there =
-      let again : ByteWorld = with_host (with_counter number next new.host) new in
-      let once : ByteWorld = with_host (with_counter number next old.host) old in
+      let again : ByteWorld = with_host (with_connection_and_pool number next new.host) new in
+      let once : ByteWorld = with_host (with_connection_and_pool number next old.host) old in
       let transits_then : Transits = record transits { up = came count transits.up } in
       let same_senders : is_senders (transits_at number new).up ≡ senders =
       ap (λ (w : Transits). is_senders w.up) transits_are ∙ came_senders 1 (transits_at number old).up in
@@ -228,7 +228,7 @@ module _ (number : ℕ) (counter : Counter) (old : ByteWorld) (linked : number <
       ∙ ap (λ (b : Bool). made count number next b here new) same_senders
       ∙ world_same (made count number next senders here new) (took_up (suc count) number next old)
       (told_host senders count here again
-      ∙ ap (with_counter number next) host_is
+      ∙ ap (with_connection_and_pool number next) host_is
       ∙ ap (λ ls. record old.host { pool = next.pool; connections = ls }) (set-set old.host.connections number counter.connection next.connection)
       ∙ sym (told_host senders (suc count) here once))
       (ap (λ (l : List Transits). slice_set l number (record (transits_at number new) { up = came count (transits_at number new).up })) (told_links senders count here again)
@@ -245,7 +245,7 @@ module _ (number : ℕ) (counter : Counter) (old : ByteWorld) (linked : number <
 -- ---- what it stands for
 
 -- the connection once the first byte came up, the host holds this of it and of its stream, and said more
-abbrev pub heard : ℕ → Rest → Conn → List ℕ → ByteWorld → ByteLink
+abbrev pub heard : ℕ → Rest → Session → List ℕ → ByteWorld → ByteLink
 heard number rest conn more old = record {
   lost = is_lost number old;
   down = sent (is_lost number old) (down_of number old) more;
@@ -258,9 +258,9 @@ heard number rest conn more old = record {
 }
 
 -- The host took a byte, and goes on: this stands on the connection, and all others are as they were.
-pub record Taken (number : ℕ) (counter : Counter) (old : ByteWorld) (was now : World) : Type 0 where
+pub record Taken (number : ℕ) (counter : ConnectionAndPool) (old : ByteWorld) (was now : World) : Type 0 where
   pub rest : Rest
-  pub conn : Conn
+  pub conn : Session
   pub more : List ℕ
   pub link : Link
   pub below : number < most_connections
@@ -274,22 +274,22 @@ pub record Taken (number : ℕ) (counter : Counter) (old : ByteWorld) (was now :
   pub places : now.place ≡ was.place
   pub terminals : now.terminals ≡ was.terminals
   pub world_serves : now.serves ≡ was.serves
-  pub stands : LinkStands (heard number rest conn more old) link
+  pub stands : LinkRepresents (heard number rest conn more old) link
 
 -- the world stands for the one behind, with the same terminal there and the bytes behind the first under way
 pub record Stood (number : ℕ) (old new : ByteWorld) (now : World) : Type 0 where
-  pub stands : WorldStands new now
+  pub stands : WorldRepresents new now
   pub there : terminal_at number new.slots ≡ terminal_at number old.slots
   pub queue : up_of number new ≡ drop 1 (up_of number old)
 
 -- the terminal that is there is at this connection; and a number that no terminal has is at none
-is_here : (number : ℕ) (there : Option ℕ) (old : ByteWorld) (was : World) → EndsAgree was → WorldStands old was → (was.link number).term_here ≡ there
+is_here : (number : ℕ) (there : Option ℕ) (old : ByteWorld) (was : World) → EndsAgree was → WorldRepresents old was → (was.link number).term_here ≡ there
     → IsHere number (was.place (which there old.slots))
 is_here number None old was agree stands e = beyond_is_alone number old was stands
 is_here number (Some terminal) old was agree stands e = subst (λ (p : Place). IsHere number p) (sym ((agree terminal number).1 e)) refl
 
-module _ (number : ℕ) (counter : Counter) (old : ByteWorld) (was now : World) (t : Taken number counter old was now) (agree : EndsAgree was) (agrees : EndsAgree now)
-    (stands : WorldStands old was) where
+module _ (number : ℕ) (counter : ConnectionAndPool) (old : ByteWorld) (was now : World) (t : Taken number counter old was now) (agree : EndsAgree was) (agrees : EndsAgree now)
+    (stands : WorldRepresents old was) where
   linked : number < length old.links
   linked = way_within number old was stands t.below
 
@@ -328,7 +328,7 @@ module _ (number : ℕ) (counter : Counter) (old : ByteWorld) (was now : World) 
 
   tracked_is : tracked_of at after ≡ tracked_of at old
   tracked_is =
-      let mid : ByteWorld = with_host (with_counter number counter old.host) old in
+      let mid : ByteWorld = with_host (with_connection_and_pool number counter old.host) old in
       (sits_same at (terminal_told (is_senders way.up) 1 at mid) after refl).1
       ∙ told_terminal (is_senders way.up) 1 at mid (is_in number at old refl)
       ∙ (sits_same at old mid refl).1
@@ -374,7 +374,7 @@ module _ (number : ℕ) (counter : Counter) (old : ByteWorld) (was now : World) 
 
   changed : Changed number (which at old.slots) old after was now
   changed =
-      let told : ByteWorld = with_host (with_counter number counter old.host) old in
+      let told : ByteWorld = with_host (with_connection_and_pool number counter old.host) old in
       let host = host_is number counter old linked lined in
       record {
         connections = λ other differs. ap (connection_at other) host ∙ connection_other number other counter.connection (record old.host { pool = counter.pool }) differs;
@@ -395,9 +395,9 @@ module _ (number : ℕ) (counter : Counter) (old : ByteWorld) (was now : World) 
         none_closed = subst IsNotClosed (sym service_is) tt;
         settled = there_settled (connection_at number after.host) there_is;
         flow = subst (λ (h : Option ℕ). AreTransits h number after) (sym now_at) flows;
-        link = subst (λ (h : Option ℕ). LinkStands (link_with h number after) (now.link number)) (sym now_at)
-            (subst (λ (b : ByteLink). LinkStands b (now.link number)) (sym link_is)
-            (subst (λ (l : Link). LinkStands (heard number t.rest t.conn t.more old) l) (sym t.is_link) t.stands));
+        link = subst (λ (h : Option ℕ). LinkRepresents (link_with h number after) (now.link number)) (sym now_at)
+            (subst (λ (b : ByteLink). LinkRepresents b (now.link number)) (sym link_is)
+            (subst (λ (l : Link). LinkRepresents (heard number t.rest t.conn t.more old) l) (sym t.is_link) t.stands));
         place = subst (λ (p : ℕ → Place). IsAt (slot_at (which at old.slots) after) (p (which at old.slots))) (sym t.places)
             (told_place (is_senders way.up) 1 at told (was.place (which at old.slots)) (is_in number at old refl) (stands.places (which at old.slots)));
       }

@@ -12,11 +12,11 @@ use Rattle.host_core.specs.Notes.{noted}
 use Rattle.host_core.specs.Questions.{answered_on}
 use Rattle.host_core.specs.Takes.{took as host_took}
 use Rattle.host_core.specs.declared.terminals.Terminals.{Terminals}
-use Rattle.world3270.specs.Given.{Given}
-use Rattle.world3270.specs.Happens.{run}
-use Rattle.world3270.specs.Link.{Link, host_left_if, host_sent}
-use Rattle.world3270.specs.Terminal.{TermEnd, TermStep, is_bound, note_came, once_bound, paint_came, read_came, took}
-use Rattle.world3270.specs.World.{AreEvents, Event, new_world}
+use Rattle.world3270.specs.refinement.LowerLaws.{LowerLaws}
+use Rattle.world3270.specs.model.Steps.{run}
+use Rattle.world3270.specs.model.Link.{Link, host_left_if, host_sent}
+use Rattle.world3270.specs.model.Terminal.{TermEnd, TermStep, is_bound, note_came, once_bound, paint_came, read_came, took}
+use Rattle.world3270.specs.model.World.{AreEvents, Event, new_world}
 use Rattle.world3270.proofs.Everywhere.{Steps, everywhere}
 
 abbrev Waits : Link → Type 0
@@ -58,7 +58,7 @@ steps app = record {
   key_alone = λ terminal key display such is. tt;
 }
 
-pub all_wait : Given → (app : Application) → IsApplication app → (serves : Terminals) (pool : List Entry) (models : List Model) (events : List Event) → IsPool pool → AreEvents events → (number : ℕ)
+pub all_wait : LowerLaws → (app : Application) → IsApplication app → (serves : Terminals) (pool : List Entry) (models : List Model) (events : List Event) → IsPool pool → AreEvents events → (number : ℕ)
     → ((run app events (new_world app serves pool models)).link number).term.waits ≡ true
 all_wait given app is serves pool models events lists are =
     (everywhere given app is (λ event. ⊤) Waits (λ display. ⊤) (steps app) serves pool models events lists are (λ k d below. tt)).links

@@ -22,21 +22,21 @@ use Rattle.host_core.specs.Acts.{Act, Decision, decided, decision_on, done as do
 use Rattle.host_core.specs.Application.{Application, IsShape, IsApplication, message_place}
 use Rattle.host_core.specs.Messages.{ToTerminal, ToHost, Verdict}
 use Rattle.host_core.specs.Notes.{IsNoteText, may_note, noted_as, noted}
-use Rattle.host_core.specs.Session.{Conn, is_agreed}
+use Rattle.host_core.specs.Session.{Session, is_agreed}
 use Rattle.host_core.specs.Takes.{freed_if, HostStep, took as host_took}
 use Rattle.host_core.specs.Questions.{act_by, answered_on, has_its_panel, is_asking}
-use Rattle.host_core.specs.declared.question.Answer.{Answer as Said}
+use Rattle.host_core.specs.declared.question.Answer.{Answer as ApplicationAnswer}
 use Rattle.host_core.specs.declared.terminals.Terminals.{Terminals}
-use Rattle.world3270.specs.Always.{is_negative}
-use Rattle.world3270.specs.Given.{Given}
-use Rattle.world3270.specs.Happens.{closed_if, verdict_in, said, came_up, host_acted, host_noted, left_alone, place_after, came_down, went_down, key_went, host_parted, parted, term_saw, joined, term_anew, host_left_from, host_anew, done, happens, run, RunsCompose, host_answered}
-use Rattle.world3270.specs.Link.{Link, begun, unused, cut, host_left, host_left_if, host_sent, term_left, term_left_if, term_stepped}
-use Rattle.world3270.specs.Moments.{Talking, Moment}
-use Rattle.world3270.specs.Placed.{has_place, free_number, is_link, comes_up, is_queued}
-use Rattle.world3270.specs.Stages.{Kept}
-use Rattle.world3270.specs.Terminal.{Display, TermStep, new_display, after_key, key_came, took as term_took}
-use Rattle.world3270.specs.View.{view_of}
-use Rattle.world3270.specs.World.{Place, World, Event, IsEvent, AreEvents, new_world, with_at, with_link, display_at}
+use Rattle.world3270.specs.statement.Always.{is_negative}
+use Rattle.world3270.specs.refinement.LowerLaws.{LowerLaws}
+use Rattle.world3270.specs.model.Steps.{closed_if, verdict_in, said, came_up, host_acted, host_noted, left_alone, place_after, came_down, went_down, key_went, host_parted, parted, term_saw, joined, term_anew, host_left_from, host_anew, done, stepped_by, run, RunsCompose, host_answered}
+use Rattle.world3270.specs.model.Link.{Link, begun, unused, cut, host_left, host_left_if, host_sent, term_left, term_left_if, term_stepped}
+use Rattle.world3270.specs.refinement.Phases.{Talking, LinkPhase}
+use Rattle.world3270.specs.model.Enabled.{is_enabled, free_number, is_link, comes_up, is_queued}
+use Rattle.world3270.specs.refinement.Invariant.{Kept}
+use Rattle.world3270.specs.model.Terminal.{Display, TermStep, new_display, after_key, key_came, took as term_took}
+use Rattle.world3270.specs.refinement.View.{view_of}
+use Rattle.world3270.specs.model.World.{Place, World, Event, IsEvent, AreEvents, new_world, with_at, with_link, display_at}
 use Rattle.world3270.proofs.Acting.{acts, loses, answers_are_shown}
 use Rattle.world3270.proofs.Noting.{notes}
 use Rattle.world3270.proofs.Down.{term_view}
@@ -81,10 +81,10 @@ replaced app pool link causes verdicts number new g r = record {
 -- ---- the host takes a message
 
 -- nobody else has what is granted
-pub granted_other : Given → (pool : List Entry) (number other : ℕ) (lu have : List ℕ) → holder pool lu ≡ None → holder pool have ≡ Some other → holder (granted_to number lu pool) have ≡ Some other
+pub granted_other : LowerLaws → (pool : List Entry) (number other : ℕ) (lu have : List ℕ) → holder pool lu ≡ None → holder pool have ≡ Some other → holder (granted_to number lu pool) have ≡ Some other
 granted_other given pool number other lu have free held = given.pool.others_stay pool number lu have (λ same. let x = ap (holder pool) same in absurd (cc)) ∙ held
 
-took_with : Given → (app : Application) (world : World) (number : ℕ) (step : HostStep) (new : Link) → GoodWorld app world → (world.link number).host_here ≡ true → Kept app (view_of new) → new.host ≡ step.conn
+took_with : LowerLaws → (app : Application) (world : World) (number : ℕ) (step : HostStep) (new : Link) → GoodWorld app world → (world.link number).host_here ≡ true → Kept app (view_of new) → new.host ≡ step.conn
     → Grants world.pool (world.link number).host step → Good app (granted_if number step.grants world.pool) (with_at number new world.link) world.causes world.verdicts
 took_with given app world number step new g here kept host (Grants.none ungranted same) =
     subst (λ grants. Good app (granted_if number grants world.pool) (with_at number new world.link) world.causes world.verdicts) (sym ungranted)
@@ -108,7 +108,7 @@ took_with given app world number step new g here kept host (Grants.one name lu g
     others : (other : ℕ) → Holds (granted_to number lu world.pool) other (world.link other)
     others other have h claims = granted_other given world.pool number other lu have (given.pool.free world.pool name lu g.sound answer) (g.holds other have h claims)
 
-came_up_good : Given → (app : Application) (world : World) (number : ℕ) (up : List ToHost) → (world.link number).up ≡ up → (world.link number).host_here ≡ true → GoodWorld app world → GoodWorld app (came_up number up world)
+came_up_good : LowerLaws → (app : Application) (world : World) (number : ℕ) (up : List ToHost) → (world.link number).up ≡ up → (world.link number).host_here ≡ true → GoodWorld app world → GoodWorld app (came_up number up world)
 came_up_good given app world number [] e here g = g
 came_up_good given app world number (message ∷ rest) e here g =
     let link : Link = world.link number in
@@ -119,7 +119,7 @@ came_up_good given app world number (message ∷ rest) e here g =
 
 -- ---- the host acts, and sends notes
 
-act_claims : (app : Application) (conn : Conn) (act : Act) → claim (done_act app conn act).conn ≡ claim conn
+act_claims : (app : Application) (conn : Session) (act : Act) → claim (done_act app conn act).conn ≡ claim conn
 act_claims app conn Act.Read = refl
 act_claims app conn (Act.Show panel message keep values) = refl
 
@@ -145,12 +145,12 @@ sent_good : (app : Application) (world : World) (number : ℕ) (new : Link) → 
 sent_good app world number new kept same g =
     replaced app world.pool world.link world.causes world.verdicts number new g (record { kept = kept; here = λ e. sym same.here ∙ e; claims = same.claims })
 
-host_acted_good : Given → (app : Application) → IsApplication app → (world : World) (number : ℕ) → GoodWorld app world → GoodWorld app (host_acted app number world)
+host_acted_good : LowerLaws → (app : Application) → IsApplication app → (world : World) (number : ℕ) → GoodWorld app world → GoodWorld app (host_acted app number world)
 host_acted_good given app is world number g =
     let link : Link = world.link number in
     sent_good app world number (host_sent (acted app link.host) link) (acts given app is link (g.links number)) (decided_same app link (decision_on app link.host link.host.turn_reason) (may_act link.host.turn link.host.pending (is_agreed link.host.talk.state))) g
 
-host_answered_good : Given → (app : Application) → IsApplication app → (world : World) (number : ℕ) (said : Said) → GoodWorld app world → GoodWorld app (host_answered app number said world)
+host_answered_good : LowerLaws → (app : Application) → IsApplication app → (world : World) (number : ℕ) (said : ApplicationAnswer) → GoodWorld app world → GoodWorld app (host_answered app number said world)
 host_answered_good given app is world number said g =
     let link : Link = world.link number in
     sent_good app world number (host_sent (answered_on app link.host said) link) (answers_are_shown given app is link (g.links number) said)
@@ -168,7 +168,7 @@ none_negative [] more h k = k
 none_negative (Verdict.Positive ∷ said) more h k = none_negative said more h k
 none_negative (Verdict.Negative ∷ said) more h k = absurd (cc)
 
-came_down_good : Given → (app : Application) → IsApplication app → (world : World) (number terminal : ℕ) (down : List ToTerminal) → (world.link number).down ≡ down → GoodWorld app world → GoodWorld app (came_down number terminal down world)
+came_down_good : LowerLaws → (app : Application) → IsApplication app → (world : World) (number terminal : ℕ) (down : List ToTerminal) → (world.link number).down ≡ down → GoodWorld app world → GoodWorld app (came_down number terminal down world)
 came_down_good given app is world number terminal [] e g = g
 came_down_good given app is world number terminal (message ∷ rest) e g =
     let link : Link = world.link number in
@@ -179,7 +179,7 @@ came_down_good given app is world number terminal (message ∷ rest) e g =
     subst (λ c. GoodWorld app (closed_if c (said step.sends (record world { link = with_at number (term_left_if c (term_view step rest link)) world.link; place = with_at terminal (place_after c number step.end.display) world.place })))) (sym o.open_end)
     (record { links = good.links; sound = good.sound; holds = good.holds; uncaused = good.uncaused; positive = none_negative world.verdicts (filter_map verdict_in step.sends) g.positive o.positive })
 
-went_down_good : Given → (app : Application) → IsApplication app → (world : World) (number : ℕ) (here : Option ℕ) → GoodWorld app world → GoodWorld app (went_down number here world)
+went_down_good : LowerLaws → (app : Application) → IsApplication app → (world : World) (number : ℕ) (here : Option ℕ) → GoodWorld app world → GoodWorld app (went_down number here world)
 went_down_good given app is world number None g = g
 went_down_good given app is world number (Some terminal) g = came_down_good given app is world number terminal (world.link number).down refl g
 
@@ -187,7 +187,7 @@ went_down_good given app is world number (Some terminal) g = came_down_good give
 same_links : (app : Application) (world : World) (place : ℕ → Place) → GoodWorld app world → GoodWorld app (record world { place = place })
 same_links app world place g = record { links = g.links; sound = g.sound; holds = g.holds; uncaused = g.uncaused; positive = g.positive }
 
-key_went_good : Given → (app : Application) (world : World) (terminal : ℕ) (key : Key) (place : Place) → GoodWorld app world → GoodWorld app (key_went terminal key place world)
+key_went_good : LowerLaws → (app : Application) (world : World) (terminal : ℕ) (key : Key) (place : Place) → GoodWorld app world → GoodWorld app (key_went terminal key place world)
 key_went_good given app world terminal key (Place.At number) g =
     let link : Link = world.link number in
     replaced app world.pool world.link world.causes world.verdicts number (term_stepped (key_came key link.term) link.down link) g
@@ -202,7 +202,7 @@ cut_good app world number g =
     (record { kept = loses app (view_of (world.link number)) (g.links number); here = λ e. e; claims = refl })
 
 -- the host leaves a connection
-host_left_good : Given → (app : Application) (world : World) (number : ℕ) → GoodWorld app world → GoodWorld app (host_parted number world)
+host_left_good : LowerLaws → (app : Application) (world : World) (number : ℕ) → GoodWorld app world → GoodWorld app (host_parted number world)
 host_left_good given app world number g = record {
   links = all_with (λ n x. Kept app (view_of x)) number (host_left (world.link number)) world.link (loses app (view_of (world.link number)) (g.links number)) g.links;
   sound = given.pool.sound_back world.pool number g.sound;
@@ -229,7 +229,7 @@ term_saw_good app world terminal (Place.Alone display) g = g
 pub some_cells : (shape : Shape) → IsShape shape → 0 < cells_in shape
 some_cells shape is = let columns = is.columns in let row = is.row in omega (arith, columns, row)
 
-unused_kept : Given → (app : Application) → IsApplication app → (serves : Terminals) → Kept app (view_of (unused app serves))
+unused_kept : LowerLaws → (app : Application) → IsApplication app → (serves : Terminals) → Kept app (view_of (unused app serves))
 unused_kept given app is serves = record {
   whole = length-replicate (cells_in app.begins) (Char 0);
   cursor = some_cells app.begins is.begins;
@@ -237,7 +237,7 @@ unused_kept given app is serves = record {
   as_left = λ _. all_as_left (message_place app.begins) (replicate (cells_in app.begins) (Char 0));
   exact = record { known = given.belief.nothing_exact.0; protected = given.belief.nothing_exact.1 };
   wanted = None;
-  moment = Moment.Talks Talking.Offering;
+  moment = LinkPhase.Talks Talking.Offering;
   sizes = record { host = inl refl; screen = inl refl; same = λ steady. refl };
   at = record {
     host_talk = refl;
@@ -251,7 +251,7 @@ unused_kept given app is serves = record {
   shown = tt;
 }
 
-begun_kept : Given → (app : Application) → IsApplication app → (serves : Terminals) (model : Model) (terminal : ℕ) (wanted : Option (List ℕ)) → IsLuIfSome wanted → Kept app (view_of (begun app serves model terminal wanted))
+begun_kept : LowerLaws → (app : Application) → IsApplication app → (serves : Terminals) (model : Model) (terminal : ℕ) (wanted : Option (List ℕ)) → IsLuIfSome wanted → Kept app (view_of (begun app serves model terminal wanted))
 begun_kept given app is serves model terminal wanted lu = record {
   whole = length-replicate (cells_in app.begins) (Char 0);
   cursor = some_cells app.begins is.begins;
@@ -259,7 +259,7 @@ begun_kept given app is serves model terminal wanted lu = record {
   as_left = λ _. all_as_left (message_place app.begins) (replicate (cells_in app.begins) (Char 0));
   exact = record { known = given.belief.nothing_exact.0; protected = given.belief.nothing_exact.1 };
   wanted = wanted;
-  moment = Moment.Talks Talking.Offering;
+  moment = LinkPhase.Talks Talking.Offering;
   sizes = record { host = inl refl; screen = inl refl; same = λ steady. refl };
   at = record {
     host_talk = refl;
@@ -273,7 +273,7 @@ begun_kept given app is serves model terminal wanted lu = record {
   shown = tt;
 }
 
-joined_good : Given → (app : Application) → IsApplication app → (world : World) (terminal : ℕ) (model : Model) (wanted : Option (List ℕ)) → IsLuIfSome wanted → (number : Option ℕ) → GoodWorld app world → GoodWorld app (joined app terminal model wanted number world)
+joined_good : LowerLaws → (app : Application) → IsApplication app → (world : World) (terminal : ℕ) (model : Model) (wanted : Option (List ℕ)) → IsLuIfSome wanted → (number : Option ℕ) → GoodWorld app world → GoodWorld app (joined app terminal model wanted number world)
 joined_good given app is world terminal model wanted lu None g = g
 joined_good given app is world terminal model wanted lu (Some number) g = record {
   links = all_with (λ n x. Kept app (view_of x)) number (begun app world.serves model terminal wanted) world.link (begun_kept given app is world.serves model terminal wanted lu) g.links;
@@ -296,7 +296,7 @@ left_from app link k = by_here link.host_here refl
     by_here true e = (loses app (view_of link) k, refl)
     by_here false e = (k, e)
 
-host_anew_good : Given → (app : Application) (world : World) → GoodWorld app world → GoodWorld app (host_anew world)
+host_anew_good : LowerLaws → (app : Application) (world : World) → GoodWorld app world → GoodWorld app (host_anew world)
 host_anew_good given app world g = record {
   links = λ number. (left_from app (world.link number) (g.links number)).0;
   sound = given.pool.sound_free world.pool g.sound;
@@ -311,7 +311,7 @@ host_anew_good given app world g = record {
 up_held : (link : Link) (number : ℕ) → (is_link number && comes_up link) ≡ true → link.host_here ≡ true
 up_held link number e = (and_parts link.host_here (is_queued link.up) (and_parts (is_link number) (comes_up link) e).1).0
 
-pub done_good : Given → (app : Application) → IsApplication app → (event : Event) (world : World) → IsEvent event → has_place app event world ≡ true → GoodWorld app world → GoodWorld app (done app event world)
+pub done_good : LowerLaws → (app : Application) → IsApplication app → (event : Event) (world : World) → IsEvent event → is_enabled app event world ≡ true → GoodWorld app world → GoodWorld app (done app event world)
 done_good given app is (Event.Press terminal key) world e p g = key_went_good given app world terminal key (world.place terminal) g
 done_good given app is (Event.Up number) world e p g = came_up_good given app world number (world.link number).up refl (up_held (world.link number) number p) g
 done_good given app is (Event.Down number) world e p g = went_down_good given app is world number (world.link number).term_here g
@@ -325,23 +325,23 @@ done_good given app is (Event.Connect terminal wanted) world e p g = joined_good
 done_good given app is (Event.RestartTerm terminal) world e p g = term_anew_good app world terminal (world.place terminal) g
 done_good given app is Event.RestartHost world e p g = host_anew_good given app world g
 
-pub happens_good : Given → (app : Application) → IsApplication app → (event : Event) (world : World) → IsEvent event → GoodWorld app world → GoodWorld app (happens app event world)
-happens_good given app is event world e g = by_place (has_place app event world) refl
+pub happens_good : LowerLaws → (app : Application) → IsApplication app → (event : Event) (world : World) → IsEvent event → GoodWorld app world → GoodWorld app (stepped_by app event world)
+happens_good given app is event world e g = by_place (is_enabled app event world) refl
   where
-    by_place : (b : Bool) → has_place app event world ≡ b → GoodWorld app (if b then done app event world else world)
+    by_place : (b : Bool) → is_enabled app event world ≡ b → GoodWorld app (if b then done app event world else world)
     by_place true p = done_good given app is event world e p g
     by_place false p = g
 
-pub run_good : Given → (app : Application) → IsApplication app → (events : List Event) (world : World) → AreEvents events → GoodWorld app world → GoodWorld app (run app events world)
+pub run_good : LowerLaws → (app : Application) → IsApplication app → (events : List Event) (world : World) → AreEvents events → GoodWorld app world → GoodWorld app (run app events world)
 run_good given app is [] world e g = g
-run_good given app is (event ∷ events) world e g = run_good given app is events (happens app event world) e.1 (happens_good given app is event world e.0 g)
+run_good given app is (event ∷ events) world e g = run_good given app is events (stepped_by app event world) e.1 (happens_good given app is event world e.0 g)
 
 -- ---- runs in parts
 pub run-append : RunsCompose
 run-append app [] more world = refl
-run-append app (event ∷ events) more world = run-append app events more (happens app event world)
+run-append app (event ∷ events) more world = run-append app events more (stepped_by app event world)
 
-pub new_good : Given → (app : Application) → IsApplication app → (serves : Terminals) (pool : List Entry) (models : List Model) → IsPool pool → GoodWorld app (new_world app serves pool models)
+pub new_good : LowerLaws → (app : Application) → IsApplication app → (serves : Terminals) (pool : List Entry) (models : List Model) → IsPool pool → GoodWorld app (new_world app serves pool models)
 new_good given app is serves pool models lists = record {
   links = λ number. unused_kept given app is serves;
   sound = given.pool.sound_free pool (given.pool.sound pool lists);

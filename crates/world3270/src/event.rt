@@ -1,6 +1,6 @@
-//! What may happen to the world, and the answers to it.
+//! The events that may happen to a world, and the answers to them.
 ghost use Rattle.tn3270e_msg.specs.Talk.{IsLuIfSome};
-ghost use Rattle.world3270.specs.Refines.{AreReal, IsReal};
+ghost use Rattle.world3270.specs.refinement.Refines.{AreReal, IsReal};
 
 use crate::note_text::NoteText;
 use host_core::{Answer, Ticket};
@@ -8,47 +8,47 @@ use keyboard::laws::keys_are_real;
 use keyboard::{Key, Refusal};
 use tn3270e_msg::Lu;
 
-/// An event, at a terminal or on a connection, by its number.
+/// An event at a terminal (by its number, from 0) or on a connection (`0..64`).
 #[derive(Drop)]
 pub enum Event {
-    /// A key at a terminal.
+    /// The operator of a terminal presses a key.
     Key(usize, Key),
-    /// A number of the bytes under way to the host are delivered, or all if there are fewer.
+    /// On a connection, this number of the bytes under way to the host are delivered, or all if there are fewer.
     Up(usize, usize),
-    /// A number of the bytes under way to the terminal are delivered, or all if there are fewer.
+    /// On a connection, this number of the bytes under way to the terminal are delivered, or all if there are fewer.
     Down(usize, usize),
-    /// The host acts, if it has the turn.
+    /// The host acts on a connection, as by [`Host::act`](host_core::Host::act).
     Act(usize),
-    /// The application answers the question with this ticket.
+    /// The application answers the question that is open on a connection, if it has this ticket.
     Answer(usize, Ticket, Answer),
-    /// The host sends a note.
+    /// The host sends a note on a connection, into the last row of the screen.
     Note(usize, NoteText),
-    /// The host sends NOP, so that TCP notices a peer that is gone.
+    /// The host sends NOP (RFC 854) on a connection, so that TCP notices a peer that is gone.
     KeepAlive(usize),
-    /// The connection is lost.
+    /// The connection is lost: what is under way may still be delivered, and nothing is added to it.
     Lose(usize),
-    /// The host sees that the connection is lost.
+    /// The host sees that a connection is lost, and leaves it: its LU is free again.
     HostSees(usize),
-    /// The terminal sees that its connection is lost.
+    /// A terminal sees that its connection is lost, and leaves it.
     TermSees(usize),
-    /// A terminal connects, and wants an LU, if one.
+    /// A terminal connects, by the least number that is free, and requests this LU, or any LU if None.
     Connect(usize, Option<Lu>),
-    /// A terminal restarts.
+    /// A terminal restarts, with a blank screen; its connection, if it has one, is lost.
     RestartTerm(usize),
-    /// The host restarts.
+    /// The host restarts; all its connections are lost.
     RestartHost,
 }
 
-/// What an event came to.
+/// The outcome of an event.
 #[derive(Clone, Copy, Debug, PartialEq, Eq)]
 pub enum Stepped {
     /// It happened.
     Done,
-    /// The keyboard refused the key.
+    /// The keyboard refused the key, for this reason.
     Refused(Refusal),
-    /// It can't happen in this world; nothing has changed.
+    /// It can't happen in this world (as a delivery when no bytes are under way); nothing has changed.
     Skipped,
-    /// Memory was refused after this number of bytes, at least one; the rest is still under way.
+    /// Memory was refused after this number of bytes, at least one, was delivered; the rest is still under way.
     Part(usize),
     /// Memory was refused; nothing has changed.
     Memory,
@@ -57,14 +57,14 @@ pub enum Stepped {
 /// How far a list of events went.
 #[derive(Clone, Copy, Debug, PartialEq, Eq)]
 pub struct Ran {
-    /// How many events happened whole.
+    /// How many events happened in full or were skipped, counted from the first.
     pub whole: usize,
-    /// If the next event is a delivery that was refused memory, how many bytes were taken before
-    /// that; else 0.
+    /// How many bytes of the next event were delivered, if it is a delivery for which memory was refused; else 0.
     pub part: usize,
 }
 
-/// Law: the key of an event is a key of the keyboard, its name an LU's, and its text a note's.
+/// Law: the key of an event is a key of the keyboard, the LU's name is a name, the values of an answer are characters,
+/// and the text of a note is a note's text.
 pub(crate) fn events_are_real(event: &Event)
     ensures { IsReal event.now }
 {
@@ -75,7 +75,7 @@ pub(crate) fn events_are_real(event: &Event)
         Event::Act(_) => {}
         Event::Answer(_, _, answer) => answer.values.values_are_characters(),
         Event::Note(_, text) => {
-            // For the contract: it is a note's text.
+            // For the contract: by `text`, it is a note's text.
             let _text = text.text();
         }
         Event::KeepAlive(_) => {}
@@ -88,7 +88,7 @@ pub(crate) fn events_are_real(event: &Event)
     }
 }
 
-/// Law: so it is of each of these events.
+/// Law: `events_are_real` for each of these events.
 pub(crate) fn all_events_are_real(events: &[Event])
     ensures { AreReal events.now }
 {
@@ -102,7 +102,7 @@ fn names_are_lus(wanted: &Option<Lu>)
     ensures { IsLuIfSome wanted.now }
 {
     if let Some(lu) = wanted {
-        // For the contract: it is the name of an LU.
+        // For the contract: by `as_bytes`, it is the name of an LU.
         let _name = lu.as_bytes();
     }
 }

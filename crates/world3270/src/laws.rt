@@ -1,35 +1,35 @@
-//! Laws of the worlds over messages and over bytes: each is the contract of a function that does nothing. Proofs of
-//! other crates use them; no program calls them, and the root doesn't export them.
-ghost use Rattle.world3270.specs.Always.{Always, AlwaysOf, HeadlineHolds, NobodyRefuses};
-ghost use Rattle.world3270.specs.Asked.{AskedIsSeen, AskedIsSeenOverBytes, FieldsAreSeen, ScreensAreAsLeft};
-ghost use Rattle.world3270.specs.EveryTerminal.{EveryTerminal};
-ghost use Rattle.world3270.specs.EveryTerminalBytes.{EveryTerminalOverBytes};
-ghost use Rattle.world3270.specs.Example.{TheRunsEndSo};
-ghost use Rattle.world3270.specs.Forms.{FormsAreAwaited};
-ghost use Rattle.world3270.specs.Given.{Given};
-ghost use Rattle.world3270.specs.Happens.{RunsCompose};
-ghost use Rattle.world3270.specs.History.{HostsHistoryIsKept, TerminalsHistoryIsKept};
-ghost use Rattle.world3270.specs.Known.{Known};
-ghost use Rattle.world3270.specs.Losses.{LostTakesNothing};
-ghost use Rattle.world3270.specs.Numbers.{NumbersFit};
-ghost use Rattle.world3270.specs.TurnReasons.{ActsOnTheKey, KnowsTheCleared, LeavesNothingOpen};
-ghost use Rattle.world3270.specs.OneOutcome.{EventsAreOne, RunsAreOne, StepsAreOne};
-ghost use Rattle.world3270.specs.RuleLaws.{TerminalsKeepTheRules};
-ghost use Rattle.world3270.specs.Places.{EndsAgree, UpIsHeld, HoldersAreHere, LinksStay, HoldersStay, PoolIsSound};
-ghost use Rattle.world3270.specs.Refines.{BeginIsReached, HeadlineIsSeen, RunsGoOn, SkipsAreThose, StepsGoOn};
-ghost use Rattle.world3270.specs.TrackedTerminals.{HistoryFollows};
-ghost use Rattle.world3270.specs.Sendable.{AlwaysTyped, DataCanBeSpelt, PaintsAreScreens, PaintsAreSpelt, ScreensAreSendable, ScreensHaveASize, ValuesAreTexts};
-ghost use Rattle.world3270.specs.Shown.{FieldsAreShown, PanelIsShown, PanelIsShownOverBytes};
-ghost use Rattle.world3270.specs.ShownFields.{OtherTextsAreNot};
-ghost use Rattle.world3270.specs.ScreensFound.{DecisionsAreShownOverBytes, OtherTextsAreNotShown, PaintsFindTheScreen, TurnsKeepTheScreen, TurnsKeepTheScreenOverBytes};
-ghost use Rattle.world3270.specs.ShownSince.{AnswersAreShownOverBytes, StepsKeepPanels, WaitingKeepsTheScreen};
-ghost use Rattle.world3270.specs.Sizes.{AllSizesAgree};
-ghost use Rattle.world3270.specs.Skipped.{SkippedChangesNothing};
-ghost use Rattle.world3270.specs.Stands.{StandsDown, StandsUp, all_items, without_nops};
-ghost use Rattle.world3270.specs.StandsEnds.{NopHasNoEffect, PaintStands, TakesKeepSendable, TermPresses, TermTakes, WritesAreMarked};
-ghost use Rattle.world3270.specs.ProtocolErrors.{EventsMakeNoProtocolErrors, RefusalsAreNegative, WorldsHaveNoProtocolError};
-ghost use Rattle.world3270.specs.Unbroken.{DeliveriesCloseNothing, NobodyCloses, NobodyHasRefused, NothingIsRefused, TerminalsRefuseNothing, UnderWayRefusesNothing};
-ghost use Rattle.world3270.specs.StandsLinks.{BeginStands, BytesAreMarked, DownIsNotRefused, DownStands, HostLeaves, HostSends, LossStands, NopStands, NothingStands, PressStands, StandsCompose, StandsGoOn, TermLeaves, UpStands, WhatComesMayCome};
+//! Laws of worlds over messages and over bytes. Each is the contract of a function that does nothing. Proofs use them,
+//! also those of other crates; no program calls them, and the root doesn't export them.
+ghost use Rattle.world3270.specs.statement.Always.{Always, AlwaysOf, HeadlineHolds, NobodyRefuses};
+ghost use Rattle.world3270.specs.statement.Asked.{AskedIsSeen, AskedIsSeenOverBytes, FieldsAreSeen, ScreensAreAsLeft};
+ghost use Rattle.world3270.specs.statement.EveryTerminal.{EveryTerminal};
+ghost use Rattle.world3270.specs.statement.EveryTerminalBytes.{EveryTerminalOverBytes};
+ghost use Rattle.world3270.specs.examples.Example.{TheRunsEndSo};
+ghost use Rattle.world3270.specs.statement.Forms.{FormsAreAwaited};
+ghost use Rattle.world3270.specs.refinement.LowerLaws.{LowerLaws};
+ghost use Rattle.world3270.specs.model.Steps.{RunsCompose};
+ghost use Rattle.world3270.specs.statement.History.{HostsHistoryIsKept, TerminalsHistoryIsKept};
+ghost use Rattle.world3270.specs.refinement.MessageLaws.{MessageLaws};
+ghost use Rattle.world3270.specs.statement.Losses.{LostTakesNothing};
+ghost use Rattle.world3270.specs.statement.Numbers.{NumbersFit};
+ghost use Rattle.world3270.specs.statement.TurnReasons.{ActsOnTheKey, KnowsTheCleared, LeavesNothingOpen};
+ghost use Rattle.world3270.specs.statement.OneOutcome.{EventsAreOne, RunsAreOne, StepsAreOne};
+ghost use Rattle.world3270.specs.statement.RuleLaws.{TerminalsKeepTheRules};
+ghost use Rattle.world3270.specs.model.Places.{EndsAgree, UpIsHeld, HoldersAreHere, LinksStay, HoldersStay, PoolIsSound};
+ghost use Rattle.world3270.specs.refinement.Refines.{BeginIsReached, HeadlineIsSeen, RunsGoOn, SkipsAreThose, StepsGoOn};
+ghost use Rattle.world3270.specs.model.TrackedTerminals.{HistoryFollows};
+ghost use Rattle.world3270.specs.refinement.Sendable.{AlwaysTyped, DataCanBeSpelt, PaintsAreScreens, PaintsAreSpelt, ScreensAreSendable, ScreensHaveASize, ValuesAreTexts};
+ghost use Rattle.world3270.specs.statement.Shown.{FieldsAreShown, PanelIsShown, PanelIsShownOverBytes};
+ghost use Rattle.world3270.specs.statement.ShownFields.{OtherTextsAreNot};
+ghost use Rattle.world3270.specs.statement.ScreensFound.{DecisionsAreShownOverBytes, OtherTextsAreNotShown, PaintsFindTheScreen, TurnsKeepTheScreen, TurnsKeepTheScreenOverBytes};
+ghost use Rattle.world3270.specs.statement.ShownSince.{AnswersAreShownOverBytes, StepsKeepPanels, WaitingKeepsTheScreen};
+ghost use Rattle.world3270.specs.refinement.Sizes.{AllSizesAgree};
+ghost use Rattle.world3270.specs.statement.Skipped.{SkippedChangesNothing};
+ghost use Rattle.world3270.specs.refinement.Represents.{RepresentsDown, RepresentsUp, all_items, without_nops};
+ghost use Rattle.world3270.specs.refinement.RepresentsEnds.{NopHasNoEffect, PaintRepresents, TakesKeepSendable, TermPresses, TermTakes, WritesAreMarked};
+ghost use Rattle.world3270.specs.statement.ProtocolErrors.{EventsMakeNoProtocolErrors, RefusalsAreNegative, WorldsHaveNoProtocolError};
+ghost use Rattle.world3270.specs.statement.Unbroken.{DeliveriesCloseNothing, NobodyCloses, NobodyHasRefused, NothingIsRefused, TerminalsRefuseNothing, UnderWayRefusesNothing};
+ghost use Rattle.world3270.specs.refinement.RepresentsLinks.{BeginRepresents, BytesAreMarked, DownIsNotRefused, DownRepresents, HostLeaves, HostSends, LossRepresents, NopRepresents, NothingRepresents, PressRepresents, RepresentsCompose, RepresentsGoOn, TermLeaves, UpRepresents, WhatComesMayCome};
 
 use datastream::laws::{fields_both_ways, kept_since_the_write, sent_is_read, what_a_note_keeps};
 use host_core::laws::{notes_are_written, panels_are_shown, what_is_shown_fits};
@@ -45,9 +45,9 @@ use shadow::laws::{
 };
 use tn3270e_msg::laws::one_reading;
 
-/// Law: what the crates below promise, by their own laws.
+/// Law: what the crates below promise by their own laws.
 fn what_is_given()
-    ensures { Given }
+    ensures { LowerLaws }
 {
     what_is_sent_is_heard();
     what_is_read_is_heard();
@@ -70,13 +70,12 @@ fn what_is_given()
     notes_are_written();
 }
 
-/// Law: the headline. After any list of events on a new world, with any application, whether or not
-/// the host relies on the terminals' wait, any pool of LUs and up to 16 terminals of any models: no two live sessions have one LU, and where a terminal
-/// is bound to one the host's end agreed on that, and its connection holds it in the pool; and
-/// whenever the host holds the turn with its last command answered, the screen is as it believes,
-/// and after Enter or a PF key it has the text of each field that was returned, and each
-/// unprotected field with MDT off has what the host left there, or nulls since Erase Input. And a
-/// run in pieces is one run.
+/// Law: the headline. It holds after any list of events on a new world, with any application and pool of LUs, up to 16
+/// terminals of any models, and a host that may or may not rely on their wait. No two live sessions have the same LU.
+/// If a terminal is bound to an LU, the host agreed on it, and its connection holds it in the pool. Whenever the host
+/// has the turn and its last command is answered, its belief is true of the screen; and after Enter or a PF key it has
+/// the text of each field that was returned, and each unmodified input field has the text that the host left there, or
+/// nulls if Erase Input was pressed. Also, a run in pieces is one run.
 pub fn the_headline_holds()
     ensures headline { Always HeadlineHolds }
     ensures pieces { RunsCompose }
@@ -84,18 +83,18 @@ pub fn the_headline_holds()
     what_is_given();
 }
 
-/// Law: over the same lists no terminal has ever refused a command, no refusal is the reason of the
-/// host's turn, and neither end has ever closed a connection by a cause.
+/// Law: after any list of events no terminal has ever rejected a command, no negative response is the
+/// reason of the host's turn, and neither end has ever closed a connection for a cause.
 pub fn nobody_refuses()
     ensures { Always NobodyRefuses }
 {
     what_is_given();
 }
 
-/// Law: over the same lists the host, when it decides, acts on the key that was pressed last; that
-/// after Clear it believes in a screen without fields, of nulls but for the notes that came since;
-/// and that after Enter or a PF key, if it relies on the terminals' wait, it believes a text, or a
-/// text or nulls, of each unprotected field.
+/// Law: after any list of events, when the host decides, it acts on the key that was pressed last. After
+/// Clear it believes that the screen is unformatted and all nulls, but for notes written since. After
+/// Enter or a PF key, if it relies on the terminals' wait, it knows the text of each unprotected field,
+/// or that the field has either that text or all nulls.
 pub fn what_was_pressed_is_acted_on()
     ensures key { Always ActsOnTheKey }
     ensures cleared { Always KnowsTheCleared }
@@ -104,15 +103,13 @@ pub fn what_was_pressed_is_acted_on()
     what_is_given();
 }
 
-/// Law: what the application is asked is what the operator sees. Over the same lists of messages, on
-/// each connection with both ends attached, an open question has the key whose AID the terminal's
-/// screen has, the LU that the terminal is bound to, the screen's cursor, and no text of a field but
-/// the one that the screen shows in that field, nulls removed. It has a text for each field of the
-/// panel, and each of these is on the screen, at its place and with its length, if each screen that
-/// the application asks for has its panel's fields. And so it is of each world over bytes that
-/// represents one over messages: the screens of panels have their fields. Unless Clear was pressed
-/// last, what is protected on the screen of an attached terminal is as the host's last restoring
-/// write left it, but for the row of messages.
+/// Law: the application is asked what the operator sees. After any list of events, on each connection with both ends
+/// attached, an open question has the key whose AID the terminal's screen has, the LU that the terminal is bound to,
+/// the cursor address, and for no field another text than the screen shows, nulls removed. If each screen that the
+/// application asks for has its panel's fields, the question has a text for each field of the panel, and the field is
+/// on the screen, at its address and with its length. All this holds of each world over bytes that represents one over
+/// messages, since the screens of panels have their fields. Unless Clear was pressed last, the protected part of an
+/// attached terminal's screen is as the host's last restoring write left it, but for the row of messages.
 pub fn what_is_asked_is_seen()
     ensures messages { AlwaysOf AskedIsSeen }
     ensures fields { AlwaysOf FieldsAreSeen }
@@ -124,15 +121,14 @@ pub fn what_is_asked_is_seen()
     fields_are_on_the_screen();
 }
 
-/// Law: what is answered is shown. Over the same lists of messages, on each connection with both ends
-/// attached, if a panel was shown there and its paint is answered: the screen that the host's last
-/// restoring write left is a wanted screen of the connection's panel, with the connection's values and
-/// message, painted on a screen that a belief allows; `Showing` says what is wanted. It shows each
-/// field of the panel, at its place and with its length: with the panel's attribute and with the value
-/// or the fill that the host has for it, or as it was before, if the panel is shown again
-/// (`ShownFields`), if each screen that the application asks for has its panel's fields. And so it is
-/// of each world over bytes that represents one over messages: the screens of panels have their
-/// fields. A screen with another text in a field doesn't show them.
+/// Law: a panel whose paint is answered is on the screen. After any list of events, on each connection with both ends
+/// attached, if a panel was shown there and its paint is answered: the screen that the host's last restoring write left
+/// is a wanted screen of the connection's panel, with the connection's values and message (`Showing`), painted on a
+/// screen that meets the host's belief. If each screen that the application asks for has its panel's fields, it shows
+/// each field of the panel, at its address and with its length: with the panel's attribute and the host's value or
+/// fill, or as it was before, if the panel is shown again (`ShownFields`). All this holds of each world over bytes that
+/// represents one over messages, since the screens of panels have their fields. A screen with another text in a field
+/// doesn't show the panel.
 pub fn what_is_answered_is_shown()
     ensures messages { AlwaysOf PanelIsShown }
     ensures fields { AlwaysOf FieldsAreShown }
@@ -147,18 +143,18 @@ pub fn what_is_answered_is_shown()
     fields_are_on_the_screen();
 }
 
-/// Law: over the same lists the data that comes up to the host next has the form that it awaits:
-/// the whole screen while a read is pending, else modified fields; and it is of a screen of the size
-/// by which the host reads it. (The bytes of inbound data say neither.)
+/// Law: after any list of events the next inbound data has the form that the host awaits: the whole
+/// buffer while a Read Buffer is pending, else modified fields. It is from a screen of the size by which
+/// the host reads it. (The bytes of inbound data say neither.)
 pub fn what_comes_is_awaited()
     ensures { Always FormsAreAwaited }
 {
     what_is_given();
 }
 
-/// Law: over the same lists a terminal is at a connection exactly where it holds that connection's
-/// end, so that the display there is its own; that a connection that isn't lost has somebody at
-/// both ends; and that no LU is held by a connection that the host has left.
+/// Law: after any list of events a terminal is at a connection exactly if it holds that connection's end,
+/// so that the display there is its own; a connection that isn't lost has both ends attached; and no LU
+/// is held by a connection that the host has left.
 pub fn the_ends_agree()
     ensures agree { Always EndsAgree }
     ensures up { Always UpIsHeld }
@@ -167,27 +163,26 @@ pub fn the_ends_agree()
     what_is_given();
 }
 
-/// Law: over the same lists the size that the host set last and that of the terminal's screen are
-/// sizes of the terminal's model, and the same one unless a paint waits for its answer.
+/// Law: after any list of events the size that the host set last and the size of the terminal's screen
+/// are sizes of the terminal's model. They are equal unless a paint waits for its answer.
 pub fn the_sizes_agree()
     ensures { AlwaysOf AllSizesAgree }
 {
     what_is_given();
 }
 
-/// Law: over the same lists each number of a command or a response under way, and of the command
-/// that the host awaits an answer to or sends next, has 15 bits.
+/// Law: after any list of events each SEQ-NUMBER is below 2^15: of commands and responses under way, of
+/// the pending command and of the next one (RFC 1647, section 8.1; 15 bits are our profile).
 pub fn numbers_have_15_bits()
     ensures { Always NumbersFit }
 {
     what_is_given();
 }
 
-/// Law: over the same lists each terminal's screen has one of the two sizes of its model; and that,
-/// where keys are those of a keyboard and the application asks for screens of the profile, each
-/// terminal's screen can be sent, all data under way can be spelt, what is painted is such a
-/// screen, each paint and each note under way is spelt by its bytes, and the values that the host
-/// has are characters.
+/// Law: after any list of events each terminal's screen has one of the two sizes of its model. If also
+/// all keys are keys of the keyboard and the application asks for screens of our profile, each
+/// terminal's screen can be sent; data, paints and notes under way can be spelt as bytes; what is
+/// painted is a screen that can be sent; and the host's values are characters.
 pub fn screens_can_be_sent()
     ensures size { AlwaysOf ScreensHaveASize }
     ensures screens { AlwaysTyped ScreensAreSendable }
@@ -200,9 +195,8 @@ pub fn screens_can_be_sent()
     sent_is_read();
 }
 
-/// Law: an event leaves each connection that it doesn't concern as it is; and that such a
-/// connection holds the same LUs as before, in any world with a sound pool, as each is over the
-/// same lists of events.
+/// Law: an event leaves each connection that it doesn't concern as it is. In any world with a sound pool
+/// such a connection holds the same LUs as before. After any list of events the pool is sound.
 pub fn the_others_stay()
     ensures links { LinksStay }
     ensures holders { HoldersStay }
@@ -216,40 +210,39 @@ pub fn what_is_skipped_changes_nothing()
     ensures { SkippedChangesNothing }
 {}
 
-/// Law: each cause by which an end closes, and each verdict that a terminal says, is added to the
-/// history.
+/// Law: each cause for which an end closes a connection, and the verdict of each response that a terminal
+/// sends, is added to the history.
 pub fn the_history_is_kept()
     ensures host { HostsHistoryIsKept }
     ensures terminal { TerminalsHistoryIsKept }
 {}
 
-/// Law: a lost connection only delivers what was under way: no event adds to either queue.
+/// Law: a lost connection delivers only what was under way: no event adds to either queue.
 pub fn a_lost_connection_takes_nothing()
     ensures { LostTakesNothing }
 {}
 
-/// Law: an example, runs of a small host that are computed to their ends. A required field is left
-/// out, asked for and filled in; a connection is lost, and the LU refused until the host sees that;
-/// the screen is read after PA1, and if a field is in doubt; Clear, a terminal that restarts, and a
-/// host that restarts; notes, two of which cross a key; a PF key and Clear that lead on; an
-/// application that is asked, and answers twice; what a loss leaves under way. The second panel has
-/// more rows than the first, so the size of the screen changes on the way there and back. When the
-/// host decides it knows what was typed. And runs of one connection: of a terminal whose Reset ends
-/// the wait, with a host that serves any terminal, and with one that relies on the wait, whose panel
-/// keeps what was typed in it; one whose second Enter the host drops, which doesn't tell it anything;
-/// of four terminals that break one rule each; and of one that keeps all.
+/// Law: examples, runs of a small host that are computed to their ends. A required field is left out, asked for and
+/// filled in; a connection is lost, and its LU is refused until the host sees the loss; the screen is read after PA1,
+/// and if a field is in doubt; Clear, a terminal that restarts, and a host that restarts; notes, two of which cross a
+/// key; a PF key and Clear that lead to other panels; an application that is asked, and answers twice; what a loss
+/// leaves under way. The second panel has more rows than the first, so the size of the screen changes on the way there
+/// and back. When the host decides, it knows what was typed. Also runs of one connection: of a terminal whose Reset
+/// ends the wait, with a host that serves any terminal, and with one that relies on the wait, whose panel keeps what
+/// was typed meanwhile; of one whose second Enter the host drops, from which it learns nothing; of four terminals that
+/// break one rule each; and of one that keeps all rules.
 pub fn the_runs_end_so()
     ensures { TheRunsEndSo }
 {}
 
-/// Law: what holds if bytes represent messages: a terminal makes of the bytes what it makes of the
-/// messages, and a connection over bytes represents one over messages, step by step.
+/// Law: what holds if bytes represent messages. A terminal does with the bytes what it does with the
+/// messages, and a connection over bytes represents one over messages after each step.
 pub fn bytes_stand_for_messages()
     // A paint that fits the belief represents the wanted screen.
-    ensures paint { PaintStands }
-    // A terminal makes of an item, and of a key, what it makes of them over messages; and nothing of
-    // NOP. An item is marked as a write exactly if it represents a paint that finds the terminal
-    // bound. Whatever bytes it takes, there is a history of them.
+    ensures paint { PaintRepresents }
+    // A terminal does with an item, and with a key, what it does over messages; it ignores NOP. An item
+    // is marked as a write exactly if it represents a paint and the terminal is bound. There is a history
+    // of any bytes that a terminal takes.
     ensures takes { TermTakes }
     ensures nop { NopHasNoEffect }
     ensures marks { WritesAreMarked }
@@ -257,27 +250,27 @@ pub fn bytes_stand_for_messages()
     ensures sendable { TakesKeepSendable }
     ensures presses { TermPresses }
     // Bytes represent messages however they are cut, as they are sent and as they are taken.
-    ensures down_empty { NothingStands without_nops StandsDown }
-    ensures up_empty { NothingStands all_items StandsUp }
-    ensures down_more { StandsCompose without_nops StandsDown }
-    ensures up_more { StandsCompose all_items StandsUp }
-    ensures down_taken { StandsGoOn without_nops StandsDown }
-    ensures up_taken { StandsGoOn all_items StandsUp }
-    // A connection that begins represents one over messages that begins. It still does after a key,
-    // a delivery in either direction, a message or NOP from the host, a loss, and after an end left
-    // it. A byte down is marked as a write exactly if it completes such a paint.
-    ensures begin { BeginStands }
-    ensures press { PressStands }
-    ensures down { DownStands }
+    ensures down_empty { NothingRepresents without_nops RepresentsDown }
+    ensures up_empty { NothingRepresents all_items RepresentsUp }
+    ensures down_more { RepresentsCompose without_nops RepresentsDown }
+    ensures up_more { RepresentsCompose all_items RepresentsUp }
+    ensures down_taken { RepresentsGoOn without_nops RepresentsDown }
+    ensures up_taken { RepresentsGoOn all_items RepresentsUp }
+    // A connection that begins represents one over messages that begins. It still does so after a key,
+    // a delivery in either direction, a message or NOP from the host, a loss, and after an end has left
+    // it. A byte to the terminal is marked as a write exactly if it completes such a paint.
+    ensures begin { BeginRepresents }
+    ensures press { PressRepresents }
+    ensures down { DownRepresents }
     ensures down_marked { BytesAreMarked }
     ensures not_refused { DownIsNotRefused }
     ensures host_sends { HostSends }
-    ensures nop_sent { NopStands }
-    ensures up { UpStands }
-    ensures loss { LossStands }
+    ensures nop_sent { NopRepresents }
+    ensures up { UpRepresents }
+    ensures loss { LossRepresents }
     ensures host_leaves { HostLeaves }
     ensures term_leaves { TermLeaves }
-    // In the world each message down may arrive as these steps require.
+    // In a world each message to a terminal arrives as these steps require.
     ensures coming { AlwaysOf WhatComesMayCome }
 {
     what_is_given();
@@ -290,9 +283,9 @@ pub fn bytes_stand_for_messages()
 }
 
 /// Law: what the laws above, and those of the crates below, promise of worlds, of connections over
-/// bytes, and of what is read of bytes.
+/// bytes, and of how bytes are read.
 fn what_is_known()
-    ensures { Known }
+    ensures { MessageLaws }
 {
     what_is_given();
     the_headline_holds();
@@ -309,14 +302,13 @@ fn what_is_known()
     datastream::laws::one_reading();
 }
 
-/// Law: how the world over bytes follows the world over messages. Callers can apply it to a world
-/// in hand, by [`World::represents_messages`]. A world that begins represents one over messages
-/// that begins. After each event it represents the world after more events: one delivery for each
-/// item but NOP that the bytes complete at the receiver; nothing for keeping a connection alive; or
-/// that one event. An event is skipped exactly if it is skipped over messages, but for a delivery of
-/// NOPs alone. The headline holds of what is seen of each such world. Bytes that
-/// come up or down close no connection; no end ever closes one by a cause; and no response refuses
-/// a command, also if it is under way to a host that has left.
+/// Law: how the world over bytes follows the world over messages. Callers can apply it to a world by
+/// [`World::represents_messages`]. A new world represents a new world over messages. After an event it
+/// represents the world after further events over messages: for a delivery, one for each item (NOPs
+/// apart) that the bytes complete at the receiver; none for keeping a connection alive; else that one
+/// event. An event is skipped exactly if it is skipped over messages, unless it delivers NOPs alone. The
+/// headline holds of each such world. No delivery closes a connection; no end ever closes one for a
+/// cause; and no response rejects a command, even one under way to a host that has left.
 pub fn bytes_follow_messages()
     ensures begin { BeginIsReached }
     ensures steps { StepsGoOn }
@@ -333,14 +325,13 @@ pub fn bytes_follow_messages()
     what_is_known();
 }
 
-/// Law: what is shown on a connection changes by the host's decisions there alone. An event by which
-/// it decides nothing there leaves the connection's panel, values and message. And so what an
-/// application answered is shown until the host decides again: once the paint is answered, panel,
-/// values, message and the field for the cursor are those of the answer. A key that is pressed while
-/// the keyboard waits for the host changes no screen. While the host has the turn, with no note under
-/// way, a screen stays until the host decides; and a paint finds the screen that the terminal had when
-/// the host decided to show the panel. So a field that is kept has the text that the operator then had
-/// in it; a screen with another text in a field doesn't show the decision.
+/// Law: only the host's decisions change what is shown on a connection. An event by which the host decides nothing
+/// there leaves the connection's panel, values and message. So an application's answer is shown until the host decides
+/// again: after the paint is answered, panel, values, message and cursor field are those of the answer. A key that is
+/// pressed while the keyboard is locked for the host changes no screen. While the host has the turn and no note is
+/// under way, a screen stays until the host decides; and a paint finds the screen that the terminal had when the host
+/// decided to show the panel. So a field that is kept has the text that the operator had in it at the decision; a
+/// screen with another text in a field doesn't show the decision.
 pub fn what_is_shown_stays()
     ensures steps { StepsKeepPanels }
     ensures answers { AnswersAreShownOverBytes }
@@ -357,9 +348,9 @@ pub fn what_is_shown_stays()
     what_is_answered_is_shown();
 }
 
-/// Law: there is no protocol error in a world over bytes, nor in what happens to it. Neither end
-/// closes a connection by a cause; no terminal sends a negative response, none is under way, and none
-/// has come to a host. (Each response by which a terminal would refuse a command is a negative one.)
+/// Law: there is no protocol error in a world over bytes, and no event makes one. Neither end closes a
+/// connection for a cause; no terminal sends a negative response, none is under way, and a host has
+/// received none. (Each response by which a terminal would reject a command is a negative one.)
 pub fn no_protocol_errors()
     ensures worlds { WorldsHaveNoProtocolError }
     ensures events { EventsMakeNoProtocolErrors }
@@ -369,8 +360,8 @@ pub fn no_protocol_errors()
     bytes_follow_messages();
 }
 
-/// Law: a world over bytes is one machine. From one world an event to which memory isn't refused
-/// has one answer, and leads to one world; so do events one after another, and runs of them.
+/// Law: a world over bytes is deterministic while memory isn't refused. An event has one outcome, and
+/// leads to one world; so do lists of events, and runs of them.
 pub fn one_machine()
     ensures step { StepsAreOne }
     ensures events { EventsAreOne }
@@ -380,9 +371,9 @@ pub fn one_machine()
     term_core::laws::one_machine();
 }
 
-/// Law: these terminals keep the rules that are asked of any terminal: ours, whose keys edit input or
-/// send what it displays; one that is the same but for its Reset, which ends the wait for the host;
-/// one that stores any character in a numeric field; and one at which a text is pasted into a field.
+/// Law: these terminals keep the rules that `every_terminal` requires of a terminal: ours, whose keys
+/// edit input or send what it displays; one like it whose Reset ends the wait for the host; one that
+/// stores any character in a numeric field; and one at which a text is pasted into a field.
 pub fn terminals_keep_the_rules()
     ensures { TerminalsKeepTheRules }
 {
@@ -391,21 +382,18 @@ pub fn terminals_keep_the_rules()
     sent_keys_wait();
 }
 
-/// Law: every terminal. On one connection of a host that serves any terminal, from the host's
-/// agreement on an LU on, whatever comes in whatever order: deliveries, acts, answers of the
-/// application, notes, keys, and the loss of the connection. If the terminal is bound to the LU that
-/// the host granted, with a blank screen; applies each write whole and in order, answers it
-/// positively, and answers Read Buffer with the whole screen; lets its operator change nothing but
-/// unprotected cells, their MDT and the cursor, with MDT on after any change but Erase Input; and
-/// sends a key's AID with exactly the modified fields: then it is bound to that LU alone. Whenever the
-/// host decides, the headline's three parts hold of what it was told: the screen as it was when the
-/// first key since the last paint was pressed, or as it was read since. The screen as it is by then has
-/// the attributes and the protected characters that the host believes. Each open question has the key,
-/// the cursor and the fields of what the host was told. Once a paint is answered, the screen that it
-/// left shows the panel, whatever was typed before it came. Neither end closes the connection by a
-/// cause. The terminal needn't wait for the host: meanwhile its operator may type, and press any key
-/// but Clear. That one is left out, since the host closes the connection if a command is on its way
-/// then.
+/// Law: one connection between a host that serves any terminal and any terminal that keeps the rules, from the host's
+/// agreement on an LU on, after deliveries, acts, answers of the application, notes, keys and a loss in any order. The
+/// rules: the terminal is bound to the LU that the host granted, and begins with a blank screen; it applies each write
+/// whole and in order, sends a positive response, and answers Read Buffer with the whole screen; its operator changes
+/// only unprotected cells, their MDT and the cursor, with MDT on after any change but Erase Input; and it sends a key's
+/// AID with exactly the modified fields. Then it is bound to that LU alone. Whenever the host decides, parts (b) to (d)
+/// of the headline hold of what it was told: the screen when the first key since the last paint was pressed, or as it
+/// was read since; and the present screen has the attributes and the protected characters that the host believes. Each
+/// open question has the key, the cursor and the fields of what the host was told.
+/// After a paint is answered, the screen that it left shows the panel, whatever was typed before. Neither
+/// end closes the connection for a cause. The terminal need not wait for the host: meanwhile its operator
+/// may type, and press any key but Clear, since the host closes the connection if Clear crosses a command.
 pub fn every_terminal()
     ensures { EveryTerminal }
 {
@@ -413,12 +401,12 @@ pub fn every_terminal()
     painted_fields_are_there();
 }
 
-/// Law: the same over bytes, in the words of the calls of `Host`, whatever other clients do. The host is
-/// fed the bytes that come up, however they are cut; it hands bytes over, acts, is answered by the
-/// application, sends notes and NOPs, where memory may be refused; the terminal takes each byte as
-/// RFC 1647 and GA23-0059 say, spells what it sends as it likes, and sends NOPs and other commands that
-/// the host takes as nothing. The bytes represent a connection over messages after moves that keep the
-/// rules, of which the law above speaks.
+/// Law: `every_terminal` over bytes, in terms of the calls of `Host`, whatever other clients do. The host
+/// is fed the inbound bytes in pieces of any length; it hands over outbound bytes, acts, is answered by
+/// the application, and sends notes and NOPs; memory may be refused for these. The terminal takes each
+/// byte as RFC 1647 and GA23-0059 say, may spell what it sends in any way that the host reads alike, and
+/// may send NOPs and other commands that the host ignores. The bytes represent a connection over messages
+/// after moves that keep the rules, for which `every_terminal` holds.
 pub fn every_terminal_over_bytes()
     ensures { EveryTerminalOverBytes }
 {

@@ -1,13 +1,13 @@
 //! The bytes in flight on a connection, in each direction.
 ghost use Rattle.std.specs.Prelude.{◌≡◌, [], drop, take};
-ghost use Rattle.world3270.specs.ByteWorld.{came, cut, is_live, is_senders, sender_gone, under_way, begun_transits, unused_transits};
-ghost use Rattle.world3270.specs.ByteWorld.Transit.{Live as StaysLive, SenderGone as HasLeft};
+ghost use Rattle.world3270.specs.model.ByteWorld.{came, cut, is_live, is_senders, sender_gone, under_way, begun_transits, unused_transits};
+ghost use Rattle.world3270.specs.model.ByteWorld.Transit.{Live as StaysLive, SenderGone as HasSenderGone};
 
 use std::alloc::Global;
 use std::marker::Model;
 
-/// The bytes in flight in one direction: all that the sender has to send; the first ones of them,
-/// if the connection is lost; or these bytes, if the sender is gone.
+/// The bytes in flight in one direction. `Live`: all that the sender has to send. `Cut`, on a lost
+/// connection: the first ones of these, this many. `SenderGone`: these bytes; the sender has left.
 #[derive(Drop)]
 pub(crate) enum InFlight {
     Live,
@@ -22,8 +22,8 @@ pub(crate) struct Direction {
 }
 
 impl Model for Direction {
-    ghost use Rattle.world3270.specs.ByteWorld.{Transit};
-    ghost use Rattle.world3270.specs.InFlight.{transit_of};
+    ghost use Rattle.world3270.specs.model.ByteWorld.{Transit};
+    ghost use Rattle.world3270.specs.model.InFlight.{transit_of};
 
     ghost Value = { Transit };
 
@@ -31,9 +31,9 @@ impl Model for Direction {
 }
 
 impl Direction {
-    /// Nothing is under way, and nobody sends.
+    /// Nothing is under way, and there is no sender.
     pub(crate) fn unused(alloc: Global) -> Direction
-        ensures { result ≡ HasLeft [] }
+        ensures { result ≡ HasSenderGone [] }
     {
         Direction {
             in_flight: InFlight::SenderGone(Vec::new(alloc)),
@@ -80,7 +80,7 @@ impl Direction {
         }
     }
 
-    /// The first `count` bytes are taken.
+    /// Removes the first `count` bytes, which were delivered. A live sender drops them itself.
     pub(crate) fn came(&mut self, count: usize)
         ensures { self.new ≡ came count self.old }
     {
@@ -148,7 +148,7 @@ pub(crate) struct Link {
 }
 
 impl Model for Link {
-    ghost use Rattle.world3270.specs.ByteWorld.{Transits};
+    ghost use Rattle.world3270.specs.model.ByteWorld.{Transits};
 
     ghost Value = { Transits };
 
@@ -156,7 +156,7 @@ impl Model for Link {
 }
 
 impl Link {
-    /// A number that was never used.
+    /// A connection that was never used.
     pub(crate) fn unused(alloc: Global) -> Link
         ensures { result ≡ unused_transits }
     {
@@ -182,8 +182,7 @@ impl Link {
         self.up.cut(up);
     }
 
-    /// The host leaves while it has the bytes `unsent` to send, and the terminal `up` bytes; the
-    /// connection is lost.
+    /// The host leaves while it has the bytes `unsent` to send, and the terminal `up` bytes; the connection is lost.
     pub(crate) fn host_leaves(&mut self, unsent: Vec<u8>, up: usize)
         ensures { self.new ≡ record { down = sender_gone unsent.items self.old.down; up = cut up self.old.up } }
     {
@@ -191,8 +190,7 @@ impl Link {
         self.up.cut(up);
     }
 
-    /// The terminal leaves while it has the bytes `unsent` to send, and the host `down` bytes; the
-    /// connection is lost.
+    /// The terminal leaves while it has the bytes `unsent` to send, and the host `down` bytes; the connection is lost.
     pub(crate) fn terminal_leaves(&mut self, down: usize, unsent: Vec<u8>)
         ensures { self.new ≡ record { down = cut down self.old.down; up = sender_gone unsent.items self.old.up } }
     {
@@ -200,21 +198,21 @@ impl Link {
         self.up.leave(unsent);
     }
 
-    /// Whether it isn't lost.
+    /// Whether the connection isn't lost.
     pub(crate) fn is_live(&self) -> bool
         ensures { result ≡ is_live self.now.down }
     {
         self.down.is_live()
     }
 
-    /// The first `count` bytes down are taken.
+    /// Removes the first `count` bytes under way to the terminal, which were delivered.
     pub(crate) fn came_down(&mut self, count: usize)
         ensures { self.new ≡ record self.old { down = came count self.old.down } }
     {
         self.down.came(count);
     }
 
-    /// The first `count` bytes up are taken.
+    /// Removes the first `count` bytes under way to the host, which were delivered.
     pub(crate) fn came_up(&mut self, count: usize)
         ensures { self.new ≡ record self.old { up = came count self.old.up } }
     {

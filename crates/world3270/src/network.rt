@@ -1,12 +1,11 @@
-//! The parts of a world: a host, the connections that it serves, and terminals; and how bytes move
-//! between them.
+//! The parts of a world: a host, the connections that it serves, and terminals; and how bytes move between them.
 ghost use Rattle.std.specs.Prelude.{◌≡◌, ◌<◌, ◌≤◌, None, Some, true, false, is_some, length, IfOk, IfSome, map, replicate, take};
-ghost use Rattle.host_core.specs.Feeds.{Feeds, counter_at, with_counter};
+ghost use Rattle.host_core.specs.Feeds.{Feeds, connection_and_pool_at, with_connection_and_pool};
 ghost use Rattle.host_core.specs.State.{most_connections};
-ghost use Rattle.world3270.specs.ByteSteps.{Connects, TrackedFeeds, Steps, answer_acted, answer_fed, answer_pressed, down_came, free_number, has_place, host_gone, host_gone_below, host_gone_if, host_gone_if_there, host_told, is_held, is_link, is_up, lost_transits, terminal_gone, terminal_gone_if, terminal_told, up_came};
-ghost use Rattle.world3270.specs.ByteWorld.{alone, down_of, host_out, host_there, is_senders, model_at, transits_at, new_byte_world, new_slot, slot_at, terminal_at, terminal_out, terminal_there, unused_transits, up_of, with_host, with_slot, with_transits};
-ghost use Rattle.world3270.specs.InFlight.{out_among};
-ghost use Rattle.world3270.specs.Placed.{is_queued};
+ghost use Rattle.world3270.specs.model.ByteSteps.{Connects, TrackedFeeds, Steps, answer_acted, answer_fed, answer_pressed, down_came, free_number, is_enabled, host_gone, host_gone_below, host_gone_if, host_gone_if_there, host_told, is_held, is_link, is_up, lost_transits, terminal_gone, terminal_gone_if, terminal_told, up_came};
+ghost use Rattle.world3270.specs.model.ByteWorld.{alone, down_of, host_out, host_there, is_senders, model_at, transits_at, new_byte_world, new_slot, slot_at, terminal_at, terminal_out, terminal_there, unused_transits, up_of, with_host, with_slot, with_transits};
+ghost use Rattle.world3270.specs.model.InFlight.{out_among};
+ghost use Rattle.world3270.specs.model.Enabled.{is_queued};
 ghost use Rattle.world3270.specs.declared.event.Event.TheVariants as event;
 
 use crate::event::{Event, Stepped};
@@ -25,8 +24,8 @@ use telnet_wire::Memory;
 use term_core::Terminal;
 use tn3270e_msg::{Fed, Lu, Stop};
 
-/// A host, the connections that it serves, and terminals. What an end has to send is under way:
-/// there is no other queue.
+/// A host, the connections that it serves, and terminals. The bytes that an end has to send are the
+/// bytes under way: there is no other queue.
 #[derive(Drop)]
 pub(crate) struct Network {
     host: Host,
@@ -37,11 +36,12 @@ pub(crate) struct Network {
 impl marker::Model for Network {
     ghost use Rattle.std.specs.Prelude.{◌≡◌, length};
     ghost use Rattle.host_core.specs.State.{most_connections};
-    ghost use Rattle.world3270.specs.ByteWorld.{ByteWorld};
+    ghost use Rattle.world3270.specs.model.ByteWorld.{ByteWorld};
 
     ghost Value = { ByteWorld };
 
-    ghost view = { λ network. record { host = network.host; links = network.links.items; slots = network.slots.items } };
+    ghost view = { λ network.
+        record { host = network.host; links = network.links.items; slots = network.slots.items } };
 
     ghost invariant = { λ network. length network.links.items ≡ most_connections };
 }
@@ -76,7 +76,7 @@ fn terminal_at(slots: &[TerminalSlot], conn: usize) -> Option<usize>
     slots.iter().position(|slot| slot.is_at(conn))
 }
 
-/// What the terminal at a connection has to send: nothing if no terminal is there.
+/// The bytes that the terminal at a connection has to send: none if no terminal is there.
 fn out_at(slots: &[TerminalSlot], conn: usize) -> &[u8]
     ensures { result.now ≡ out_among (terminal_at conn slots.now) slots.now }
 {
@@ -86,7 +86,7 @@ fn out_at(slots: &[TerminalSlot], conn: usize) -> &[u8]
     }
 }
 
-/// The answer to a key, by what the keyboard answers.
+/// The outcome of a key event, from the keyboard's answer.
 fn pressed_as(pressed: Pressed) -> Stepped
     ensures { result ≡ answer_pressed pressed }
 {
@@ -97,7 +97,7 @@ fn pressed_as(pressed: Pressed) -> Stepped
     }
 }
 
-/// The answer to an act, or to a note.
+/// The outcome of an act, an answer, a note or NOP of the host.
 fn acted_as(acted: Acted) -> Stepped
     ensures { result ≡ answer_acted acted }
 {
@@ -108,7 +108,7 @@ fn acted_as(acted: Acted) -> Stepped
     }
 }
 
-/// The answer to a delivery.
+/// The outcome of a delivery.
 fn fed_as(fed: Fed) -> Stepped
     ensures { result ≡ answer_fed fed.stop fed.taken }
 {
@@ -133,8 +133,8 @@ fn are_queued(bytes: &[u8], count: usize) -> bool
 }
 
 impl Network {
-    /// A new world, of a host that serves these terminals, with a terminal of each of these models: nobody
-    /// holds an LU, and no connection was ever used.
+    /// A new world: a host that serves the terminals `serves`, and one terminal for each of these models.
+    /// No LU is held, and no connection was ever used.
     pub(crate) fn new(
         alloc: Global,
         serves: Terminals,
@@ -172,7 +172,7 @@ impl Network {
         self.slots[terminal].terminal()
     }
 
-    /// The screen that a terminal held after its last write with restore on its latest connection.
+    /// The screen that a terminal had just after the last write that restored its keyboard, on its latest connection.
     pub(crate) fn last_restored(&self, terminal: usize) -> &Screen
         requires { terminal < length self.now.slots }
         ensures { result.now.screen ≡ (slot_at terminal self.now).tracked.history.last_restored }
@@ -180,7 +180,7 @@ impl Network {
         self.slots[terminal].last_restored()
     }
 
-    /// Whether Erase Input was done at a terminal since then.
+    /// Whether Erase Input was done at a terminal since the write of `last_restored`.
     pub(crate) fn erased(&self, terminal: usize) -> bool
         requires { terminal < length self.now.slots }
         ensures { result ≡ (slot_at terminal self.now).tracked.history.erased }
@@ -188,14 +188,14 @@ impl Network {
         self.slots[terminal].erased()
     }
 
-    /// What the terminal at a connection has to send: nothing if no terminal is there.
+    /// The bytes that the terminal at a connection has to send: none if no terminal is there.
     fn terminal_out(&self, conn: usize) -> &[u8]
         ensures { result.now ≡ terminal_out conn self.now }
     {
         out_at(&self.slots, conn)
     }
 
-    /// What is under way to the host.
+    /// The bytes under way to the host on a connection.
     pub(crate) fn queued_up(&self, conn: usize) -> &[u8]
         requires { conn < most_connections }
         ensures { result.now ≡ up_of conn self.now }
@@ -203,7 +203,7 @@ impl Network {
         self.links[conn].up.under_way(self.terminal_out(conn))
     }
 
-    /// What is under way to the terminal.
+    /// The bytes under way to the terminal on a connection.
     pub(crate) fn queued_down(&self, conn: usize) -> &[u8]
         requires { conn < most_connections }
         ensures { result.now ≡ down_of conn self.now }
@@ -224,7 +224,7 @@ impl Network {
         }
     }
 
-    /// Whether an end of a connection is held.
+    /// Whether the host or a terminal holds an end of a connection.
     fn is_held(&self, conn: usize) -> bool
         requires { conn < most_connections }
         ensures { result ≡ is_held conn self.now }
@@ -274,9 +274,9 @@ impl Network {
         self.links[conn].terminal_leaves(down, unsent);
     }
 
-    /// Whether a connection is up.
+    /// Whether a connection is up: it isn't lost, and an end of it is held.
     fn is_up(&self, conn: usize) -> bool
-        ensures place { result ≡ has_place (event.Lose conn) self.now }
+        ensures place { result ≡ is_enabled (event.Lose conn) self.now }
         ensures number { result ≡ true → conn < most_connections }
     {
         conn < MOST_CONNECTIONS && self.links[conn].is_live() && self.is_held(conn)
@@ -294,7 +294,7 @@ impl Network {
         }
     }
 
-    /// A key is pressed.
+    /// A key is pressed at a terminal. Skipped unless there is such a terminal.
     pub(crate) fn press(&mut self, terminal: usize, key: Key) -> Stepped
         ensures { Steps (event.Key terminal key) self.old result self.new }
     {
@@ -308,7 +308,7 @@ impl Network {
         }
     }
 
-    /// The host acts.
+    /// The host acts on a connection. Skipped if it has nothing to do there.
     pub(crate) fn act(&mut self, conn: usize) -> Stepped
         ensures { Steps (event.Act conn) self.old result self.new }
     {
@@ -319,15 +319,15 @@ impl Network {
         }
     }
 
-    /// Whether the host may see that a connection is lost.
+    /// Whether the host may see that a connection is lost: it is lost, and the host holds its end.
     fn host_may_see(&self, conn: usize) -> bool
-        ensures place { result ≡ has_place (event.HostSees conn) self.now }
+        ensures place { result ≡ is_enabled (event.HostSees conn) self.now }
         ensures number { result ≡ true → conn < most_connections }
     {
         conn < MOST_CONNECTIONS && !self.links[conn].is_live() && self.host_there(conn)
     }
 
-    /// The host sees that a connection is lost, and leaves it.
+    /// The host sees that a connection is lost, and leaves it. Skipped unless `host_may_see`.
     pub(crate) fn host_sees(&mut self, conn: usize) -> Stepped
         ensures { Steps (event.HostSees conn) self.old result self.new }
     {
@@ -339,7 +339,7 @@ impl Network {
         }
     }
 
-    /// The application answers the question with a ticket. Skipped unless that question is open.
+    /// The application answers the question with this ticket. Skipped unless that question is open.
     pub(crate) fn answer(&mut self, conn: usize, ticket: Ticket, answer: &Answer) -> Stepped
         ensures { Steps (event.Answer conn ticket answer.now) self.old result self.new }
     {
@@ -350,7 +350,7 @@ impl Network {
         }
     }
 
-    /// The host sends a note.
+    /// The host sends a note. Skipped if it may send none now.
     pub(crate) fn note(&mut self, conn: usize, text: &NoteText) -> Stepped
         ensures { Steps (event.Note conn text.now) self.old result self.new }
     {
@@ -373,7 +373,7 @@ impl Network {
         }
     }
 
-    /// A terminal sees that its connection is lost, and leaves it.
+    /// A terminal sees that its connection is lost, and leaves it. Skipped unless it is at a lost one.
     pub(crate) fn term_sees(&mut self, terminal: usize) -> Stepped
         ensures { Steps (event.TermSees terminal) self.old result self.new }
     {
@@ -409,7 +409,7 @@ impl Network {
         }
     }
 
-    /// The least number that neither end holds.
+    /// The least number of a connection that neither end holds, if there is one.
     fn free_number(&self) -> Option<usize>
         ensures found { result ≡ free_number self.now }
         ensures below { IfSome result (λ conn. conn < most_connections) }
@@ -423,7 +423,7 @@ impl Network {
         None
     }
 
-    /// A terminal without a connection begins one on a number that nobody holds.
+    /// A terminal without a connection begins one, on a number that neither end holds.
     fn begin(&mut self, terminal: usize, conn: usize, wanted: Option<Lu>) -> Stepped
         requires terminal { terminal < length self.old.slots }
         requires number { conn < most_connections }
@@ -440,8 +440,8 @@ impl Network {
         }
     }
 
-    /// A terminal connects, and wants an LU, if one. Skipped unless it has no connection and a
-    /// number is free.
+    /// A terminal connects, and requests the LU `wanted`, if one. Skipped unless the terminal has no
+    /// connection and a number is free.
     pub(crate) fn connect(&mut self, terminal: usize, wanted: Option<Lu>) -> Stepped
         ensures { Steps (event.Connect terminal wanted) self.old result self.new }
     {
@@ -488,15 +488,17 @@ impl Network {
     /// The host takes the first `count` bytes that are under way to it, or all if there are fewer.
     fn feed_host(&mut self, conn: usize, count: usize) -> Fed
         requires { conn < most_connections }
-        ensures fed { Feeds conn (counter_at conn self.old.host) (take count (up_of conn self.old)) result (counter_at conn self.new.host) }
-        ensures others { self.new ≡ with_host (with_counter conn (counter_at conn self.new.host) self.old.host) self.old }
+        ensures fed { Feeds conn (connection_and_pool_at conn self.old.host) (take count (up_of conn self.old)) result
+            (connection_and_pool_at conn self.new.host) }
+        ensures others { self.new ≡ with_host
+            (with_connection_and_pool conn (connection_and_pool_at conn self.new.host) self.old.host) self.old }
     {
         let out = out_at(&self.slots, conn);
         let bytes = first(self.links[conn].up.under_way(out), count);
         self.host.feed(conn, bytes)
     }
 
-    /// The host's first `count` bytes are sent, if those that were taken are still the host's.
+    /// Tells the host that its first `count` bytes are sent, if the bytes under way are still the host's (`is_its`).
     fn tell_host(&mut self, is_its: bool, conn: usize, count: usize)
         requires number { conn < most_connections }
         requires count { is_its ≡ true → count ≤ length (host_out conn self.old) }
@@ -507,8 +509,8 @@ impl Network {
         }
     }
 
-    /// The first `count` bytes of the terminal at a connection are sent, if those that were taken
-    /// are still the terminal's.
+    /// Tells the terminal at a connection that its first `count` bytes are sent, if the bytes under way
+    /// are still the terminal's (`is_its`).
     fn tell_terminal(&mut self, is_its: bool, conn: usize, count: usize)
         requires { is_its ≡ true → count ≤ length (terminal_out conn self.old) }
         ensures { self.new ≡ terminal_told is_its count (terminal_at conn self.old.slots) self.old }
@@ -521,7 +523,7 @@ impl Network {
         }
     }
 
-    /// The first `count` bytes down are taken.
+    /// Removes the first `count` bytes from those under way to the terminal.
     fn came_down(&mut self, conn: usize, count: usize)
         requires number { conn < most_connections }
         requires count { is_senders (transits_at conn self.old).down ≡ true → count ≤ length (host_out conn self.old) }
@@ -532,10 +534,11 @@ impl Network {
         self.links[conn].came_down(count);
     }
 
-    /// The first `count` bytes up are taken.
+    /// Removes the first `count` bytes from those under way to the host.
     fn came_up(&mut self, conn: usize, count: usize)
         requires number { conn < most_connections }
-        requires count { is_senders (transits_at conn self.old).up ≡ true → count ≤ length (terminal_out conn self.old) }
+        requires count { is_senders (transits_at conn self.old).up ≡ true
+            → count ≤ length (terminal_out conn self.old) }
         ensures { self.new ≡ up_came count conn self.old }
     {
         let is_its = self.links[conn].up.is_senders();
@@ -543,15 +546,16 @@ impl Network {
         self.links[conn].came_up(count);
     }
 
-    /// Whether a delivery up of `count` bytes can happen.
+    /// Whether a delivery of `count` bytes to the host can happen: the host is there, and at least one
+    /// byte is among them.
     fn comes_up(&self, conn: usize, count: usize) -> bool
-        ensures place { result ≡ has_place (event.Up conn count) self.now }
+        ensures place { result ≡ is_enabled (event.Up conn count) self.now }
         ensures number { result ≡ true → conn < most_connections }
     {
         conn < MOST_CONNECTIONS && self.host_there(conn) && are_queued(self.queued_up(conn), count)
     }
 
-    /// The host leaves a connection that it has closed.
+    /// The host leaves a connection if it has closed it.
     fn host_leaves_closed(&mut self, conn: usize, stop: &Stop)
         requires { conn < most_connections }
         ensures { self.new ≡ host_gone_if stop.now conn self.old }
@@ -577,9 +581,9 @@ impl Network {
         fed_as(fed)
     }
 
-    /// The terminal to which a delivery down of `count` bytes goes, if it can happen.
+    /// The terminal to which a delivery of `count` bytes goes, if it can happen.
     fn comes_down(&self, conn: usize, count: usize) -> Option<usize>
-        ensures place { is_some result ≡ has_place (event.Down conn count) self.now }
+        ensures place { is_some result ≡ is_enabled (event.Down conn count) self.now }
         ensures found { IfSome result (λ terminal. terminal_at conn self.now.slots ≡ Some terminal) }
         ensures below { IfSome result (λ terminal. terminal < length self.now.slots) }
         ensures number { IfSome result (λ terminal. conn < most_connections) }
@@ -591,19 +595,20 @@ impl Network {
         }
     }
 
-    /// A terminal takes the first `count` bytes that are under way to it, or all if there are
-    /// fewer.
+    /// A terminal takes the first `count` bytes that are under way to it, or all if there are fewer.
     fn feed_terminal(&mut self, terminal: usize, conn: usize, count: usize) -> Fed
         requires terminal { terminal < length self.old.slots }
         requires number { conn < most_connections }
-        ensures fed { TrackedFeeds (slot_at terminal self.old).tracked (take count (down_of conn self.old)) result (slot_at terminal self.new).tracked }
-        ensures others { self.new ≡ with_slot terminal (record (slot_at terminal self.old) { tracked = (slot_at terminal self.new).tracked }) self.old }
+        ensures fed { TrackedFeeds (slot_at terminal self.old).tracked (take count (down_of conn self.old)) result
+            (slot_at terminal self.new).tracked }
+        ensures others { self.new ≡ with_slot terminal
+            (record (slot_at terminal self.old) { tracked = (slot_at terminal self.new).tracked }) self.old }
     {
         let bytes = first(self.links[conn].down.under_way(self.host.out(conn)), count);
         self.slots[terminal].feed(bytes)
     }
 
-    /// A terminal leaves a connection that it has closed.
+    /// A terminal leaves a connection if it has closed it.
     fn terminal_leaves_closed(&mut self, terminal: usize, conn: usize, stop: &Stop)
         requires terminal { terminal < length self.old.slots }
         requires number { conn < most_connections }
@@ -632,7 +637,7 @@ impl Network {
         }
     }
 
-    /// An event happens, or is skipped.
+    /// An event happens, or is skipped if it can't happen.
     pub(crate) fn happen(&mut self, event: &Event) -> Stepped
         ensures { Steps event.now self.old result self.new }
     {

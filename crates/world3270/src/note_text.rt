@@ -2,15 +2,14 @@
 ghost use Rattle.std.specs.Prelude.{◌≡◌};
 ghost use Rattle.std.specs.List.{list_all};
 ghost use Rattle.host_core.specs.Notes.{IsNoteText, is_graphic};
-ghost use Rattle.world3270.specs.NoteTexts.{is_note_text, note_text};
+ghost use Rattle.world3270.specs.model.NoteTexts.{is_note_text, note_text};
 
 use std::marker::Model;
 
-/// The longest text that a note may have.
+/// The longest text that a note may have, in characters.
 const LONGEST: usize = 131;
 
-/// The text of a note: at most 131 characters of code page 037. Contracts see it as the list of
-/// these.
+/// The text of a note: 0 to 131 characters of code page 037. Contracts see it as the list of these bytes.
 #[derive(Drop)]
 pub struct NoteText {
     text: [u8; LONGEST],
@@ -19,7 +18,7 @@ pub struct NoteText {
 
 impl Model for NoteText {
     ghost use Rattle.std.specs.Prelude.{ℕ, List, take};
-    ghost use Rattle.world3270.specs.NoteTexts.{IsKept};
+    ghost use Rattle.world3270.specs.model.NoteTexts.{IsKept};
 
     ghost Value = { List ℕ };
 
@@ -28,21 +27,21 @@ impl Model for NoteText {
     ghost invariant = { λ note. IsKept note.text note.size };
 }
 
-/// Whether it is a character of code page 037.
+/// Whether a byte is a graphic character of code page 037, `0x40..=0xFE`.
 fn is_graphic(byte: u8) -> bool
     ensures { result ≡ is_graphic byte }
 {
     byte >= 0x40 && byte < 0xFF
 }
 
-/// Whether all are such characters.
+/// Whether all bytes are graphic characters.
 fn are_graphic(text: &[u8]) -> bool
     ensures { result ≡ list_all is_graphic text.now }
 {
     text.iter().all(|byte| is_graphic(*byte))
 }
 
-/// Whether a note may have this text.
+/// Whether a note may have this text: at most 131 graphic characters.
 fn is_note_text(text: &[u8]) -> bool
     ensures { result ≡ is_note_text text.now }
 {
@@ -50,7 +49,8 @@ fn is_note_text(text: &[u8]) -> bool
 }
 
 impl NoteText {
-    /// A note's text: None if it is longer than 131 characters, or if one isn't of code page 037.
+    /// The text of a note, from characters of code page 037 (`0x40..=0xFE`). None if there are more than 131,
+    /// or if a byte isn't such a character.
     pub fn new(text: &[u8]) -> Option<NoteText>
         ensures { result ≡ note_text text.now }
     {
@@ -65,7 +65,7 @@ impl NoteText {
         })
     }
 
-    /// Its characters, at most 131.
+    /// The text's characters, at most 131, in code page 037.
     pub fn text(&self) -> &[u8]
         ensures text { result.now ≡ self.now }
         ensures note { IsNoteText self.now }

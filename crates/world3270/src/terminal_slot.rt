@@ -6,10 +6,10 @@ ghost use Rattle.term_core.specs.Feeds.{IsAttached};
 ghost use Rattle.term_core.specs.Presses.{LacksKeyRoom, answer_to_key};
 ghost use Rattle.term_core.specs.Room.{out_room};
 ghost use Rattle.term_core.specs.State.{model_of};
-ghost use Rattle.world3270.specs.ByteSteps.{TrackedFeeds};
-ghost use Rattle.world3270.specs.ByteWorld.{alone, new_slot, attached_slot, is_attached_to};
-ghost use Rattle.world3270.specs.InFlight.{StopsAtOnce, TookByte};
-ghost use Rattle.world3270.specs.TrackedTerminals.{restored_by, tracked_after_key};
+ghost use Rattle.world3270.specs.model.ByteSteps.{TrackedFeeds};
+ghost use Rattle.world3270.specs.model.ByteWorld.{alone, new_slot, attached_slot, is_attached_to};
+ghost use Rattle.world3270.specs.model.InFlight.{StopsAtOnce, TookByte};
+ghost use Rattle.world3270.specs.model.TrackedTerminals.{restored_by, tracked_after_key};
 
 use codes3270::Model;
 use host_core::{Host, Phase};
@@ -21,9 +21,9 @@ use telnet_wire::Memory;
 use term_core::{TermPhase, Terminal};
 use tn3270e_msg::{Fed, Lu, Stop};
 
-/// A terminal, the number of the connection whose end it holds, and its history: the screens just
-/// after and just before it last took a write with restore on its latest connection, and whether
-/// Erase Input was done since.
+/// A terminal, the number of the connection whose end it holds (if it does), and its history: the
+/// screens just after and just before the last write that restored its keyboard on its latest
+/// connection, and whether Erase Input was done since.
 #[derive(Drop)]
 pub(crate) struct TerminalSlot {
     terminal: Terminal,
@@ -34,12 +34,22 @@ pub(crate) struct TerminalSlot {
 }
 
 impl marker::Model for TerminalSlot {
-    ghost use Rattle.world3270.specs.ByteWorld.{TerminalSlot as Slot};
-    ghost use Rattle.world3270.specs.InFlight.{IsSoundSlot};
+    ghost use Rattle.world3270.specs.model.ByteWorld.{TerminalSlot as TerminalSlotValue};
+    ghost use Rattle.world3270.specs.model.InFlight.{IsSoundSlot};
 
-    ghost Value = { Slot };
+    ghost Value = { TerminalSlotValue };
 
-    ghost view = { λ s. record { tracked = record { terminal = s.terminal.terminal; history = record { last_restored = s.last_restored.screen; before_restored = s.before_restored.screen; erased = s.erased } }; at = s.at } };
+    ghost view = { λ s. record {
+      tracked = record {
+        terminal = s.terminal.terminal;
+        history = record {
+          last_restored = s.last_restored.screen;
+          before_restored = s.before_restored.screen;
+          erased = s.erased;
+        };
+      };
+      at = s.at;
+    } };
 
     ghost invariant = { λ s. IsSoundSlot s.at s.terminal };
 }
@@ -66,21 +76,21 @@ impl TerminalSlot {
         &self.terminal
     }
 
-    /// The screen that the terminal held after its last write with restore on its latest connection.
+    /// The screen just after the last write that restored the keyboard, on the latest connection.
     pub(crate) fn last_restored(&self) -> &Screen
         ensures { result.now.screen ≡ self.now.tracked.history.last_restored }
     {
         &self.last_restored
     }
 
-    /// Whether Erase Input was done since then.
+    /// Whether Erase Input was done since the write of `last_restored`.
     pub(crate) fn erased(&self) -> bool
         ensures { result ≡ self.now.tracked.history.erased }
     {
         self.erased
     }
 
-    /// The number of the connection whose end it holds.
+    /// The number of the connection whose end the terminal holds, if it holds one.
     pub(crate) fn at(&self) -> Option<usize>
         ensures at { result ≡ self.now.at }
         ensures number { IfSome result (λ at. at < most_connections) }
@@ -88,7 +98,7 @@ impl TerminalSlot {
         self.at
     }
 
-    /// Whether it holds an end of this connection.
+    /// Whether the terminal holds the end of this connection.
     pub(crate) fn is_at(&self, conn: usize) -> bool
         ensures { result ≡ is_attached_to conn self.now.at }
     {
@@ -98,7 +108,7 @@ impl TerminalSlot {
         }
     }
 
-    /// What it has to send.
+    /// The bytes that the terminal has to send.
     pub(crate) fn out(&self) -> &[u8]
         ensures { result.now ≡ self.now.tracked.terminal.out }
     {
@@ -108,15 +118,20 @@ impl TerminalSlot {
     /// The first `count` bytes of `out` are sent, and dropped.
     pub(crate) fn sent(&mut self, count: usize)
         requires { count ≤ length self.old.tracked.terminal.out }
-        ensures { self.new ≡ record self.old { tracked = record self.old.tracked { terminal = record self.old.tracked.terminal { out = drop count self.old.tracked.terminal.out } } } }
+        ensures { self.new ≡ record self.old {
+          tracked = record self.old.tracked {
+            terminal = record self.old.tracked.terminal { out = drop count self.old.tracked.terminal.out };
+          };
+        } }
     {
         self.terminal.sent(count);
     }
 
-    /// Presses a key; an Erase Input that is done is remembered. Memory is refused only to a key
-    /// that sends, if the room that a terminal makes isn't enough.
+    /// Presses a key, and records an Erase Input that is done. Fails, and changes nothing, if memory is
+    /// refused: only for a key that sends data, if the output buffer's room isn't enough.
     pub(crate) fn press(&mut self, key: Key) -> Result<Pressed, Memory>
-        ensures pressed { OnOk result (self.new ≡ record self.old { tracked = tracked_after_key key self.old.tracked }) }
+        ensures pressed { OnOk result
+            (self.new ≡ record self.old { tracked = tracked_after_key key self.old.tracked }) }
         ensures answer { IfOk result (λ answer. answer ≡ answer_to_key key self.old.tracked.terminal) }
         ensures unchanged { OnErr result (self.new ≡ self.old) }
         ensures full { OnErr result (LacksKeyRoom out_room key self.old.tracked.terminal) }
@@ -128,34 +143,35 @@ impl TerminalSlot {
         Ok(pressed)
     }
 
-    /// Begins a connection, here and at the host. The terminal's room is made first: if memory is
-    /// refused, nothing has changed.
+    /// Begins connection `conn`, here and at the host; the terminal requests the LU `wanted`, if one.
+    /// If memory is refused for its output buffer or by the host, nothing has changed.
     pub(crate) fn attach(
         &mut self,
         host: &mut Host,
-        number: usize,
+        conn: usize,
         wanted: Option<Lu>,
     ) -> Result<(), Memory>
         requires alone { self.old.at ≡ None }
-        requires number { number < most_connections }
-        requires free { phase_of (service_at number host.old) ≡ Phase.Free }
-        ensures attached_slot { OnOk result (self.new ≡ attached_slot (model_of self.old.tracked.terminal) wanted number) }
-        ensures opened { OnOk result (host.new ≡ with_opened number host.old) }
+        requires number { conn < most_connections }
+        requires free { phase_of (service_at conn host.old) ≡ Phase.Free }
+        ensures attached_slot { OnOk result
+            (self.new ≡ attached_slot (model_of self.old.tracked.terminal) wanted conn) }
+        ensures opened { OnOk result (host.new ≡ with_opened conn host.old) }
         ensures unchanged { OnErr result (self.new ≡ self.old) }
         ensures unopened { OnErr result (host.new ≡ host.old) }
     {
         let model = self.model();
         self.terminal.make_room()?;
-        host.open(number)?;
+        host.open(conn)?;
         self.terminal.connected(wanted);
-        self.at = Some(number);
+        self.at = Some(conn);
         self.last_restored = Screen::blank(model);
         self.before_restored = Screen::blank(model);
         self.erased = false;
         Ok(())
     }
 
-    /// Leaves its connection, and hands back what wasn't sent.
+    /// Leaves the connection, and returns the bytes that weren't sent.
     pub(crate) fn leave(&mut self) -> Vec<u8>
         ensures unsent { result.items ≡ self.old.tracked.terminal.out }
         ensures alone { self.new ≡ alone self.old }
@@ -164,7 +180,7 @@ impl TerminalSlot {
         self.terminal.lost()
     }
 
-    /// Its model.
+    /// The terminal's model.
     fn model(&self) -> Model
         ensures { result ≡ model_of self.now.tracked.terminal }
     {
@@ -183,7 +199,7 @@ impl TerminalSlot {
         self.erased = false;
     }
 
-    /// Leaves its connection, hands back what wasn't sent, and restarts.
+    /// Leaves the connection, restarts, and returns the bytes that weren't sent.
     pub(crate) fn leave_anew(&mut self) -> Vec<u8>
         ensures unsent { result.items ≡ self.old.tracked.terminal.out }
         ensures anew { self.new ≡ new_slot (model_of self.old.tracked.terminal) }
@@ -193,7 +209,7 @@ impl TerminalSlot {
         unsent
     }
 
-    /// Why a terminal in this phase takes no bytes, if it takes none.
+    /// Why the terminal takes no bytes in its phase; None if it takes them.
     fn stops(&self) -> Option<Stop>
         ensures { StopsAtOnce result self.now.tracked.terminal.link }
     {
@@ -206,9 +222,14 @@ impl TerminalSlot {
         }
     }
 
-    /// The history after a byte, which found this screen.
+    /// Updates the history after a byte was taken; `before` is the screen before it.
     fn mark(&mut self, before: Screen)
-        ensures { self.new ≡ record self.old { tracked = record self.old.tracked { history = restored_by self.old.tracked.terminal.station.took_write before.screen self.old.tracked.terminal.station.screen.screen self.old.tracked.history } } }
+        ensures { self.new ≡ record self.old {
+          tracked = record self.old.tracked {
+            history = restored_by self.old.tracked.terminal.station.took_write before.screen
+                self.old.tracked.terminal.station.screen.screen self.old.tracked.history;
+          };
+        } }
     {
         if self.terminal.took_write() {
             self.last_restored = copy_of(self.terminal.screen());
@@ -217,7 +238,7 @@ impl TerminalSlot {
         }
     }
 
-    /// Takes a byte, and answers what stops the terminal then, if something does.
+    /// Takes a byte, and returns what stops the terminal then, or `Going`.
     fn feed_byte(&mut self, byte: u8) -> Stop
         requires attached { IsAttached self.old.tracked.terminal.link }
         ensures took { TookByte result self.old.tracked byte self.new.tracked }

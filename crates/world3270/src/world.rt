@@ -1,18 +1,18 @@
-//! The world, of which the headline holds after every event.
+//! The world: a host, connections and terminals, with the headline as a contract of every event.
 ghost use Rattle.std.specs.Prelude.{◌≡◌, ◌<◌, length, IfOk};
 ghost use Rattle.host_core.specs.State.{most_connections};
 ghost use Rattle.host_core.specs.declared.terminals.Terminals.TheVariants.{Waiting};
-ghost use Rattle.world3270.specs.Asked.{WhatIsAskedIsSeen};
-ghost use Rattle.world3270.specs.ByteRuns.{Runs, refused_at};
-ghost use Rattle.world3270.specs.ByteSteps.{Steps};
-ghost use Rattle.world3270.specs.ByteWorld.{IsTerminalCount, down_of, new_byte_world, slot_at, up_of};
-ghost use Rattle.world3270.specs.Headline.{Headline};
-ghost use Rattle.world3270.specs.ProtocolErrors.{HasNoProtocolError, MakeNoProtocolErrors, MakesNoProtocolError};
-ghost use Rattle.world3270.specs.Refines.{IsReached, RunOverMessages, StepOverMessages};
-ghost use Rattle.world3270.specs.ScreensFound.{DecisionsAreShown};
-ghost use Rattle.world3270.specs.SeenBytes.{seen_bytes};
-ghost use Rattle.world3270.specs.Shown.{WhatIsAnsweredIsShown};
-ghost use Rattle.world3270.specs.ShownSince.{AnswersAreShown, PanelsStay};
+ghost use Rattle.world3270.specs.statement.Asked.{WhatIsAskedIsSeen};
+ghost use Rattle.world3270.specs.model.ByteRuns.{Runs, refused_at};
+ghost use Rattle.world3270.specs.model.ByteSteps.{Steps};
+ghost use Rattle.world3270.specs.model.ByteWorld.{IsTerminalCount, down_of, new_byte_world, slot_at, up_of};
+ghost use Rattle.world3270.specs.statement.Headline.{Headline};
+ghost use Rattle.world3270.specs.statement.ProtocolErrors.{HasNoProtocolError, MakeNoProtocolErrors, MakesNoProtocolError};
+ghost use Rattle.world3270.specs.refinement.Refines.{IsReached, RunOverMessages, StepOverMessages};
+ghost use Rattle.world3270.specs.statement.ScreensFound.{DecisionsAreShown};
+ghost use Rattle.world3270.specs.statement.ByteObservation.{seen_bytes};
+ghost use Rattle.world3270.specs.statement.Shown.{WhatIsAnsweredIsShown};
+ghost use Rattle.world3270.specs.statement.ShownSince.{AnswersAreShown, PanelsStay};
 
 use crate::event::{Event, Ran, Stepped, all_events_are_real, events_are_real};
 use crate::laws::{
@@ -30,18 +30,18 @@ use std::marker::Model;
 use telnet_wire::Memory;
 use term_core::Terminal;
 
-/// A host that serves panels, the connections to it, and terminals. Bytes that an end has to send
-/// are under way until an event delivers them; on a lost connection they may never be delivered.
+/// A host that serves panels, the 64 connections to it, and 1 to 16 terminals. Bytes that an end has to
+/// send are under way until an event delivers them; on a lost connection they may never be delivered.
 ///
-/// Whatever happens to it, the headline holds of it: each call that changes it says so.
+/// The headline (`specs/Headline`) holds of it after each event: each call that changes it says so.
 #[derive(Drop)]
 pub struct World {
     network: Network,
 }
 
 impl Model for World {
-    ghost use Rattle.world3270.specs.ByteWorld.{ByteWorld};
-    ghost use Rattle.world3270.specs.Refines.{IsReached};
+    ghost use Rattle.world3270.specs.model.ByteWorld.{ByteWorld};
+    ghost use Rattle.world3270.specs.refinement.Refines.{IsReached};
 
     ghost Value = { ByteWorld };
 
@@ -50,7 +50,7 @@ impl Model for World {
     ghost invariant = { λ world. IsReached world.network };
 }
 
-/// After how many bytes memory was refused, if it was.
+/// The number of bytes after which memory was refused; None if it wasn't.
 fn refused_at(answer: Stepped) -> Option<usize>
     ensures { result ≡ refused_at answer }
 {
@@ -64,8 +64,8 @@ fn refused_at(answer: Stepped) -> Option<usize>
 }
 
 impl World {
-    /// A new world, with a terminal of each of these models, 1 to 16: nobody holds an LU, and no
-    /// connection was ever used. The host relies on the terminals' wait, as they keep it.
+    /// A new world, with one terminal for each of the 1 to 16 `models`. No LU is held, and no terminal is
+    /// connected. The host serves [`Terminals::Waiting`], as these terminals are. Fails if memory is refused.
     pub fn new(
         alloc: Global,
         panels: PanelSet,
@@ -80,7 +80,8 @@ impl World {
         World::serving(alloc, Terminals::Waiting, panels, pool, models)
     }
 
-    /// The same, with a host that serves these terminals. The world's wait, but the host need not rely on that.
+    /// A new world as by [`World::new`], with a host that serves the terminals `serves`. The world's terminals
+    /// wait in any case, but the host need not rely on it.
     pub fn serving(
         alloc: Global,
         serves: Terminals,
@@ -103,21 +104,21 @@ impl World {
         Ok(world)
     }
 
-    /// The host.
+    /// The host, to read its state.
     pub fn host(&self) -> &Host
         ensures { result.now ≡ self.now.host }
     {
         self.network.host()
     }
 
-    /// How many terminals there are.
+    /// How many terminals there are, 1 to 16.
     pub fn terminals(&self) -> usize
         ensures { result ≡ length self.now.slots }
     {
         self.network.terminals()
     }
 
-    /// A terminal, by its number.
+    /// A terminal, by its number, which must be below [`World::terminals`].
     pub fn terminal(&self, terminal: usize) -> &Terminal
         requires { terminal < length self.now.slots }
         ensures { result.now.terminal ≡ (slot_at terminal self.now).tracked.terminal }
@@ -125,8 +126,8 @@ impl World {
         self.network.terminal(terminal)
     }
 
-    /// The screen that a terminal held after its last write with restore on its latest connection;
-    /// a blank one before the first such write there. Part (d) of the headline speaks of it.
+    /// The screen that a terminal had just after the last write that restored its keyboard, on its latest
+    /// connection; a blank one before the first such write. Part (d) of the headline speaks of it.
     pub fn last_restored(&self, terminal: usize) -> &Screen
         requires { terminal < length self.now.slots }
         ensures { result.now.screen ≡ (slot_at terminal self.now).tracked.history.last_restored }
@@ -134,7 +135,7 @@ impl World {
         self.network.last_restored(terminal)
     }
 
-    /// Whether Erase Input was done at a terminal since then.
+    /// Whether Erase Input was done at a terminal since the write of [`World::last_restored`].
     pub fn erased(&self, terminal: usize) -> bool
         requires { terminal < length self.now.slots }
         ensures { result ≡ (slot_at terminal self.now).tracked.history.erased }
@@ -142,7 +143,7 @@ impl World {
         self.network.erased(terminal)
     }
 
-    /// The bytes under way to the host on a connection.
+    /// The bytes under way to the host on connection `conn`, which must be below 64.
     pub fn queued_up(&self, conn: usize) -> &[u8]
         requires { conn < most_connections }
         ensures { result.now ≡ up_of conn self.now }
@@ -150,7 +151,7 @@ impl World {
         self.network.queued_up(conn)
     }
 
-    /// The bytes under way to the terminal on a connection.
+    /// The bytes under way to the terminal on connection `conn`, which must be below 64.
     pub fn queued_down(&self, conn: usize) -> &[u8]
         requires { conn < most_connections }
         ensures { result.now ≡ down_of conn self.now }
@@ -158,88 +159,84 @@ impl World {
         self.network.queued_down(conn)
     }
 
-    /// Law: the headline holds of this world, whatever happened to it.
+    /// Law: the headline holds of this world, after any events.
     pub fn headline_holds(&self)
         ensures { Headline (seen_bytes self.now) }
     {
-        // For the contract: the world is reached.
+        // For the contract: by the invariant, a list of events leads to this world.
         let _network = &self.network;
         bytes_follow_messages();
     }
 
-    /// Law: what the application is asked is what the operator sees, whatever happened to this world.
-    /// A question that [`Host::question`] answers has the key that the operator pressed, the LU that
-    /// the terminal is bound to, the cursor of its screen, and for each field of the panel the text
-    /// that this screen shows in that field, nulls removed: the field is there, at its place and with
-    /// its length. What is protected on the screen is as the host's last restoring write left it, but
-    /// for the row of messages; so it is of each attached terminal, unless Clear was pressed last.
+    /// Law: the application is asked what the operator sees, after any events. A question that [`Host::question`]
+    /// returns has the key that the operator pressed, the LU that the terminal is bound to, the cursor address, and for
+    /// each field of the panel the text that the screen shows in that field, nulls removed: the field is there, at its
+    /// address and with its length. The protected part of the screen is as the host's last restoring write left it, but
+    /// for the row of messages. This part holds of each attached terminal, unless Clear was pressed last.
     pub fn what_is_asked_is_seen(&self)
         ensures { WhatIsAskedIsSeen self.now }
     {
-        // For the contract: the world is reached.
+        // For the contract: by the invariant, a list of events leads to this world.
         let _network = &self.network;
         what_is_asked_is_seen();
     }
 
-    /// Law: what is answered is shown, whatever happened to this world. If a panel was shown on a
-    /// connection and its paint is answered, the screen that the host left on the terminal is a wanted
-    /// screen of the connection's panel, with the connection's values and message; `Showing` says what
-    /// is wanted. Each field of the panel is on it, at its place and with its length: with the panel's
-    /// attribute and with the value or the fill that the host has for it, cut to its length or with
-    /// nulls behind; or, if the panel is shown again and fields are kept, with the attribute and the
-    /// text that were on the screen when the paint came, and that text without nulls is the host's
-    /// value (`ShownFields`). What the paint found is the subject of [`World::decisions_are_shown`].
+    /// Law: a panel whose paint is answered is on the screen, after any events. If a panel was shown on a connection
+    /// and its paint is answered, the screen that the host left on the terminal is a wanted screen of the connection's
+    /// panel, with the connection's values and message (`specs/Showing`). Each field of the panel is on it, at its
+    /// address and with its length. A field that was written has the panel's attribute, and the host's value or fill,
+    /// cut to its length or filled up with nulls. A field that was kept, if the panel is shown again, has the attribute
+    /// and the text that were on the screen when the paint arrived, and that text without nulls is the host's value
+    /// (`specs/ShownFields`). [`World::decisions_are_shown`] says which screen the paint found.
     pub fn what_is_answered_is_shown(&self)
         ensures { WhatIsAnsweredIsShown self.now }
     {
-        // For the contract: the world is reached.
+        // For the contract: by the invariant, a list of events leads to this world.
         let _network = &self.network;
         what_is_answered_is_shown();
     }
 
-    /// Law: an answer is shown until the host decides again, whatever happened to this world. If an
-    /// answer was taken and the host has decided nothing on that connection since, then its panel,
-    /// values, message and field for the cursor are those of the answer; and once the paint is
-    /// answered, the screen that the host left on the terminal shows them.
+    /// Law: an application's answer is shown until the host decides again, after any events. If an answer
+    /// was taken and the host has decided nothing on that connection since, the connection's panel,
+    /// values, message and cursor field are those of the answer; and after the paint is answered, the
+    /// screen that the host left on the terminal shows them.
     pub fn answers_are_shown(&self)
         ensures { AnswersAreShown self.now }
     {
         what_is_shown_stays();
     }
 
-    /// Law: what the host decides to show is shown over the screen that it decided on, whatever
-    /// happened to this world. If the host decided to show a panel on a connection, by itself or by an
-    /// answer, and has decided nothing there since: once the paint is answered, the terminal is the one
-    /// that was there at the decision, and a field that is kept has the attribute and the text that
-    /// this terminal's screen had in it then, cell by cell.
+    /// Law: a panel is painted over the screen on which the host decided to show it, after any events. If the host
+    /// decided to show a panel on a connection, by itself or by an application's answer, and has decided nothing there
+    /// since: after the paint is answered, the terminal is the one that was there at the decision, and a field that is
+    /// kept has, cell by cell, the attribute and the text that this terminal's screen had in it at the decision.
     pub fn decisions_are_shown(&self)
         ensures { DecisionsAreShown self.now }
     {
         what_is_shown_stays();
     }
 
-    /// Law: there is no protocol error in this world, whatever happened to it. Neither end of a
-    /// connection has closed it by a cause; no negative response is under way; and none has come to
-    /// the host, which would then know nothing of the screen.
+    /// Law: there is no protocol error in this world, after any events. Neither end has closed a connection for a
+    /// cause; no negative response is under way; and none is the reason why the host has the turn.
     pub fn has_no_protocol_error(&self)
         ensures { HasNoProtocolError self.now }
     {
-        // For the contract: the world is reached.
+        // For the contract: by the invariant, a list of events leads to this world.
         let _network = &self.network;
         no_protocol_errors();
     }
 
-    /// Law: the bytes of this world represent a world over messages, to which some list of events
-    /// leads. The laws of [`bytes_follow_messages`] apply to it.
+    /// Law: the bytes of this world represent a world over messages to which some list of events leads.
+    /// The laws of [`bytes_follow_messages`] apply to it.
     pub fn represents_messages(&self)
         ensures { IsReached self.now }
     {
-        // For the contract: the world is reached.
+        // For the contract: by the invariant, a list of events leads to this world.
         let _network = &self.network;
     }
 
-    /// An event happens, or is skipped; the bytes represent a world over messages before it and
-    /// after it.
+    /// An event happens, or is skipped if it can't happen. The bytes represent a world over messages
+    /// before it and after it.
     fn happen(&mut self, event: &Event) -> Stepped
         ensures steps { Steps event.now self.old result self.new }
         ensures messages { StepOverMessages event.now self.old result self.new }
@@ -251,7 +248,7 @@ impl World {
         self.network.happen(event)
     }
 
-    /// An event happens, or is skipped if it can't happen.
+    /// An event happens, or is skipped if it can't happen. All laws of this type hold of the new world.
     pub fn step(&mut self, event: Event) -> Stepped
         ensures steps { Steps event self.old result self.new }
         ensures messages { StepOverMessages event self.old result self.new }
@@ -276,7 +273,8 @@ impl World {
         stepped
     }
 
-    /// Events happen one after another, up to the first for which memory is refused.
+    /// Events happen one after another, up to the first for which memory is refused. All laws of this
+    /// type hold of the new world.
     pub fn run(&mut self, events: &[Event]) -> Ran
         ensures runs { Runs events.now self.old result self.new }
         ensures messages { RunOverMessages events.now self.old result self.new }

@@ -1,4 +1,4 @@
-//! A bit for each cell of a screen of any size, in words of 64.
+//! One bit per cell of a screen of any size, in words of 64.
 ghost use Rattle.std.specs.Prelude.{◌≡◌, ◌<◌, ◌≤◌, ◌+◌, ◌*◌, ◌/◌, ℕ, false, true, nat_eq, nat_lt, if◌then◌else◌, MatchOption, IfNone, IfSome};
 ghost use Rattle.codes3270.specs.Size.{most_cells};
 ghost use Rattle.std.specs.Int.{bit_at};
@@ -7,15 +7,14 @@ ghost use Rattle.datastream.specs.CellBits.{bit_of, has_bit, is_within, word_cou
 use codes3270::MOST_CELLS;
 use std::marker::Model;
 
-/// How many bits a word has.
+/// The number of bits in a word.
 const BITS: usize = 64;
 
-/// How many words have a bit for each cell of the largest screen.
+/// The number of words that the cells of the largest screen need.
 const WORDS: usize = (MOST_CELLS + BITS - 1) / BITS;
 
-/// A bit for each cell of a screen, which may have any size: the bits of cells that the screen
-/// doesn't have mean nothing. Contracts see the words: a cell's bit is that of its number modulo 64, in the word of
-/// its number divided by 64.
+/// One bit per cell of a screen of any size. Bits of cells that the screen doesn't have are meaningless. Contracts see
+/// the words: the bit of a cell is that at its address modulo 64, in the word at its address divided by 64.
 #[derive(Clone, Debug, Drop)]
 pub struct CellBits {
     words: [u64; WORDS],
@@ -33,7 +32,7 @@ impl Model for CellBits {
 }
 
 impl CellBits {
-    /// Each bit is set, or none.
+    /// All bits set, or all bits clear.
     pub fn all(bit: bool) -> CellBits
         ensures { (cell : ℕ) → cell < most_cells → has_bit result cell ≡ bit }
     {
@@ -42,7 +41,7 @@ impl CellBits {
         }
     }
 
-    /// The same bits.
+    /// A copy of all bits.
     pub fn copy(&self) -> CellBits
         ensures { result ≡ self.now }
     {
@@ -66,7 +65,7 @@ impl CellBits {
         self.words[cell / BITS] = word;
     }
 
-    /// The first cell from one on whose bit is set, or the screen's number of cells, which is given.
+    /// The first cell from `from` on whose bit is set, or `cells` (the screen's number of cells) if there is none.
     pub fn first_from(&self, from: usize, cells: usize) -> usize
         requires order { from ≤ cells }
         requires few { cells ≤ most_cells }
@@ -85,11 +84,12 @@ impl CellBits {
         cells
     }
 
-    /// The last cell up to one, itself included, whose bit is set.
+    /// The last cell whose bit is set, up to and including `cell`.
     pub fn last_to(&self, cell: usize) -> Option<usize>
         requires { cell < most_cells }
         ensures none { IfNone result ((other : ℕ) → other ≤ cell → has_bit self.now other ≡ false) }
-        ensures last { IfSome result (λ last. (last ≤ cell) × (has_bit self.now last ≡ true) × ((other : ℕ) → last < other → other ≤ cell → has_bit self.now other ≡ false)) }
+        ensures last { IfSome result (λ last. (last ≤ cell) × (has_bit self.now last ≡ true)
+            × ((other : ℕ) → last < other → other ≤ cell → has_bit self.now other ≡ false)) }
     {
         let mut index = cell / BITS;
         let mut word = self.words[index] & some_ones_below(cell % BITS + 1);
@@ -101,12 +101,13 @@ impl CellBits {
         Some(index * BITS + place)
     }
 
-    /// Sets the bits of the cells from one to another, or clears them.
+    /// Sets or clears the bits of the cells from `from` up to `to`, which is excluded.
     #[inline(always)]
     pub fn put_range(&mut self, from: usize, to: usize, bit: bool)
         requires order { from ≤ to }
         requires few { to ≤ most_cells }
-        ensures { (other : ℕ) → has_bit self.new other ≡ (if is_within from to other then bit else has_bit self.old other) }
+        ensures { (other : ℕ)
+            → has_bit self.new other ≡ (if is_within from to other then bit else has_bit self.old other) }
     {
         if from < to {
             let middle = (from / BITS + 1) * BITS;
@@ -120,12 +121,13 @@ impl CellBits {
         }
     }
 
-    /// The same of cells whose bits are all in one word.
+    /// Sets or clears the bits of a range of cells that lies in one word.
     fn put_in_word(&mut self, from: usize, to: usize, bit: bool)
         requires order { from < to }
         requires few { to ≤ most_cells }
         requires one { to ≤ (from / 64 + 1) * 64 }
-        ensures { (other : ℕ) → has_bit self.new other ≡ (if is_within from to other then bit else has_bit self.old other) }
+        ensures { (other : ℕ)
+            → has_bit self.new other ≡ (if is_within from to other then bit else has_bit self.old other) }
     {
         let index = from / BITS;
         let start = index * BITS;
@@ -133,24 +135,26 @@ impl CellBits {
         self.words[index] = word;
     }
 
-    /// The same of cells whose bits are in two words.
+    /// Sets or clears the bits of a range of cells that lies in two words.
     fn put_in_two_words(&mut self, from: usize, to: usize, bit: bool)
         requires order { (from / 64 + 1) * 64 < to }
         requires few { to ≤ most_cells }
         requires two { to ≤ (from / 64 + 1) * 64 + 64 }
-        ensures { (other : ℕ) → has_bit self.new other ≡ (if is_within from to other then bit else has_bit self.old other) }
+        ensures { (other : ℕ)
+            → has_bit self.new other ≡ (if is_within from to other then bit else has_bit self.old other) }
     {
         let middle = (from / BITS + 1) * BITS;
         self.put_in_word(from, middle, bit);
         self.put_in_word(middle, to, bit);
     }
 
-    /// The same of cells whose bits are in any words.
+    /// Sets or clears the bits of a range of cells that lies in any number of words.
     #[inline(never)]
     fn put_in_words(&mut self, from: usize, to: usize, bit: bool)
         requires order { from ≤ to }
         requires few { to ≤ most_cells }
-        ensures { (other : ℕ) → has_bit self.new other ≡ (if is_within from to other then bit else has_bit self.old other) }
+        ensures { (other : ℕ)
+            → has_bit self.new other ≡ (if is_within from to other then bit else has_bit self.old other) }
     {
         for index in from / BITS..(to + BITS - 1) / BITS {
             let start = index * BITS;
@@ -161,7 +165,7 @@ impl CellBits {
         }
     }
 
-    /// The bits of 64 cells, the lowest that of the first.
+    /// The bits of the 64 cells from `64 * index` on, the lowest bit first.
     #[tactic(auto, using(crate::proofs::Keeping::word_bits))]
     pub fn word(&self, index: usize) -> u64
         requires { index < word_count }
@@ -171,18 +175,19 @@ impl CellBits {
     }
 }
 
-/// A word with the bits from one place to another set or cleared.
+/// A word with the bits from one place up to another, excluded, set or cleared.
 fn with_bits(word: u64, from: usize, to: usize, bit: bool) -> u64
     requires from { from < 64 }
     requires some { 0 < to }
     requires to { to ≤ 64 }
-    ensures { (other : ℕ) → other < 64 → bit_at result other ≡ (if is_within from to other then bit_of bit else bit_at word other) }
+    ensures { (other : ℕ) → other < 64
+        → bit_at result other ≡ (if is_within from to other then bit_of bit else bit_at word other) }
 {
     let ones = ones_between(from, to);
     if bit { word | ones } else { word & !ones }
 }
 
-/// A word whose bits from one place to another are set.
+/// A word with just the bits from one place up to another, excluded, set.
 fn ones_between(from: usize, to: usize) -> u64
     requires from { from < 64 }
     requires some { 0 < to }
@@ -192,7 +197,7 @@ fn ones_between(from: usize, to: usize) -> u64
     some_ones_below(to) & !ones_below(from)
 }
 
-/// A word whose bits below a place are set, at least one.
+/// A word with just the bits below a place set. The place is in 1..=64.
 fn some_ones_below(place: usize) -> u64
     requires some { 0 < place }
     requires few { place ≤ 64 }
@@ -201,7 +206,7 @@ fn some_ones_below(place: usize) -> u64
     u64::MAX >> (BITS - place)
 }
 
-/// A word whose bits below a place are set, but never all.
+/// A word with just the bits below a place set. The place is in 0..=63.
 fn ones_below(place: usize) -> u64
     requires { place < 64 }
     ensures { (other : ℕ) → other < 64 → bit_at result other ≡ bit_of (nat_lt other place) }
@@ -209,7 +214,7 @@ fn ones_below(place: usize) -> u64
     u64::MAX >> 1 >> (BITS - 1 - place)
 }
 
-/// How many words have the bits of this many cells. The last one may have bits of no cell.
+/// The number of words that this many cells need. The last word may have bits of no cell.
 fn words_of(cells: usize) -> usize
     requires { cells ≤ most_cells }
     ensures { result ≡ (cells + 63) / 64 }
@@ -217,7 +222,7 @@ fn words_of(cells: usize) -> usize
     (cells + BITS - 1) / BITS
 }
 
-/// A cell, or the number of cells if that is less.
+/// The smaller of a cell's address and the number of cells.
 fn within(cell: usize, cells: usize) -> usize
     ensures least { result ≤ cells }
     ensures same { result < cells → result ≡ cell }
@@ -226,10 +231,12 @@ fn within(cell: usize, cells: usize) -> usize
     if cell < cells { cell } else { cells }
 }
 
-/// The first place from one on at which a word's bit is set.
+/// The lowest place from `from` on at which a word's bit is set.
 fn first_in(word: u64, from: usize) -> Option<usize>
     requires { from < 64 }
-    ensures { MatchOption result ((place : ℕ) → from ≤ place → place < 64 → bit_at word place ≡ 0) (λ first. (from ≤ first) × (first < 64) × (bit_at word first ≡ 1) × ((place : ℕ) → from ≤ place → place < first → bit_at word place ≡ 0)) }
+    ensures { MatchOption result ((place : ℕ) → from ≤ place → place < 64 → bit_at word place ≡ 0)
+        (λ first. (from ≤ first) × (first < 64) × (bit_at word first ≡ 1)
+        × ((place : ℕ) → from ≤ place → place < first → bit_at word place ≡ 0)) }
 {
     let rest = word >> from;
     if rest == 0 {
@@ -239,9 +246,10 @@ fn first_in(word: u64, from: usize) -> Option<usize>
     }
 }
 
-/// The last place at which a word's bit is set.
+/// The highest place at which a word's bit is set.
 fn last_in(word: u64) -> Option<usize>
-    ensures { MatchOption result (word ≡ 0) (λ last. (last < 64) × (bit_at word last ≡ 1) × ((place : ℕ) → last < place → place < 64 → bit_at word place ≡ 0)) }
+    ensures { MatchOption result (word ≡ 0) (λ last. (last < 64) × (bit_at word last ≡ 1)
+        × ((place : ℕ) → last < place → place < 64 → bit_at word place ≡ 0)) }
 {
     if word == 0 {
         None
@@ -260,7 +268,8 @@ fn word_of(bit: bool) -> u64
 /// A word with a bit set or cleared.
 fn with_bit(word: u64, place: usize, bit: bool) -> u64
     requires { place < 64 }
-    ensures { (other : ℕ) → other < 64 → bit_at result other ≡ (if nat_eq other place then bit_of bit else bit_at word other) }
+    ensures { (other : ℕ) → other < 64
+        → bit_at result other ≡ (if nat_eq other place then bit_of bit else bit_at word other) }
 {
     if bit {
         word | 1 << place

@@ -7,7 +7,7 @@ ghost use Rattle.datastream.specs.Screen.{attribute_in, is_char, is_open_attribu
 use codes3270::{Attr, Cell, attr_code};
 use std::marker::Model;
 
-/// What a cell of the screen has, in two bytes. Contracts see the cell.
+/// A screen's cell in two bytes. Contracts see the cell.
 #[derive(Clone, Copy, Debug, PartialEq, Eq)]
 pub struct PackedCell {
     /// The code of its character, or that which its attribute is written as.
@@ -31,8 +31,10 @@ impl Model for PackedCell {
     ghost inverse = { λ cell. record { code = code_in cell; is_attribute = not (is_char cell) } };
 
     ghost inverse_ok = { λ packed coded.
-        ap (λ (code : ℕ). record { code = code; is_attribute = not (is_char (cell_of packed.is_attribute packed.code)) }) coded
-        ∙ ap (λ (is : Bool). record { code = packed.code; is_attribute = is }) (has_attribute packed.is_attribute packed.code) };
+        ap (λ (code : ℕ).
+        record { code = code; is_attribute = not (is_char (cell_of packed.is_attribute packed.code)) }) coded
+        ∙ ap (λ (is : Bool). record { code = packed.code; is_attribute = is })
+        (has_attribute packed.is_attribute packed.code) };
 }
 
 impl PackedCell {
@@ -46,7 +48,7 @@ impl PackedCell {
         }
     }
 
-    /// A cell with what is given.
+    /// A packed copy of a cell.
     pub fn new(cell: Cell) -> PackedCell
         ensures { result ≡ cell }
     {
@@ -59,7 +61,7 @@ impl PackedCell {
         }
     }
 
-    /// What it has.
+    /// The cell.
     pub fn get(self) -> Cell
         ensures { result ≡ self }
     {
@@ -77,21 +79,21 @@ impl PackedCell {
         self.code
     }
 
-    /// Its attribute.
+    /// Its attribute, or `None` if it has a character.
     pub fn attribute(self) -> Option<Attr>
         ensures { result ≡ attribute_in self }
     {
         self.get().attribute()
     }
 
-    /// Whether it has a character.
+    /// Whether the cell has a character, not an attribute.
     pub fn is_character(self) -> bool
         ensures { result ≡ is_char self }
     {
         self.get().is_character()
     }
 
-    /// Whether it has the attribute of an unprotected field.
+    /// Whether the cell has the attribute of an unprotected field.
     pub fn is_unprotected_attribute(self) -> bool
         ensures { result ≡ is_open_attribute self }
     {

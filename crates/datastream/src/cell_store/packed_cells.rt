@@ -1,4 +1,4 @@
-//! The cells of a screen, in a byte and a bit each.
+//! The cells of a screen, stored as a byte and a bit each.
 ghost use Rattle.std.specs.Prelude.{◌≡◌, ◌<◌, ◌≤◌, ◌+◌, ◌-◌, ◌++◌, ℕ, false, true, not, nat_eq, if◌then◌else◌, length, replicate, take, drop, slice_index_or, slice_set, IfNone, IfSome};
 ghost use Rattle.codes3270.specs.Size.{cells_in, most_cells};
 ghost use Rattle.codes3270.specs.Attribute.{attr_of};
@@ -11,12 +11,12 @@ use super::packed_cell::PackedCell;
 use codes3270::{Attr, Cell, MOST_CELLS, Size};
 use std::marker::Model;
 
-/// The cells of a screen, which may have any size: a code for each, and a bit that is set if the code is an
-/// attribute's. Whoever has cells of which there is more to know keeps that beside them. Contracts see the size,
-/// the codes of the cells that the screen has, and the bits.
+/// The cells of a screen of any size: a code per cell, and a bit that is set if the code is an attribute's.
+/// Anything else to be known of the cells is stored beside it. Contracts see the size, the codes of the
+/// cells that the screen has, and the bits.
 #[derive(Clone, Debug, Drop)]
 pub struct PackedCells {
-    /// There is room for the largest screen.
+    /// It has room for the largest screen.
     codes: [u8; MOST_CELLS],
     attributes: CellBits,
     size: Size,
@@ -29,7 +29,8 @@ impl Model for PackedCells {
 
     ghost Value = { Packed };
 
-    ghost view = { λ cells. record { size = cells.size; codes = take (cells_in cells.size) cells.codes; attributes = cells.attributes } };
+    ghost view = { λ cells.
+        record { size = cells.size; codes = take (cells_in cells.size) cells.codes; attributes = cells.attributes } };
 
     ghost invariant = { λ cells. (length cells.codes ≡ most_cells) × (cells_in cells.size ≤ most_cells) };
 }
@@ -40,7 +41,7 @@ fn same_codes(code: u8) -> [u8; MOST_CELLS]
     [code; MOST_CELLS]
 }
 
-/// Puts codes from an index on. One code is stored, which is then cheaper than a copy.
+/// Stores codes from an index on. A single code is stored directly, which is cheaper than a copy.
 fn put_in(codes: &mut [u8], from: usize, text: &[u8])
     requires { from + length text.now ≤ length codes.old }
     ensures { codes.new ≡ take from codes.old ++ (text.now ++ drop (from + length text.now) codes.old) }
@@ -52,7 +53,7 @@ fn put_in(codes: &mut [u8], from: usize, text: &[u8])
     }
 }
 
-/// Puts nulls from an index to another.
+/// Stores nulls from an index up to another, which is excluded.
 fn put_nulls_in(codes: &mut [u8], from: usize, to: usize)
     requires order { from ≤ to }
     requires few { to ≤ length codes.old }
@@ -62,7 +63,7 @@ fn put_nulls_in(codes: &mut [u8], from: usize, to: usize)
 }
 
 impl PackedCells {
-    /// The same in each cell of a screen of this size.
+    /// A screen of this size with this cell at each address.
     pub fn filled(cell: PackedCell, size: Size) -> PackedCells
         ensures size { result.size ≡ size }
         ensures codes { result.codes ≡ replicate (cells_in size) (code_in cell) }
@@ -97,7 +98,7 @@ impl PackedCells {
         usize::from(self.size.cells())
     }
 
-    /// What the cell with an address has.
+    /// The cell at an address.
     pub fn get(&self, at: usize) -> Cell
         requires { at < cells_in self.now.size }
         ensures { result ≡ cell_of (has_bit self.now.attributes at) (slice_index_or self.now.codes at 0) }
@@ -110,18 +111,19 @@ impl PackedCells {
         }
     }
 
-    /// Stores a cell.
+    /// Stores a cell at an address.
     pub fn set(&mut self, at: usize, cell: PackedCell)
         requires { at < cells_in self.old.size }
         ensures size { self.new.size ≡ self.old.size }
         ensures codes { self.new.codes ≡ slice_set self.old.codes at (code_in cell) }
-        ensures attributes { (other : ℕ) → has_bit self.new.attributes other ≡ (if nat_eq other at then not (is_char cell) else has_bit self.old.attributes other) }
+        ensures attributes { (other : ℕ) → has_bit self.new.attributes other
+            ≡ (if nat_eq other at then not (is_char cell) else has_bit self.old.attributes other) }
     {
         self.codes[at] = cell.code();
         self.attributes.put(at, !cell.is_character());
     }
 
-    /// The codes of all cells, by address.
+    /// The codes of all cells, in the order of their addresses.
     pub fn codes(&self) -> &[u8]
         ensures codes { result.now ≡ self.now.codes }
         ensures cells { length self.now.codes ≡ cells_in self.now.size }
@@ -130,7 +132,7 @@ impl PackedCells {
         &self.codes[..cells]
     }
 
-    /// A bit for each of 64 cells, set where an attribute is.
+    /// The bits of the 64 cells from `64 * index` on, the lowest bit first, set if the cell has an attribute.
     pub fn attribute_word(&self, index: usize) -> u64
         requires { index < word_count }
         ensures { AreBits most_cells (has_bit self.now.attributes) index result }
@@ -138,7 +140,7 @@ impl PackedCells {
         self.attributes.word(index)
     }
 
-    /// The first attribute from an address on, or the number of cells.
+    /// The address of the first attribute from an address on, or the number of cells if there is none.
     pub fn attribute_from(&self, from: usize) -> usize
         requires { from ≤ cells_in self.now.size }
         ensures from { from ≤ result }
@@ -150,18 +152,19 @@ impl PackedCells {
             .first_from(from, usize::from(self.size.cells()))
     }
 
-    /// The last attribute up to an address, itself included.
+    /// The address of the last attribute up to and including an address.
     pub fn attribute_to(&self, at: usize) -> Option<usize>
         requires { at < cells_in self.now.size }
         ensures none { IfNone result ((other : ℕ) → other ≤ at → has_bit self.now.attributes other ≡ false) }
-        ensures last { IfSome result (λ last. (last ≤ at) × (has_bit self.now.attributes last ≡ true) × ((other : ℕ) → last < other → other ≤ at → has_bit self.now.attributes other ≡ false)) }
+        ensures last { IfSome result (λ last. (last ≤ at) × (has_bit self.now.attributes last ≡ true)
+            × ((other : ℕ) → last < other → other ≤ at → has_bit self.now.attributes other ≡ false)) }
     {
         // For the contract: there is room for the screen.
         let _cells = self.len();
         self.attributes.last_to(at)
     }
 
-    /// The attribute at an address where one is.
+    /// The attribute at an address. The cell there must have one.
     pub fn attribute_at(&self, at: usize) -> Attr
         requires placed { at < cells_in self.now.size }
         requires attribute { has_bit self.now.attributes at ≡ true }
@@ -170,11 +173,13 @@ impl PackedCells {
         Attr::from_code(self.codes[at])
     }
 
-    /// Puts the codes of characters in cells that have characters, from an address on.
+    /// Stores characters from an address on, up to the last cell at most, in cells that must have characters already.
     #[tactic(auto, using(crate::proofs::Splices::taken_between))]
     pub fn put_characters(&mut self, from: usize, text: &[u8])
         requires { from + length text.now ≤ cells_in self.old.size }
-        ensures { self.new ≡ record self.old { codes = take from self.old.codes ++ (text.now ++ drop (from + length text.now) self.old.codes) } }
+        ensures { self.new ≡ record self.old {
+          codes = take from self.old.codes ++ (text.now ++ drop (from + length text.now) self.old.codes);
+        } }
     {
         put_in(self.codes.as_mut_slice(), from, text);
     }
@@ -184,8 +189,10 @@ impl PackedCells {
     pub fn store_characters(&mut self, from: usize, text: &[u8])
         requires { from + length text.now ≤ cells_in self.old.size }
         ensures size { self.new.size ≡ self.old.size }
-        ensures codes { self.new.codes ≡ take from self.old.codes ++ (text.now ++ drop (from + length text.now) self.old.codes) }
-        ensures attributes { (other : ℕ) → has_bit self.new.attributes other ≡ (if is_within from (from + length text.now) other then false else has_bit self.old.attributes other) }
+        ensures codes { self.new.codes ≡ take from self.old.codes
+            ++ (text.now ++ drop (from + length text.now) self.old.codes) }
+        ensures attributes { (other : ℕ) → has_bit self.new.attributes other
+            ≡ (if is_within from (from + length text.now) other then false else has_bit self.old.attributes other) }
     {
         // For the contract: there is room for the screen.
         let _cells = self.len();
@@ -194,17 +201,19 @@ impl PackedCells {
         self.attributes.put_range(from, to, false);
     }
 
-    /// Puts nulls in cells that have characters, from an address to another.
+    /// Stores nulls from an address up to another, excluded, in cells that must have characters already.
     #[tactic(auto, using(crate::proofs::Splices::nulls_between))]
     pub fn put_nulls(&mut self, from: usize, to: usize)
         requires order { from ≤ to }
         requires few { to ≤ cells_in self.old.size }
-        ensures { self.new ≡ record self.old { codes = take from self.old.codes ++ (replicate (to - from) 0 ++ drop to self.old.codes) } }
+        ensures { self.new ≡ record self.old {
+          codes = take from self.old.codes ++ (replicate (to - from) 0 ++ drop to self.old.codes);
+        } }
     {
         put_nulls_in(self.codes.as_mut_slice(), from, to);
     }
 
-    /// A null in each cell of a screen of this size.
+    /// Sets the size, and stores a null in each cell.
     pub fn clear(&mut self, size: Size)
         ensures size { self.new.size ≡ size }
         ensures codes { self.new.codes ≡ replicate (cells_in size) 0 }

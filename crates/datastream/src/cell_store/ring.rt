@@ -1,20 +1,20 @@
-//! Walks over the cells of a screen, round the end.
+//! Iteration over the cells of a screen, wrapping round at the end.
 ghost use Rattle.std.specs.Prelude.{◌≡◌, ◌<◌, ◌≤◌, ◌+◌, ◌*◌, ◌++◌, length, drop};
 ghost use Rattle.codes3270.specs.Size.{most_cells};
 
 use std::marker::Model;
 
-/// What has something for each cell of a screen, which may have any size.
+/// Something that has a value for each cell of a screen of any size.
 pub trait HasCells {
     ghost use Rattle.std.specs.Prelude.{◌≡◌, ◌<◌, ◌≤◌, List, length, slice_index_or};
     ghost use Rattle.codes3270.specs.Size.{most_cells};
 
-    /// What it has for each cell.
+    /// The value that it has for each cell.
     type Cell;
 
     ghost cells: { Self → List Self.Cell };
 
-    /// What it has for the cell with an address.
+    /// The value for the cell at an address.
     fn cell_at(&self, at: usize) -> Self::Cell
         requires { at < length (cells self.now) }
         ensures { result ≡ slice_index_or (cells self.now) at result };
@@ -25,7 +25,7 @@ pub trait HasCells {
         ensures few { result ≤ most_cells };
 }
 
-/// The cells that are left of a walk, which may go on round the end. Contracts see their list.
+/// An iterator over the values of a screen's cells, which can wrap round at the end. Contracts see those that remain.
 #[derive(Drop)]
 pub struct Ring<'a, C: HasCells> {
     holder: &'a C,
@@ -46,7 +46,7 @@ impl<'a, C: HasCells> Model for Ring<'a, C> {
 }
 
 impl<'a, C: HasCells> Ring<'a, C> {
-    /// All cells, by address.
+    /// The values of all cells, in the order of their addresses.
     pub fn all(holder: &'a C) -> Ring<'a, C>
         ensures { result ≡ C.cells holder.now }
     {
@@ -58,7 +58,7 @@ impl<'a, C: HasCells> Ring<'a, C> {
         }
     }
 
-    /// The cells behind an address, and then all cells.
+    /// The values of the cells after an address up to the last cell, then those of all cells.
     pub fn ahead(holder: &'a C, at: usize) -> Ring<'a, C>
         requires { at < length (C.cells holder.now) }
         ensures cells { result ≡ drop (at + 1) (C.cells holder.now) ++ C.cells holder.now }

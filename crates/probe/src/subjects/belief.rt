@@ -100,7 +100,7 @@ impl Subject for Painter<Shadow> {
     }
 }
 
-/// The same commands on the belief of reference, of a screen of 24 by 80.
+/// The commands of this file, on the belief of the crate reference, for a screen of 24 by 80.
 impl Subject for Painter<ReferenceBelief> {
     fn take(&mut self, words: &mut Words<'_>, answer: &mut Answer) -> Done {
         match words.word()? {

@@ -31,7 +31,7 @@ pub(crate) fn key(words: &mut Words<'_>) -> Result<Key, Fault> {
     Key::named(words.word()?).ok_or(Fault::Line)
 }
 
-/// The address of a cell; the first one's beyond a screen of this size.
+/// The buffer address of a cell; 0 if it is beyond a screen of this size.
 pub(crate) fn at(place: u16, size: Size) -> Addr
     ensures { result < cells_in size }
 {
@@ -74,7 +74,7 @@ pub(crate) fn put_cells(answer: &mut Answer, screen: &Screen) -> Done {
     Ok(answer.text.push('\n')?)
 }
 
-/// The size of the screen of which something is known; 24 by 80 if nothing is.
+/// The size of the screen of which something is known; 24 by 80 if nothing is known.
 pub(crate) fn size_of(shadow: &Shadow) -> Size
     ensures { IsOfSize (cells_in result) shadow.now }
 {
@@ -84,7 +84,7 @@ pub(crate) fn size_of(shadow: &Shadow) -> Size
     }
 }
 
-/// The address of a cell of the screen of which something is known; the first one's, if it has no such cell.
+/// The address of a cell of the screen of which something is known; 0 if it has no such cell.
 pub(crate) fn cell_at(shadow: &Shadow, place: u16) -> Addr
     ensures { HasCell result shadow.now }
 {

@@ -24,7 +24,7 @@ use world3270::NoteText;
 
 static TERMINALS: [Terminals; 3] = [Terminals::Waiting, Terminals::Any, Terminals::Verified];
 
-/// What a host serves: which terminals, and the panels of a text, one word of bytes.
+/// What a host serves: the kind of terminals, and the panels of a text, which is one word of bytes.
 pub(crate) fn read_service(words: &mut Words<'_>) -> Result<(Terminals, PanelSet, Pool), Fault> {
     let (name, text) = (words.word()?, words.bytes()?);
     let terminals = named(words.alloc, &TERMINALS, name)?;

@@ -1,4 +1,4 @@
-//! The connection of a turn, in memory: what its reads give, and what its writes take.
+//! The connection of a turn, in memory: the results of its reads and its writes.
 ghost use Rattle.std.specs.Prelude.{⊤, ◌≡◌, false, true, slice_index_or};
 ghost use Rattle.host_core.specs.Serves.{ReadCounts, Rises, WriteCounts};
 
@@ -17,9 +17,10 @@ pub(crate) struct Link {
     failures: [u64; 2],
 }
 
-/// Raises the count of a connection, but at its last value. Says whether it did.
+/// Raises the count of a connection, unless it is at its greatest value. Answers whether it did.
 fn raise(counts: &mut [u64; 2], conn: usize) -> bool
-    ensures raised { result ≡ true → Rises conn (λ it. slice_index_or counts.old it 0) (λ it. slice_index_or counts.new it 0) }
+    ensures raised { result ≡ true
+        → Rises conn (λ it. slice_index_or counts.old it 0) (λ it. slice_index_or counts.new it 0) }
     ensures not { result ≡ false → counts.new ≡ counts.old }
 {
     let can = conn < counts.len() && counts[conn] < u64::MAX;
@@ -30,8 +31,8 @@ fn raise(counts: &mut [u64; 2], conn: usize) -> bool
 }
 
 impl Link {
-    /// The connection that the words TAKES GIVES say: how many bytes a write takes, `-` for none this time, or `fails`;
-    /// and the bytes that a read gives, `-` for none this time, `ends` or `fails`.
+    /// The connection that the words TAKES GIVES describe. TAKES is how many bytes a write takes, `-` for none this
+    /// time, or `fails`; GIVES is the bytes that a read returns, `-` for none this time, `ends` or `fails`.
     pub(crate) fn read_from(words: &mut Words<'_>) -> Result<Link, Fault> {
         let write = match words.word()? {
             "fails" => LinkWrite::Failed,

@@ -122,7 +122,7 @@ impl Subject for Display {
     }
 }
 
-/// The same commands on the screen of reference, of 24 by 80, which has no keyboard.
+/// The commands of this file, on the screen of the crate reference, which is 24 by 80 and has no keyboard.
 impl Subject for ReferenceScreen {
     fn take(&mut self, words: &mut Words<'_>, answer: &mut Answer) -> Done {
         match words.word()? {

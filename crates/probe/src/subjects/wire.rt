@@ -1,8 +1,8 @@
 //! Calls of telnet_wire.
 //!
 //! ```text
-//! push BYTES     each byte by `push`: the place, from 1 on, of each that completes an item, or is refused
-//! feed BYTES     the same, but what `push_data` takes is taken at once; `data` calls that alone
+//! push BYTES     each byte by `push`: the 1-based place of each byte that completes an item, or is refused
+//! feed BYTES     as `push`, but bytes that `push_data` takes are taken at once; `data` calls only that
 //! ```
 use crate::subjects::Subject;
 use crate::talk::{Answer, Done, Fault, Put, Words, bytes_of};

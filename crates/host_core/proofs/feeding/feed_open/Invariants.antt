@@ -2,7 +2,7 @@ use Rattle.std.proofs.Common.{◌≡◌, ◌-◌, ◌≤◌, length, take, None}
 use Rattle.std.specs.Vec.{vec_capacity}
 use Rattle.tn3270e_msg.specs.HostTable.{granted}
 use Rattle.host_core.specs.Bytes.{TakesBytes}
-use Rattle.host_core.specs.Keeps.{IsRunning, OthersHold, counter_of}
+use Rattle.host_core.specs.Representation.{IsRunning, OthersHold, connection_and_pool_of}
 use Rattle.host_core.specs.Sound.{HoldsJust}
 use Rattle.host_core.proofs.feeding.feed_open.Given as goal
 
@@ -10,12 +10,12 @@ abbrev pub invariant-loop-taken : goal.invariant-loop-taken
 invariant-loop-taken l = record {
   running : IsRunning l.decoder;
   few : l.taken ≤ length l.bytes;
-  holder : HoldsJust l.number l.pool (granted l.session.talk.state);
-  others : OthersHold l.number l.initial.pool l.pool;
+  holder : HoldsJust l.conn l.pool (granted l.session.talk.state);
+  others : OthersHold l.conn l.initial.pool l.pool;
   capacity : vec_capacity l.initial.out ≤ vec_capacity l.out;
   panel : l.session.panel ≡ l.initial.session.panel;
-  shape : l.session.shape ≡ l.initial.session.shape;
-  taken : TakesBytes l.number (counter_of l.initial.pool l.initial.decoder l.initial.session None l.initial.out l.initial.reports) (take l.taken l.bytes) (counter_of l.pool l.decoder l.session None l.out l.reports);
+  size : l.session.size ≡ l.initial.session.size;
+  taken : TakesBytes l.conn (connection_and_pool_of l.initial.pool l.initial.decoder l.initial.session None l.initial.out l.initial.reports) (take l.taken l.bytes) (connection_and_pool_of l.pool l.decoder l.session None l.out l.reports);
 }
 
 abbrev pub decreases-loop-taken : goal.decreases-loop-taken

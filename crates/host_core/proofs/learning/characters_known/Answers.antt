@@ -1,6 +1,6 @@
 use Rattle.std.proofs.Common.{ap, sym, ◌∙◌}
 use Rattle.datastream.specs.Inbound.{without_nulls}
-use Rattle.shadow.specs.Asked.{field_at}
+use Rattle.shadow.specs.Queries.{field_at}
 use Rattle.host_core.proofs.Knowing.{text_is_known, text_is_characters, text_there}
 use Rattle.host_core.proofs.learning.characters_known.Goals as goal
 

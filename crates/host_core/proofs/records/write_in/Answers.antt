@@ -2,7 +2,7 @@ use Rattle.std.proofs.Common.{◌≡◌, List, ℕ, drop, ap, sym, subst, ◌∙
 use Rattle.codes3270.specs.Size.{Shape}
 use Rattle.datastream.specs.Grammar.{CommandParts, IsCommand}
 use Rattle.shadow.specs.Stores.{is_plain}
-use Rattle.host_core.specs.Keeps.{command_in}
+use Rattle.host_core.specs.Representation.{command_in}
 use Rattle.host_core.proofs.RecordsTaken.{behind}
 use Rattle.host_core.proofs.records.write_in.Goals as goal
 

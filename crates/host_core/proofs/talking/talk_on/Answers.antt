@@ -5,7 +5,7 @@ use Rattle.host_core.proofs.talking.talk_on.Goals as goal
 
 pub ask-answer-requires : goal.ask-answer-requires
 ask-answer-requires c =
-    none_held c.args.number c.args.pool.now (granted c.args.talk.now.state) c.requires.holder
+    none_held c.args.conn c.args.pool.now (granted c.args.talk.now.state) c.requires.holder
     (asks_with_none c.args.talk.now c.take.new.self (item_of c.args.item.now) c.in-AskPool.name c.in-AskPool.ensures)
 
 pub answered-reply-requires : goal.answered-reply-requires
@@ -18,8 +18,8 @@ returns-in-AskPool-clause-taken c =
 
 pub returns-in-AskPool-clause-holds : goal.returns-in-AskPool-clause-holds
 returns-in-AskPool-clause-holds c =
-    unless_closed_then c.args.number c.ask-answer.new.pool c.put_reply.result (granted c.answered-reply.new.self.state)
-    (granted_by_pool c.args.number c.ask-answer.new.pool c.take.new.self c.answered-reply.new.self c.ask-answer.result c.answered-reply.result c.answered-reply.ensures c.ask-answer.ensures.holds)
+    unless_closed_then c.args.conn c.ask-answer.new.pool c.put_reply.result (granted c.answered-reply.new.self.state)
+    (granted_by_pool c.args.conn c.ask-answer.new.pool c.take.new.self c.answered-reply.new.self c.ask-answer.result c.answered-reply.result c.answered-reply.ensures c.ask-answer.ensures.holds)
 
 pub returns-in_default-clause-taken : goal.returns-in_default-clause-taken
 returns-in_default-clause-taken c =
@@ -27,8 +27,8 @@ returns-in_default-clause-taken c =
 
 pub returns-in_default-clause-holds : goal.returns-in_default-clause-holds
 returns-in_default-clause-holds c =
-    holds_unless_closed c.args.number c.args.pool.now c.args.talk.now c.take.new.self (item_of c.args.item.now) c.take.result c.put_reply-in_default.result
+    holds_unless_closed c.args.conn c.args.pool.now c.args.talk.now c.take.new.self (item_of c.args.item.now) c.take.result c.put_reply-in_default.result
     c.in_default.not-AskPool c.take.ensures c.put_reply-in_default.ensures.closes c.requires.holder
 
 pub returns-in_default-clause-others : goal.returns-in_default-clause-others
-returns-in_default-clause-others c = same_others c.args.number c.args.pool.now
+returns-in_default-clause-others c = same_others c.args.conn c.args.pool.now

@@ -1,7 +1,7 @@
 use Rattle.std.proofs.Common.{◌≡◌, ◌<◌, ◌∙◌, refl, ap, sym, subst, ℕ, List, length, Some, arith}
 use Rattle.std.specs.Prelude.{slice_get}
 use Rattle.std.proofs.lemmas.Option.{slice_get-get_or}
-use Rattle.panels.specs.declared.fault.Part.TheVariants.{Panel, Field}
+use Rattle.panels.specs.declared.fault.Location.TheVariants.{Panel, Field}
 use Rattle.panels.specs.Draft.{DraftItem, DraftPanel}
 use Rattle.panels.specs.Index.{IsIndexTo, part_named, noted}
 use Rattle.panels.proofs.Indexing.{panel_step, field_step, panel_over}

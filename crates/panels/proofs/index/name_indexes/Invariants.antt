@@ -1,5 +1,5 @@
 use Rattle.std.proofs.Common.{◌+◌}
-use Rattle.panels.specs.declared.fault.Part.TheVariants.{Panel, Field}
+use Rattle.panels.specs.declared.fault.Location.TheVariants.{Panel, Field}
 use Rattle.panels.specs.Index.{IsIndexTo}
 use Rattle.panels.proofs.index.name_indexes.Given as goal
 

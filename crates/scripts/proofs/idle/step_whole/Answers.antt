@@ -1,5 +1,5 @@
 use Rattle.std.proofs.Common.{ap, is_some}
-use Rattle.world3270.specs.ByteRuns.{refused_at}
+use Rattle.world3270.specs.model.ByteRuns.{refused_at}
 use Rattle.world3270.specs.declared.event.Stepped.{Stepped}
 use Rattle.scripts.proofs.Rounds.{stopped_here}
 use Rattle.scripts.proofs.idle.step_whole.Goals as goal

@@ -1,6 +1,6 @@
 use Rattle.std.proofs.Common.{◌≡◌, ◌++◌}
 use Rattle.shadow.specs.InPlace.{chars_known, known_text}
-use Rattle.shadow.specs.Seen.{differs}
+use Rattle.shadow.specs.AfterReadBuffer.{differs}
 use Rattle.shadow.specs.Since.{places_stored}
 use Rattle.shadow.proofs.buffer.are_others.Given as goal
 

@@ -6,7 +6,7 @@ use Rattle.shadow.proofs.buffer.is_other_text.Goals as goal
 
 pub returns-then-has_text : goal.returns-then-has_text
 returns-then-has_text c =
-    let ps = c.args.places.now in
+    let ps = c.args.beliefs.now in
     let behind : ℕ = c.args.place + 1 in
     let rest = c.args.rest.now in
     let text : List ℕ = c.characters-text.result.now in

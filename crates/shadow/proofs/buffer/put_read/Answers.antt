@@ -14,11 +14,11 @@ loop-cell-init c =
     let text = c.characters.result.now in
     let rest = c.characters.new.self in
     let ps = c.clear.new.self in
-    let new = c.put_run-at.new.places in
+    let new = c.put_run-at.new.beliefs in
     let left = read_left 0 (length ps) text c.args.cells rest c.characters.ensures.characters c.characters.ensures.left (omega (arith, c.requires, c.clear.ensures.size)) in
     record {
       read = ap (λ (n : ℕ). take n new ++ places_stored rest) c.put_run-at.ensures.behind
-          ∙ ap (λ (qs : List CellBelief). take (0 + length text) qs ++ places_stored rest) c.put_run-at.ensures.places
+          ∙ ap (λ (qs : List CellBelief). take (0 + length text) qs ++ places_stored rest) c.put_run-at.ensures.beliefs
           ∙ sym (run_read ps 0 text c.args.cells rest c.characters.ensures.characters c.characters.ensures.left left.1);
       each = omega (arith, left.0, c.put_run-at.ensures.behind, c.put_run-at.ensures.size);
       size = c.put_run-at.ensures.size ∙ c.clear.ensures.size;
@@ -39,15 +39,15 @@ loop-cell-preserved c =
     let text = c.characters-in-Some.result.now in
     let rest = c.characters-in-Some.new.self in
     let ps = c.set.new.self in
-    let new = c.put_run-at-in-Some.new.places in
+    let new = c.put_run-at-in-Some.new.beliefs in
     let left = read_left (at + 1) (length ps) text c.next.new.self rest c.characters-in-Some.ensures.characters c.characters-in-Some.ensures.left (omega (arith, more, before.each, c.set.ensures.size)) in
     record {
       read = ap (λ (n : ℕ). take n new ++ places_stored rest) c.put_run-at-in-Some.ensures.behind
-          ∙ ap (λ (qs : List CellBelief). take (at + 1 + length text) qs ++ places_stored rest) c.put_run-at-in-Some.ensures.places
+          ∙ ap (λ (qs : List CellBelief). take (at + 1 + length text) qs ++ places_stored rest) c.put_run-at-in-Some.ensures.beliefs
           ∙ sym (run_read ps (at + 1) text c.next.new.self rest c.characters-in-Some.ensures.characters c.characters-in-Some.ensures.left left.1)
-          ∙ ap (λ (qs : List CellBelief). take (at + 1) qs ++ places_stored c.next.new.self) (c.set.ensures.places ∙ ap (set c.loop-cell.places at) c.place_of.ensures)
-          ∙ sym (read_more c.loop-cell.places at cell c.next.new.self (omega (arith, more, before.each)))
-          ∙ ap (λ (cs : List _). take at c.loop-cell.places ++ places_stored cs) (sym c.in-Some.ensures.steps)
+          ∙ ap (λ (qs : List CellBelief). take (at + 1) qs ++ places_stored c.next.new.self) (c.set.ensures.beliefs ∙ ap (set c.loop-cell.beliefs at) c.place_of.ensures)
+          ∙ sym (read_more c.loop-cell.beliefs at cell c.next.new.self (omega (arith, more, before.each)))
+          ∙ ap (λ (cs : List _). take at c.loop-cell.beliefs ++ places_stored cs) (sym c.in-Some.ensures.steps)
           ∙ before.read;
       each = omega (arith, left.0, c.put_run-at-in-Some.ensures.behind, c.put_run-at-in-Some.ensures.size);
       size = c.put_run-at-in-Some.ensures.size ∙ c.set.ensures.size ∙ before.size;

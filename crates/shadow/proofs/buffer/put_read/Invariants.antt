@@ -5,9 +5,9 @@ use Rattle.shadow.proofs.buffer.put_read.Given as goal
 
 abbrev pub invariant-loop-cell : goal.invariant-loop-cell
 invariant-loop-cell l = record {
-  read : take l.at l.places ++ places_stored l.rest ≡ places_stored l.fn.cells;
-  each : l.at + length l.rest ≡ length l.places;
-  size : length l.places ≡ cells_in l.fn.size;
+  read : take l.at l.beliefs ++ places_stored l.rest ≡ places_stored l.fn.cells;
+  each : l.at + length l.rest ≡ length l.beliefs;
+  size : length l.beliefs ≡ cells_in l.fn.size;
 }
 
 abbrev pub decreases-loop-cell : goal.decreases-loop-cell

@@ -6,5 +6,5 @@ use Rattle.shadow.proofs.field_update.fill_between.Goals as goal
 
 pub returns-in-Same : goal.returns-in-Same
 returns-in-Same c =
-    let ps = c.args.places.now in
+    let ps = c.args.beliefs.now in
     same_filled c.args.from ps ∙ ap (λ (f : FieldUpdate). take c.args.from ps ++ front_filled (fill_of f) (drop c.args.from ps)) (sym c.in-Same.is)

@@ -18,7 +18,7 @@ use Rattle.shadow.proofs.verifying.first_break.Goals.{After-rule_next}
 
 pub loop-from-init : goal.loop-from-init
 loop-from-init c =
-    let whole = c.args.places.now in
+    let whole = c.args.beliefs.now in
     let screen = c.args.cells in
     record {
       breaks = ap (first_break (beliefs_held whole 0 whole)) (fields_are_walked screen)
@@ -28,7 +28,7 @@ loop-from-init c =
 
 pub returns-then-found-place : goal.returns-then-found-place
 returns-then-found-place c =
-    let whole = c.args.places.now in
+    let whole = c.args.beliefs.now in
     let n : ℕ = c.loop-from.from in
     let rest = c.loop-from.rest in
     let text : length c.characters.result.now ≡ length (text_before_attribute rest) = ap length c.characters.ensures.characters in
@@ -39,10 +39,10 @@ returns-then-found-place c =
     ∙ runs_broken whole c.args.cells n (drop n whole) rest (λ same. c.if-found-place.true (omega (arith, same, text, c.attribute_from-place.ensures.place))) (omega (arith, length-drop n whole, c.loop-from.invariant.left)))
 
 -- both have as many characters before the next attribute
-passed : (c : After-rule_next) → first_break (beliefs_held c.args.places.now 0 c.args.places.now) (fields c.args.cells)
-    ≡ option_or (break_at c.attribute_from-place.result c.rule_next.result) (BreakLeft c.args.places.now c.args.cells (c.attribute_from-place.result + 1) (drop (c.attribute_from-place.result + 1) c.args.places.now) c.rule_next.new.rest)
+passed : (c : After-rule_next) → first_break (beliefs_held c.args.beliefs.now 0 c.args.beliefs.now) (fields c.args.cells)
+    ≡ option_or (break_at c.attribute_from-place.result c.rule_next.result) (BreakLeft c.args.beliefs.now c.args.cells (c.attribute_from-place.result + 1) (drop (c.attribute_from-place.result + 1) c.args.beliefs.now) c.rule_next.new.rest)
 passed c =
-    let whole = c.args.places.now in
+    let whole = c.args.beliefs.now in
     let screen = c.args.cells in
     let n : ℕ = c.loop-from.from in
     let next : ℕ = c.attribute_from-place.result in
@@ -65,7 +65,7 @@ passed c =
 pub returns-in-Some : goal.returns-in-Some
 returns-in-Some c =
     let next : ℕ = c.attribute_from-place.result in
-    sym (passed c.before ∙ ap (λ (r : Option Rule). option_or (break_at next r) (BreakLeft c.args.places.now c.args.cells (next + 1) (drop (next + 1) c.args.places.now) c.rule_next.new.rest)) c.in-Some.is)
+    sym (passed c.before ∙ ap (λ (r : Option Rule). option_or (break_at next r) (BreakLeft c.args.beliefs.now c.args.cells (next + 1) (drop (next + 1) c.args.beliefs.now) c.rule_next.new.rest)) c.in-Some.is)
 
 pub loop-from-preserved : goal.loop-from-preserved
 loop-from-preserved c =
@@ -75,11 +75,11 @@ loop-from-preserved c =
     let long = ap length c.characters.ensures.left in
     let less = ap length c.rule_next.ensures.left in
     record {
-      breaks = passed c.before ∙ ap (λ (r : Option Rule). option_or (break_at next r) (BreakLeft c.args.places.now c.args.cells (next + 1) (drop (next + 1) c.args.places.now) c.rule_next.new.rest)) c.in_default.is;
+      breaks = passed c.before ∙ ap (λ (r : Option Rule). option_or (break_at next r) (BreakLeft c.args.beliefs.now c.args.cells (next + 1) (drop (next + 1) c.args.beliefs.now) c.rule_next.new.rest)) c.in_default.is;
       left = omega (arith, there, long, less, length-drop k c.loop-from.rest, length-drop 1 c.characters.new.self, c.loop-from.invariant.left);
     }
 
 pub returns : goal.returns
 returns c =
     sym (c.loop-from.invariant.breaks
-    ∙ none_broken c.args.places.now c.args.cells c.loop-from.from c.loop-from.rest (omega (arith, c.loop-from-test.false, c.len-count.ensures.len)) (omega (arith, c.loop-from-test.false, c.len-count.ensures.len, c.loop-from.invariant.left)))
+    ∙ none_broken c.args.beliefs.now c.args.cells c.loop-from.from c.loop-from.rest (omega (arith, c.loop-from-test.false, c.len-count.ensures.len)) (omega (arith, c.loop-from-test.false, c.len-count.ensures.len, c.loop-from.invariant.left)))

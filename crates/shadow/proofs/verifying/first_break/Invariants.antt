@@ -7,9 +7,9 @@ use Rattle.shadow.proofs.verifying.first_break.Given as goal
 
 abbrev pub invariant-loop-from : goal.invariant-loop-from
 invariant-loop-from l = record {
-  breaks : first_break (beliefs_held l.places 0 l.places) (fields l.cells) ≡ BreakLeft l.places l.cells l.from (drop l.from l.places) l.rest;
-  left : length l.rest ≡ length l.places - l.from;
+  breaks : first_break (beliefs_held l.beliefs 0 l.beliefs) (fields l.cells) ≡ BreakLeft l.beliefs l.cells l.from (drop l.from l.beliefs) l.rest;
+  left : length l.rest ≡ length l.beliefs - l.from;
 }
 
 abbrev pub decreases-loop-from : goal.decreases-loop-from
-decreases-loop-from l = length l.places - l.from
+decreases-loop-from l = length l.beliefs - l.from

@@ -8,4 +8,4 @@ pub returns-in-Cells : goal.returns-in-Cells
 returns-in-Cells c =
     rw (c.in-Cells.is)
     (ap not c.is_other_text.ensures
-    ∙ sym (believed_cells (chars_known (drop (c.args.place + 1) c.args.places.now ++ c.args.places.now)) (known_text (chars_known (places_stored c.args.rest.now ++ places_stored c.args.whole.now)))))
+    ∙ sym (believed_cells (chars_known (drop (c.args.place + 1) c.args.beliefs.now ++ c.args.beliefs.now)) (known_text (chars_known (places_stored c.args.rest.now ++ places_stored c.args.whole.now)))))

@@ -9,7 +9,7 @@ use Rattle.shadow.proofs.verifying.operator_rule.Goals as goal
 pub returns-then-attr : goal.returns-then-attr
 returns-then-attr c =
     let field = c.in-Attr-Attr in
-    let belief : Belief = belief_held c.args.place field.attr field.mark field.knowledge (drop (c.args.place + 1) c.args.places.now ++ c.args.places.now) in
+    let belief : Belief = belief_held c.args.place field.attr field.mdt field.knowledge (drop (c.args.place + 1) c.args.beliefs.now ++ c.args.beliefs.now) in
     let read : Field = record { place = c.args.place; attr = field.seen; text = known_text (chars_known (places_stored c.args.rest.now ++ places_stored c.args.whole.now)) } in
     rw (field.is-0, field.is-1)
     (c.protected_rule.ensures belief read refl refl ∙ ap (λ (p : Bool). if p then protected_rule belief read else input_rule belief read) (sym c.if-attr.true))
@@ -17,7 +17,7 @@ returns-then-attr c =
 pub returns-else-attr : goal.returns-else-attr
 returns-else-attr c =
     let field = c.in-Attr-Attr in
-    let belief : Belief = belief_held c.args.place field.attr field.mark field.knowledge (drop (c.args.place + 1) c.args.places.now ++ c.args.places.now) in
+    let belief : Belief = belief_held c.args.place field.attr field.mdt field.knowledge (drop (c.args.place + 1) c.args.beliefs.now ++ c.args.beliefs.now) in
     let read : Field = record { place = c.args.place; attr = field.seen; text = known_text (chars_known (places_stored c.args.rest.now ++ places_stored c.args.whole.now)) } in
     rw (field.is-0, field.is-1)
     (c.input_rule.ensures field.attr ∙ ap (λ (p : Bool). if p then protected_rule belief read else input_rule belief read) (sym c.if-attr.false))

@@ -12,7 +12,7 @@ use Rattle.shadow.proofs.verifying.rule_broken.Goals as goal
 
 pub returns-then-is_other : goal.returns-then-is_other
 returns-then-is_other c =
-    let whole = c.args.places.now in
+    let whole = c.args.beliefs.now in
     let n : ℕ = c.args.place in
     let read : List CellBelief = places_stored c.args.rest.now ++ places_stored c.args.whole.now in
     let same : Option Rule = operator_rule_at n (get_or whole n Unknown) c.args.cell (drop (n + 1) whole ++ whole) (known_text (chars_known read)) in
@@ -20,7 +20,7 @@ returns-then-is_other c =
 
 pub returns : goal.returns
 returns c =
-    let whole = c.args.places.now in
+    let whole = c.args.beliefs.now in
     let n : ℕ = c.args.place in
     let read : List CellBelief = places_stored c.args.rest.now ++ places_stored c.args.whole.now in
     let same : Option Rule = operator_rule_at n (get_or whole n Unknown) c.args.cell (drop (n + 1) whole ++ whole) (known_text (chars_known read)) in

@@ -7,7 +7,7 @@ use Rattle.shadow.proofs.verifying.rule_next.Goals as goal
 
 pub returns-in-Some-clause-rule : goal.returns-in-Some-clause-rule
 returns-in-Some-clause-rule c =
-    let whole = c.args.places.now in
+    let whole = c.args.beliefs.now in
     let n : ℕ = c.args.place in
     c.rule_broken.ensures
     ∙ ap (rule_at n (get_or whole n Unknown) c.in-Some.cell (drop (n + 1) whole ++ whole)) (read_text c.next.new.self c.args.whole.now)

@@ -1,6 +1,6 @@
 use Rattle.std.proofs.Common.{subst, sym}
 use Rattle.std.proofs.lemmas.List.{drop_all, drop_more}
-use Rattle.world3270.specs.Refines.{AreReal, IsReal}
+use Rattle.world3270.specs.refinement.Refines.{AreReal, IsReal}
 use Rattle.world3270.proofs.event.all_events_are_real.Goals as goal
 
 pub loop-event-init : goal.loop-event-init

@@ -1,4 +1,4 @@
-use Rattle.world3270.specs.Known.{Known}
+use Rattle.world3270.specs.refinement.MessageLaws.{MessageLaws}
 use Rattle.world3270.proofs.ByteActs.{act_goes, answer_goes, keep_alive_goes, note_goes}
 use Rattle.world3270.proofs.ByteDown.{down_goes, terminals_refuse_nothing}
 use Rattle.world3270.proofs.ByteEnds.{begin_is_reached, connect_goes, host_sees_goes, lose_goes, restart_host_goes, restart_term_goes, term_sees_goes}
@@ -7,15 +7,15 @@ use Rattle.world3270.proofs.BytePlaced.{skips_are_those}
 use Rattle.world3270.proofs.ByteUp.{up_goes}
 use Rattle.world3270.proofs.Follows.{EventsGo, runs_go_on, steps_go_on}
 use Rattle.world3270.proofs.Leaving.{nobody_closes}
-use Rattle.world3270.proofs.SeenStands.{headline_is_seen}
-use Rattle.world3270.specs.Refines.{SkipsAreThose, StepsGoOn}
+use Rattle.world3270.proofs.SeenRepresents.{headline_is_seen}
+use Rattle.world3270.specs.refinement.Refines.{SkipsAreThose, StepsGoOn}
 use Rattle.world3270.proofs.Unbroken.{deliveries_close_nothing, nobody_has_refused, nothing_is_refused, under_way_refuses_nothing}
 use Rattle.world3270.proofs.laws.bytes_follow_messages.Goals as goal
 
-skips : Known → SkipsAreThose
+skips : MessageLaws → SkipsAreThose
 skips known = skips_are_those known.links.one_delivery known.links.no_bytes
 
-all_go : Known → EventsGo
+all_go : MessageLaws → EventsGo
 all_go known = record {
   key = key_goes known (skips known);
   up = up_goes known;
@@ -32,7 +32,7 @@ all_go known = record {
   restart_host = restart_host_goes known (skips known);
 }
 
-steps : Known → StepsGoOn
+steps : MessageLaws → StepsGoOn
 steps known = steps_go_on known (all_go known) (skips known)
 
 pub returns-clause-begin : goal.returns-clause-begin

@@ -1,4 +1,4 @@
-use Rattle.world3270.specs.Known.{KnownLinks, KnownWorlds}
+use Rattle.world3270.specs.refinement.MessageLaws.{LinkLaws, WorldLaws}
 use Rattle.world3270.proofs.laws.what_is_known.Goals as goal
 
 pub returns : goal.returns
@@ -6,7 +6,7 @@ returns c =
     let stands = c.bytes_stand_for_messages.ensures in
     let wire = c.one_reading.ensures in
     let messages = c.one_reading-2.ensures in
-    let worlds : KnownWorlds = record {
+    let worlds : WorldLaws = record {
       given = c.what_is_given.ensures;
       application = c.panels_are_shown.ensures.application;
       screens = c.panels_are_shown.ensures.screens;
@@ -21,7 +21,7 @@ returns c =
       paints = c.screens_can_be_sent.ensures.paints;
       spelt = c.screens_can_be_sent.ensures.spelt;
     } in
-    let links : KnownLinks = record {
+    let links : LinkLaws = record {
       begin = stands.begin;
       press = stands.press;
       down = stands.down;

@@ -1,5 +1,5 @@
 use Rattle.std.proofs.Common.{◌≡◌, map, take}
-use Rattle.world3270.specs.ByteWorld.{new_slot}
+use Rattle.world3270.specs.model.ByteWorld.{new_slot}
 use Rattle.world3270.proofs.network.new_slots.Given as goal
 
 abbrev pub invariant-loop-model : goal.invariant-loop-model

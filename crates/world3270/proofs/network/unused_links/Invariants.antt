@@ -1,5 +1,5 @@
 use Rattle.std.proofs.Common.{◌≡◌, replicate}
-use Rattle.world3270.specs.ByteWorld.{unused_transits}
+use Rattle.world3270.specs.model.ByteWorld.{unused_transits}
 use Rattle.world3270.proofs.network.unused_links.Given as goal
 
 abbrev pub invariant-loop : goal.invariant-loop

@@ -1,7 +1,7 @@
 use Rattle.std.proofs.Common.{ap, sym, ◌∙◌}
 use Rattle.host_core.specs.Application.{application_of}
 use Rattle.host_core.specs.Does.{acted_by}
-use Rattle.host_core.specs.Keeps.{shown_by}
+use Rattle.host_core.specs.Representation.{shown_by}
 use Rattle.host_core.specs.declared.connection.HostEnd.{HostEnd}
 use Rattle.host_core.proofs.ConnectionActs.{does_connection, act_holds}
 use Rattle.host_core.proofs.connection.Connection.act.Goals as goal

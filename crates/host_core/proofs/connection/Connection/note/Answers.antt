@@ -1,6 +1,6 @@
 use Rattle.std.proofs.Common.{ap, sym, ◌∙◌}
 use Rattle.host_core.specs.Does.{noted_by}
-use Rattle.host_core.specs.Keeps.{shown_by}
+use Rattle.host_core.specs.Representation.{shown_by}
 use Rattle.host_core.specs.declared.connection.HostEnd.{HostEnd}
 use Rattle.host_core.proofs.ConnectionActs.{does_connection, note_holds}
 use Rattle.host_core.proofs.connection.Connection.note.Goals as goal

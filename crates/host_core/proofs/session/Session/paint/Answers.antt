@@ -9,7 +9,7 @@ use Rattle.telnet_wire.proofs.Lengths.{ok_with_room}
 use Rattle.telnet_wire.specs.Items.{Record, sent_bytes}
 use Rattle.host_core.proofs.Paintings.{paint_is_kept, shows, paint_believes}
 use Rattle.host_core.specs.Acts.{wanted_by}
-use Rattle.host_core.specs.Keeps.{IsPlainWrite, BelievesTheSize}
+use Rattle.host_core.specs.Representation.{IsPlainWrite, BelievesTheSize}
 use Rattle.host_core.specs.Application.{application_of, panel_at}
 use Rattle.host_core.specs.declared.pending.Pending.TheVariants as unanswered
 use Rattle.host_core.proofs.session.Session.paint.Goals as goal
@@ -36,7 +36,7 @@ invariant_of-self c =
     let laws = c.what_is_wanted_is_painted.ensures in
     let wanted = c.put_fitting.new.wanted in
     let begun = rw c.unwrap.ensures at c.paint.ensures.painted in
-    let same : wanted.size ≡ c.size-size.result = sized wanted c.args.panels.now c.in_model-shown.result.panel c.size-size.result c.panel_in.result.now c.put_fitting.ensures.size c.size-size.ensures c.panel_in.ensures.panel in
+    let same : wanted.size ≡ c.size-size.result = sized wanted c.args.panels.now c.for_model-shown.result.panel c.size-size.result c.panel_in.result.now c.put_fitting.ensures.size c.size-size.ensures c.panel_in.ensures.panel in
     let spelt = laws.spelt wanted.size wanted.size c.self.inside.shadow wanted c.put_fitting.ensures.screen (inr refl) (λ writes. refl) in
     let record_is = begun ∙ ap (λ (bytes : List ℕ). bytes ++ paint_bytes (cells_in wanted.size) c.self.inside.shadow wanted) c.begin_record.ensures.begun in (
       subst (λ (shape : Shape). IsPlainWrite shape (drop 5 c.paint.new.out.items)) same
@@ -53,12 +53,12 @@ returns-clause-sent c =
     let laws = c.what_is_wanted_is_painted.ensures in
     let begun = rw c.unwrap.ensures at c.paint.ensures.painted in
     let wanted = c.put_fitting.new.wanted in
-    let same : wanted.size ≡ c.size-size.result = sized wanted c.args.panels.now c.in_model-shown.result.panel c.size-size.result c.panel_in.result.now c.put_fitting.ensures.size c.size-size.ensures c.panel_in.ensures.panel in
+    let same : wanted.size ≡ c.size-size.result = sized wanted c.args.panels.now c.for_model-shown.result.panel c.size-size.result c.panel_in.result.now c.put_fitting.ensures.size c.size-size.ensures c.panel_in.ensures.panel in
     shows (application_of c.args.panels.now) c.args.self.now _ c.args.asked.panel c.args.asked.message c.args.asked.keep c.args.self.now.values c.put_fitting.new.wanted c.paint.new.out.items c.args.out.now c.send_record.new.out
     (c.put_fitting.ensures.wanted
-    ∙ ap (wanted_by (application_of c.args.panels.now) c.args.self.now c.in_model-shown.result.panel c.in_model-shown.result.message c.in_model-shown.result.keep) c.values.ensures
-    ∙ ap (λ (s : Shown). wanted_by (application_of c.args.panels.now) c.args.self.now s.panel s.message s.keep c.args.self.now.values) c.in_model-shown.ensures.shown)
+    ∙ ap (wanted_by (application_of c.args.panels.now) c.args.self.now c.for_model-shown.result.panel c.for_model-shown.result.message c.for_model-shown.result.keep) c.values.ensures
+    ∙ ap (λ (s : Shown). wanted_by (application_of c.args.panels.now) c.args.self.now s.panel s.message s.keep c.args.self.now.values) c.for_model-shown.ensures.shown)
     (laws.spelt wanted.size wanted.size c.args.self.now.shadow wanted c.put_fitting.ensures.screen (inr refl) (λ writes. refl))
     (rw (← c.self.view_is) (begun ∙ ap (λ (bytes : List ℕ). bytes ++ paint_bytes (cells_in wanted.size) c.self.inside.shadow wanted) c.begin_record.ensures.begun))
-    (rw (same, c.in_model-shown.ensures.shown, ← c.self.view_is, c.next_seq-self-inside.ensures) refl)
+    (rw (same, c.for_model-shown.ensures.shown, ← c.self.view_is, c.next_seq-self-inside.ensures) refl)
     (c.send_record.ensures.sent ∙ ap (λ (bytes : List ℕ). c.args.out.now.items ++ sent_bytes (Record bytes ∷ [])) c.as_slice.ensures.value)

@@ -1,6 +1,6 @@
 use Rattle.std.proofs.Common.{◌++◌, ◌∷◌, [], ℕ, List, ap, refl, arith, ◌∙◌, subst}
 use Rattle.host_core.specs.Application.{IsShape}
-use Rattle.host_core.specs.Session.{Conn}
+use Rattle.host_core.specs.Session.{Session}
 use Rattle.host_core.specs.Notes.{note_command}
 use Rattle.host_core.specs.Says.{written}
 use Rattle.telnet_wire.specs.Items.{Record, sent_bytes}
@@ -16,7 +16,7 @@ send_record-requires c =
 
 pub invariant_of-self : goal.invariant_of-self
 invariant_of-self c = (
-  note_is_kept c.self.inside.size c.self.inside.next_seq c.args.text.now c.put_note.new.bytes.items c.put_note.ensures.shape c.requires.text
+  note_is_kept c.self.inside.size c.self.inside.next_seq c.args.text.now c.put_note.new.bytes.items c.put_note.ensures.size c.requires.text
       (c.put_note.ensures.appended ∙ ap (λ (bytes : List ℕ). bytes ++ written (note_command c.self.inside.size c.args.text.now)) c.begin_record.ensures.begun),
   omega arith,
   c.self.invariant.2,
@@ -25,7 +25,7 @@ invariant_of-self c = (
 
 pub returns-clause-sent : goal.returns-clause-sent
 returns-clause-sent c =
-    let shaped : IsShape c.args.self.now.shape = subst (λ (conn : Conn). IsShape conn.shape) c.self.view_is c.put_note.ensures.shape in
+    let shaped : IsShape c.args.self.now.size = subst (λ (conn : Session). IsShape conn.size) c.self.view_is c.put_note.ensures.size in
     note_sent c.args.self.now _ c.args.text.now c.put_note.new.bytes.items c.args.out.now c.send_record.new.out
     shaped c.requires.text
     (rw (← c.self.view_is) (c.put_note.ensures.appended ∙ ap (λ (bytes : List ℕ). bytes ++ written (note_command c.self.inside.size c.args.text.now)) c.begin_record.ensures.begun))

@@ -13,6 +13,6 @@ returns-in-Ok-clause-taken c =
 pub take_second_key-requires : goal.take_second_key-requires
 take_second_key-requires c = (
   c.in-Err.field-0,
-  subst (λ (form : Form). IsNoInbound c.args.self.now.shape form c.in-Err.field-0 c.args.body.now) c.form_awaited.ensures
+  subst (λ (form : Form). IsNoInbound c.args.self.now.size form c.in-Err.field-0 c.args.body.now) c.form_awaited.ensures
       (subst (λ (size : Shape). IsNoInbound size c.form_awaited.result c.in-Err.field-0 c.args.body.now) c.size.ensures c.in-Err.ensures.found),
 )

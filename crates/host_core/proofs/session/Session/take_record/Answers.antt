@@ -19,5 +19,5 @@ returns-in_default-kind c = record {
   taken = TakesRecord.dropped c.in-Ok.header c.in-Ok.body.now c.in-Ok.ensures.found (other_type c.in-Ok.header.kind c.in_default-kind.not-Data3270 c.in_default-kind.not-Response) refl;
   talk = refl;
   panel = refl;
-  shape = refl;
+  size = refl;
 }

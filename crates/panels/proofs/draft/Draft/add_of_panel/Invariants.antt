@@ -1,4 +1,4 @@
-use Rattle.panels.specs.declared.fault.Part.TheVariants.{Text, Field}
+use Rattle.panels.specs.declared.fault.Location.TheVariants.{Text, Field}
 use Rattle.panels.specs.Walk.{turn_at, AreFoundTo}
 use Rattle.panels.proofs.draft.Draft.add_of_panel.Given as goal
 

@@ -1,4 +1,4 @@
-use Rattle.panels.specs.declared.fault.Part.TheVariants.{Panel}
+use Rattle.panels.specs.declared.fault.Location.TheVariants.{Panel}
 use Rattle.panels.specs.Walk.{turn_at, AreFoundTo}
 use Rattle.panels.proofs.draft.Draft.add_of_pass.Given as goal
 

@@ -1,6 +1,6 @@
 use Rattle.std.proofs.Common.{◌≡◌, ◌+◌, ℕ, ap, sym, subst, rules, None, Some, arith}
 use Rattle.std.specs.Prelude.{MatchOption}
-use Rattle.panels.specs.declared.fault.Part.TheVariants as part
+use Rattle.panels.specs.declared.fault.Location.TheVariants as part
 use Rattle.panels.specs.Draft.{DraftItem}
 use Rattle.panels.specs.Faults.{NamesField, name_at}
 use Rattle.panels.proofs.Linking.{number_few, found_or}

@@ -1,5 +1,5 @@
 use Rattle.std.proofs.Common.{◌≡◌, subst, sym, [], arith}
-use Rattle.panels.specs.declared.fault.Part.TheVariants.{Top}
+use Rattle.panels.specs.declared.fault.Location.TheVariants.{Top}
 use Rattle.panels.specs.Walk.{turn_at, AreFoundTo}
 use Rattle.panels.proofs.Turning.{none_found, all_found}
 use Rattle.panels.proofs.draft.Draft.faults.Goals as goal

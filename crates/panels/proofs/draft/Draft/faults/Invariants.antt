@@ -1,4 +1,4 @@
-use Rattle.panels.specs.declared.fault.Part.TheVariants.{Top}
+use Rattle.panels.specs.declared.fault.Location.TheVariants.{Top}
 use Rattle.panels.specs.Walk.{turn_at, AreFoundTo}
 use Rattle.panels.proofs.draft.Draft.faults.Given as goal
 

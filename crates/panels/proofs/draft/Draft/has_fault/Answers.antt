@@ -2,7 +2,7 @@ use Rattle.std.proofs.Common.{◌≡◌, ◌∙◌, length, not, false, ap, sym,
 use Rattle.std.specs.Prelude.{option_copied}
 use Rattle.std.proofs.lemmas.Bool.{false≢true}
 use Rattle.std.specs.Option.{option_map_or}
-use Rattle.panels.specs.declared.fault.Part.TheVariants as part
+use Rattle.panels.specs.declared.fault.Location.TheVariants as part
 use Rattle.panels.specs.Faults.{name_at}
 use Rattle.panels.specs.Index.{IsIndexTo}
 use Rattle.panels.specs.Items.{is_name}

@@ -21,6 +21,6 @@ returns g c = record {
   accepts_all = c.in_ok-accept_all.ensures;
   serves_each = c.in_ok-acted.ensures;
   listener_stays = refl;
-  becomes = ap (λ it. record c.serve_each.new.self { sockets = it }) c.take_moved.ensures.taken;
-  did_is = ap (λ it. it || c.in_ok-acted.acted) c.take_moved.ensures.moved;
+  becomes = ap (λ it. record c.serve_each.new.self { sockets = it }) c.take_progress.ensures.taken;
+  did_is = ap (λ it. it || c.in_ok-acted.acted) c.take_progress.ensures.moved;
 }

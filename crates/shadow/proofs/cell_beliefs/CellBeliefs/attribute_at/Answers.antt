@@ -24,7 +24,7 @@ returns c =
     let low : c.args.at < length i.cells.codes = omega (arith, c.requires.placed, size) in
     let is : has_bit i.cells.attributes c.args.at ≡ true =
     sym (attribute_bit i.heads i.cells.attributes i.known i.told i.cells.codes c.args.self.now c.self.view_is c.args.at low) ∙ stands_attribute c.args.self.now c.args.at c.requires.placed c.requires.stands in
-    attribute_read i.heads i.cells.attributes i.known i.told i.cells.codes c.args.at low c.args.self.now c.self.view_is (omega (arith, c.self.invariant.0, c.self.invariant.1, c.self.invariant.2, low)) (record { mark = On; knowledge = Cells }) c.attribute_at.result
+    attribute_read i.heads i.cells.attributes i.known i.told i.cells.codes c.args.at low c.args.self.now c.self.view_is (omega (arith, c.self.invariant.0, c.self.invariant.1, c.self.invariant.2, low)) (record { mdt = On; knowledge = Cells }) c.attribute_at.result
     (ap (λ (mark : Bool). cell_of mark (slice_index_or i.cells.codes c.args.at 0)) is ∙ ap AttrCell (sym c.attribute_at.ensures))
 
 pub attribute_at-requires-clause-placed : goal.attribute_at-requires-clause-placed

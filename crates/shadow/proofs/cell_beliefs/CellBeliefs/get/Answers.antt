@@ -10,7 +10,7 @@ returns-in-Attr c =
     let i = c.self.inside in
     let size : length c.args.self.now ≡ length i.cells.codes = size_kept (place_by i.heads i.cells.attributes i.known i.told) i.cells.codes c.args.self.now c.self.view_is in
     let low : c.args.at < length i.cells.codes = omega (arith, c.requires, size) in
-    attribute_read i.heads i.cells.attributes i.known i.told i.cells.codes c.args.at low c.args.self.now c.self.view_is (omega (arith, c.self.invariant.0, c.self.invariant.1, c.self.invariant.2, low)) (record { mark = On; knowledge = Cells }) c.in-Attr.attr (sym c.get.ensures ∙ c.in-Attr.is)
+    attribute_read i.heads i.cells.attributes i.known i.told i.cells.codes c.args.at low c.args.self.now c.self.view_is (omega (arith, c.self.invariant.0, c.self.invariant.1, c.self.invariant.2, low)) (record { mdt = On; knowledge = Cells }) c.in-Attr.attr (sym c.get.ensures ∙ c.in-Attr.is)
 
 pub returns-then-has : goal.returns-then-has
 returns-then-has c =

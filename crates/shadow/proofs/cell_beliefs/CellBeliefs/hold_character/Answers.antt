@@ -49,8 +49,8 @@ held c =
           bytes_inside bytes_apart attributes_inside attributes_apart known_inside known_apart (subst (MarksKnown i.known) c.self.view_is c.self.invariant.3),
     )
 
-pub returns-clause-places : goal.returns-clause-places
-returns-clause-places c = (held c).0
+pub returns-clause-beliefs : goal.returns-clause-beliefs
+returns-clause-beliefs c = (held c).0
 
 pub returns-clause-size : goal.returns-clause-size
 returns-clause-size c = ap length (held c).0 ∙ length-placed c.args.at (c.args.char ∷ []) c.args.self.now (omega (arith, c.requires))

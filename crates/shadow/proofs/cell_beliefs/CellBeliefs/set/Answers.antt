@@ -9,8 +9,8 @@ use Rattle.shadow.specs.PackedBeliefs.{place_by, MarksKnown}
 use Rattle.shadow.proofs.Keeping.{size_kept, put_kept, put_marked}
 use Rattle.shadow.proofs.cell_beliefs.CellBeliefs.set.Goals as goal
 
-pub returns-clause-places : goal.returns-clause-places
-returns-clause-places c =
+pub returns-clause-beliefs : goal.returns-clause-beliefs
+returns-clause-beliefs c =
     let i = c.self.inside in
     let size : length c.args.self.now ≡ length i.cells.codes = size_kept (place_by i.heads i.cells.attributes i.known i.told) i.cells.codes c.args.self.now c.self.view_is in
     let low : c.args.at < length i.cells.codes = omega (arith, c.requires, size) in
@@ -21,7 +21,7 @@ returns-clause-places c =
     ∙ ap (λ (ps : List CellBelief). set ps c.args.at c.args.place) c.self.view_is
 
 pub returns-clause-size : goal.returns-clause-size
-returns-clause-size c = ap length (returns-clause-places c) ∙ length-set c.args.self.now c.args.at c.args.place
+returns-clause-size c = ap length (returns-clause-beliefs c) ∙ length-set c.args.self.now c.args.at c.args.place
 
 pub invariant_of-self : goal.invariant_of-self
 invariant_of-self c =

@@ -10,11 +10,11 @@ returns-then-self c =
     let base = c.args.self.now in
     let i = c.args.place in
     let one = c.known_place.result in
-    c.known_place.ensures ∙ sym (known_reset base.reset base.places.now i c.get.result one (omega (arith, c.requires.placed, c.requires.base c.if-self.true)) c.get.ensures)
-    ∙ sym (ap (λ (t : Bool). get_or (if t then marks_off_if base.reset (cells_known base.places.now) else known_nulls base.cells) i one) c.if-self.true)
+    c.known_place.ensures ∙ sym (known_reset base.reset base.beliefs.now i c.get.result one (omega (arith, c.requires.placed, c.requires.base c.if-self.true)) c.get.ensures)
+    ∙ sym (ap (λ (t : Bool). get_or (if t then marks_off_if base.reset (cells_known base.beliefs.now) else known_nulls base.cells) i one) c.if-self.true)
 
 pub returns-else-self : goal.returns-else-self
 returns-else-self c =
     let base = c.args.self.now in
     let i = c.args.place in
-    sym (ap (λ (t : Bool). get_or (if t then marks_off_if base.reset (cells_known base.places.now) else known_nulls base.cells) i _) c.if-self.false ∙ null_there base.cells i _ c.requires.placed)
+    sym (ap (λ (t : Bool). get_or (if t then marks_off_if base.reset (cells_known base.beliefs.now) else known_nulls base.cells) i _) c.if-self.false ∙ null_there base.cells i _ c.requires.placed)

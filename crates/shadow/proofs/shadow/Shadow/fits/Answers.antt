@@ -9,7 +9,7 @@ use Rattle.shadow.proofs.shadow.Shadow.fits.Goals as goal
 pub returns-in-Some : goal.returns-in-Some
 returns-in-Some c =
     let wanted = c.args.wanted.now in
-    let places = c.in-Some.places.now in
+    let places = c.in-Some.beliefs.now in
     let n : ℕ = cells_in wanted.size in
     c.fits_over.ensures
     ∙ ap (λ (t : Bool). t && fields_fit (beliefs_held places 0 places) wanted.cells) (sym (has_size places n))

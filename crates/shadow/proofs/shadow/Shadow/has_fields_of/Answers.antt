@@ -11,5 +11,5 @@ returns c =
     let formatted = c.is_formatted.result in
     c.is_filled.ensures
     ∙ ap (λ (n : ℕ). formatted && n == c.args.cells) c.len.ensures.len
-    ∙ ap (λ (t : Bool). t && length i.places == c.args.cells) (c.is_formatted.ensures ∙ ap has_fields (sym c.self.view_is))
-    ∙ over_is c.args.cells i.knows i.places ∙ ap (writes_over c.args.cells) c.self.view_is
+    ∙ ap (λ (t : Bool). t && length i.beliefs == c.args.cells) (c.is_formatted.ensures ∙ ap has_fields (sym c.self.view_is))
+    ∙ over_is c.args.cells i.knows i.beliefs ∙ ap (writes_over c.args.cells) c.self.view_is

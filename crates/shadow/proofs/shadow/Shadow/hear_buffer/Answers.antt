@@ -7,7 +7,7 @@ use Rattle.shadow.specs.declared.fault.HeardFault.TheVariants.{Contradiction}
 use Rattle.codes3270.specs.Size.{cells_in}
 use Rattle.shadow.specs.Belief.{Shadow, IsOfSize}
 use Rattle.shadow.specs.InPlace.{beliefs_held, shadow_held, IsHeld}
-use Rattle.shadow.specs.Seen.{denies_buffer, others, seen}
+use Rattle.shadow.specs.AfterReadBuffer.{denies_buffer, others, seen}
 use Rattle.shadow.specs.Since.{places_stored}
 use Rattle.shadow.proofs.Placed.{known_size}
 use Rattle.shadow.proofs.Reading.{read_seen, read_held}
@@ -20,7 +20,7 @@ invariant_of-self c = subst IsHeld (sym c.put_read.ensures) (read_held c.cells-2
 
 pub returns-then-any_other : goal.returns-then-any_other
 returns-then-any_other c =
-    let places = c.self.inside.places in
+    let places = c.self.inside.beliefs in
     let screen = cells_sent c.args.inbound.now.parts in
     let answer : Bool → Result Shadow HeardFault = λ t. if t then Err Contradiction else Ok (seen screen) in
     let denied : denies_buffer c.args.self.now screen ≡ true =
@@ -31,10 +31,10 @@ returns-then-any_other c =
 
 pub returns : goal.returns
 returns c =
-    let places = c.self.inside.places in
+    let places = c.self.inside.beliefs in
     let screen = cells_sent c.args.inbound.now.parts in
-    let read : c.put_read.new.places ≡ places_stored screen = c.put_read.ensures ∙ ap places_stored c.cells-2.ensures.cells in
-    let known : shadow_held true c.put_read.new.places ≡ seen screen = ap (shadow_held true) read ∙ read_seen screen in
+    let read : c.put_read.new.beliefs ≡ places_stored screen = c.put_read.ensures ∙ ap places_stored c.cells-2.ensures.cells in
+    let known : shadow_held true c.put_read.new.beliefs ≡ seen screen = ap (shadow_held true) read ∙ read_seen screen in
     let answer : Bool → Result Shadow HeardFault = λ t. if t then Err Contradiction else Ok (seen screen) in
     let allowed : denies_buffer c.args.self.now screen ≡ false =
     elim c.else-self.branch [
@@ -49,6 +49,6 @@ returns c =
 
 pub any_other-requires-clause-whole : goal.any_other-requires-clause-whole
 any_other-requires-clause-whole c =
-    let places = c.self.inside.places in
+    let places = c.self.inside.beliefs in
     let n : ℕ = cells_in c.args.inbound.now.size in
     c.cells.ensures.whole ∙ sym (known_size places n (subst (IsOfSize n) (sym c.self.view_is ∙ ap (λ (k : Bool). shadow_held k places) c.if-self.true) c.requires.size))

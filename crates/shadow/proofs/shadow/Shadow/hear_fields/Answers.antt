@@ -11,8 +11,8 @@ use Rattle.shadow.proofs.shadow.Shadow.hear_fields.Goals as goal
 
 pub returns-in-Ok : goal.returns-in-Ok
 returns-in-Ok c =
-    let places = c.self.inside.places in
-    let after = c.after_long.new.places in
+    let places = c.self.inside.beliefs in
+    let after = c.after_long.new.beliefs in
     let parts = c.args.inbound.now.parts in
     let before = beliefs_held places 0 places in
     let fields : has_fields (shadow_held c.self.inside.knows places) ≡ true = ap has_fields c.self.view_is ∙ sym c.is_formatted.ensures ∙ c.if-not-is_formatted.false in
@@ -29,7 +29,7 @@ returns-in-Ok c =
 
 pub check_fields-requires : goal.check_fields-requires
 check_fields-requires c =
-    let places = c.self.inside.places in
+    let places = c.self.inside.beliefs in
     let parts = c.args.inbound.now.parts in
     let before = beliefs_held places 0 places in
     let fields : has_fields (shadow_held c.self.inside.knows places) ≡ true = ap has_fields c.self.view_is ∙ sym c.is_formatted.ensures ∙ c.if-not-is_formatted.false in
@@ -40,7 +40,7 @@ check_fields-requires c =
 
 pub returns-in-Err : goal.returns-in-Err
 returns-in-Err c =
-    let places = c.self.inside.places in
+    let places = c.self.inside.beliefs in
     let parts = c.args.inbound.now.parts in
     let before = beliefs_held places 0 places in
     let fields : has_fields (shadow_held c.self.inside.knows places) ≡ true = ap has_fields c.self.view_is ∙ sym c.is_formatted.ensures ∙ c.if-not-is_formatted.false in

@@ -10,7 +10,7 @@ use Rattle.shadow.proofs.shadow.Shadow.hear_unformatted.Goals.{then-self+else-le
 
 pub returns-in-None : goal.returns-in-None
 returns-in-None c =
-    let places = c.self.inside.places in
+    let places = c.self.inside.beliefs in
     let parts = c.args.inbound.now.parts in
     let none : returned parts ≡ [] = sym c.returned.ensures.returned ∙ c.in-None.ensures.steps.0 in
     let now : c.args.self.now ≡ shadow_held true places = sym c.self.view_is ∙ ap (λ (k : Bool). shadow_held k places) c.if-self.true in
@@ -24,7 +24,7 @@ returns-in-None c =
 
 pub returns-in-None-2 : goal.returns-in-None-2
 returns-in-None-2 c =
-    let places = c.self.inside.places in
+    let places = c.self.inside.beliefs in
     let parts = c.args.inbound.now.parts in
     let knows = c.self.inside.knows in
     let none : returned parts ≡ [] = sym c.returned.ensures.returned ∙ c.in-None.ensures.steps.0 in

@@ -5,5 +5,5 @@ use Rattle.shadow.proofs.shadow.Shadow.is_formatted.Goals as goal
 
 pub returns-then-self : goal.returns-then-self
 returns-then-self c =
-    let places = c.self.inside.places in
+    let places = c.self.inside.beliefs in
     c.has_attribute.ensures ∙ sym (has_held places) ∙ ap (λ (k : Bool). has_fields (shadow_held k places)) (sym c.if-self.true) ∙ ap has_fields c.self.view_is

@@ -21,7 +21,7 @@ unfolding bytes
 returns-in-Ok c =
     let code = c.paint_code.result in
     let shadow = c.args.self.now in
-    let places = c.self.inside.places in
+    let places = c.self.inside.beliefs in
     let knows = c.self.inside.knows in
     let reset = c.reset-reset.result in
     let wanted = c.args.wanted.now in
@@ -53,4 +53,4 @@ returns-in-Ok c =
 
 pub put_cells-requires-clause-base : goal.put_cells-requires-clause-base
 put_cells-requires-clause-base c = λ is.
-    over_true c.from-cells.result c.self.inside.knows c.self.inside.places (ap (writes_over c.from-cells.result) c.self.view_is ∙ sym c.has_fields_of-formatted.ensures ∙ is)
+    over_true c.from-cells.result c.self.inside.knows c.self.inside.beliefs (ap (writes_over c.from-cells.result) c.self.view_is ∙ sym c.has_fields_of-formatted.ensures ∙ is)

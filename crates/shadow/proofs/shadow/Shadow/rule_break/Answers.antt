@@ -12,7 +12,7 @@ use Rattle.shadow.proofs.shadow.Shadow.rule_break.Goals as goal
 
 pub returns-in-Some : goal.returns-in-Some
 returns-in-Some c =
-    let places = c.in-Some.places.now in
+    let places = c.in-Some.beliefs.now in
     let screen : List Cell = cells_sent c.args.inbound.now.parts in
     c.first_break.ensures
     ∙ ap (λ (cells : List Cell). first_break (beliefs_held places 0 places) (fields cells)) c.cells.ensures.cells
@@ -22,4 +22,4 @@ returns-in-Some c =
 pub first_break-requires-clause-whole : goal.first_break-requires-clause-whole
 first_break-requires-clause-whole c =
     let n : ℕ = cells_in c.args.inbound.now.size in
-    c.cells.ensures.whole ∙ sym (known_size c.in-Some.places.now n (subst (IsOfSize n) c.in-Some.ensures.0 c.requires.size))
+    c.cells.ensures.whole ∙ sym (known_size c.in-Some.beliefs.now n (subst (IsOfSize n) c.in-Some.ensures.0 c.requires.size))

@@ -5,7 +5,7 @@ use Rattle.shadow.proofs.shadow.Shadow.size.Goals as goal
 
 pub returns-in-Some : goal.returns-in-Some
 returns-in-Some c =
-    ap (λ (n : ℕ). Some n) c.size.ensures.cells ∙ sym (size_held c.in-Some.places.now) ∙ ap cells_believed (sym c.in-Some.ensures.0)
+    ap (λ (n : ℕ). Some n) c.size.ensures.cells ∙ sym (size_held c.in-Some.beliefs.now) ∙ ap cells_believed (sym c.in-Some.ensures.0)
 
 pub returns-in-None : goal.returns-in-None
 returns-in-None c = ap cells_believed (sym c.in-None.ensures)

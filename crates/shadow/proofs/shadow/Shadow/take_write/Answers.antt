@@ -9,8 +9,8 @@ use Rattle.shadow.proofs.shadow.Shadow.take_write.Goals as goal
 
 pub returns-clause-taken : goal.returns-clause-taken
 returns-clause-taken c =
-    let places = c.self.inside.places in
-    let new = c.write_over.new.places in
+    let places = c.self.inside.beliefs in
+    let new = c.write_over.new.beliefs in
     let command = c.args.command.now in
     let before = beliefs_held places 0 places in
     let n : ℕ = cells_in command.size in
@@ -25,14 +25,14 @@ returns-clause-taken c =
 
 pub write_over-requires-clause-size : goal.write_over-requires-clause-size
 write_over-requires-clause-size c =
-    let places = c.self.inside.places in
+    let places = c.self.inside.beliefs in
     let n : ℕ = cells_in c.args.command.now.size in
     let size : length places ≡ n = known_size places n (subst (IsOfSize n) (sym c.self.view_is ∙ ap (λ (k : Bool). shadow_held k places) c.if-not-self.false) c.requires) in
     sym size
 
 pub returns-clause-size : goal.returns-clause-size
 returns-clause-size c =
-    let places = c.self.inside.places in
+    let places = c.self.inside.beliefs in
     let n : ℕ = cells_in c.args.command.now.size in
     let size : length places ≡ n = known_size places n (subst (IsOfSize n) (sym c.self.view_is ∙ ap (λ (k : Bool). shadow_held k places) c.if-not-self.false) c.requires) in
-    of_size c.self.inside.knows c.write_over.new.places n (c.write_over.ensures.size ∙ size)
+    of_size c.self.inside.knows c.write_over.new.beliefs n (c.write_over.ensures.size ∙ size)

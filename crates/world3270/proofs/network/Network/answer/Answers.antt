@@ -2,8 +2,8 @@ use Rattle.std.proofs.Common.{subst, refl}
 use Rattle.host_core.specs.Application.{application_of}
 use Rattle.host_core.specs.Questions.{answered_by}
 use Rattle.host_core.specs.State.{service_at, session_at}
-use Rattle.world3270.specs.ByteWorld.{ByteWorld, with_host}
-use Rattle.world3270.specs.ByteSteps.{Steps}
+use Rattle.world3270.specs.model.ByteWorld.{ByteWorld, with_host}
+use Rattle.world3270.specs.model.ByteSteps.{Steps}
 use Rattle.world3270.specs.declared.event.Event.TheVariants as event
 use Rattle.world3270.proofs.Steps.{host_answered}
 use Rattle.world3270.proofs.network.Network.answer.Goals as goal

@@ -1,6 +1,6 @@
 use Rattle.std.proofs.Common.{subst, sym, ◌≡◌, false}
-use Rattle.world3270.specs.ByteWorld.{ByteWorld}
-use Rattle.world3270.specs.ByteSteps.{is_held}
+use Rattle.world3270.specs.model.ByteWorld.{ByteWorld}
+use Rattle.world3270.specs.model.ByteSteps.{is_held}
 use Rattle.world3270.proofs.Steps.{is_free_there}
 use Rattle.world3270.proofs.network.Network.begin.Goals as goal
 

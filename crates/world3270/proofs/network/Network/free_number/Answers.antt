@@ -1,6 +1,6 @@
 use Rattle.std.proofs.Common.{◌≡◌, ◌-◌, true, false, sym, ap, ◌∙◌, arith, rules}
 use Rattle.host_core.specs.State.{most_connections}
-use Rattle.world3270.specs.ByteSteps.{is_held, free_from}
+use Rattle.world3270.specs.model.ByteSteps.{is_held, free_from}
 use Rattle.world3270.proofs.Steps.{free_here, free_on, none_from}
 use Rattle.world3270.proofs.network.Network.free_number.Goals as goal
 

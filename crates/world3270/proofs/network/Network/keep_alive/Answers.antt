@@ -1,6 +1,6 @@
 use Rattle.std.proofs.Common.{subst}
-use Rattle.world3270.specs.ByteWorld.{ByteWorld, with_host}
-use Rattle.world3270.specs.ByteSteps.{Steps}
+use Rattle.world3270.specs.model.ByteWorld.{ByteWorld, with_host}
+use Rattle.world3270.specs.model.ByteSteps.{Steps}
 use Rattle.world3270.specs.declared.event.Event.TheVariants as event
 use Rattle.world3270.proofs.Steps.{host_kept_alive}
 use Rattle.world3270.proofs.network.Network.keep_alive.Goals as goal

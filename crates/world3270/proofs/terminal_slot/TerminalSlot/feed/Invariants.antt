@@ -1,6 +1,6 @@
 use Rattle.std.proofs.Common.{◌≡◌, take}
 use Rattle.term_core.specs.Feeds.{IsAttached}
-use Rattle.world3270.specs.TrackedTerminals.{TrackedTakes}
+use Rattle.world3270.specs.model.TrackedTerminals.{TrackedTakes}
 use Rattle.world3270.proofs.terminal_slot.TerminalSlot.feed.Given as goal
 
 abbrev pub invariant-loop-taken : goal.invariant-loop-taken

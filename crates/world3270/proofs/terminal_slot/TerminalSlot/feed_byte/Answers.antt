@@ -1,9 +1,9 @@
 use Rattle.std.proofs.Common.{◌≡◌, ap, sym, subst, ◌∙◌}
 use Rattle.presentation.specs.Sizes.{SizedScreen}
 use Rattle.term_core.specs.Feeds.{IsAttached}
-use Rattle.world3270.specs.ByteWorld.{TerminalSlot}
-use Rattle.world3270.specs.TrackedTerminals.{TrackedTerminal}
-use Rattle.world3270.specs.InFlight.{TookByte}
+use Rattle.world3270.specs.model.ByteWorld.{TerminalSlot}
+use Rattle.world3270.specs.model.TrackedTerminals.{TrackedTerminal}
+use Rattle.world3270.specs.model.InFlight.{TookByte}
 use Rattle.tn3270e_msg.specs.declared.cause.Stop.TheVariants as stop
 use Rattle.world3270.proofs.Slots.{byte_went_on, byte_closed}
 use Rattle.world3270.proofs.terminal_slot.TerminalSlot.feed_byte.Goals as goal

@@ -2,7 +2,7 @@ use Rattle.std.proofs.Common.{subst}
 use Rattle.term_core.specs.Presses.{LacksKeyRoom}
 use Rattle.term_core.specs.Room.{out_room}
 use Rattle.term_core.proofs.Sends.{of_an_error}
-use Rattle.world3270.specs.ByteWorld.{TerminalSlot}
+use Rattle.world3270.specs.model.ByteWorld.{TerminalSlot}
 use Rattle.world3270.proofs.Slots.{key_lacked}
 use Rattle.world3270.proofs.terminal_slot.TerminalSlot.press.Goals as goal
 

@@ -1,6 +1,6 @@
 use Rattle.std.proofs.Common.{None, ap, ◌∙◌}
 use Rattle.term_core.specs.State.{new_terminal, model_of}
-use Rattle.world3270.specs.ByteWorld.{TerminalSlot}
+use Rattle.world3270.specs.model.ByteWorld.{TerminalSlot}
 use Rattle.world3270.proofs.Slots.{begun}
 use Rattle.world3270.proofs.terminal_slot.TerminalSlot.restart.Goals as goal
 

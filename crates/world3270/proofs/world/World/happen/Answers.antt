@@ -1,7 +1,7 @@
 use Rattle.std.proofs.Common.{subst}
-use Rattle.world3270.specs.ByteWorld.{ByteWorld}
-use Rattle.world3270.specs.Refines.{StepOverMessages}
-use Rattle.world3270.specs.ShownSince.{PanelsStay}
+use Rattle.world3270.specs.model.ByteWorld.{ByteWorld}
+use Rattle.world3270.specs.refinement.Refines.{StepOverMessages}
+use Rattle.world3270.specs.statement.ShownSince.{PanelsStay}
 use Rattle.world3270.proofs.Follows.{step_reaches}
 use Rattle.world3270.proofs.world.World.happen.Goals as goal
 

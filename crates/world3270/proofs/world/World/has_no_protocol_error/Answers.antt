@@ -1,6 +1,6 @@
 use Rattle.std.proofs.Common.{subst}
-use Rattle.world3270.specs.ByteWorld.{ByteWorld}
-use Rattle.world3270.specs.ProtocolErrors.{HasNoProtocolError}
+use Rattle.world3270.specs.model.ByteWorld.{ByteWorld}
+use Rattle.world3270.specs.statement.ProtocolErrors.{HasNoProtocolError}
 use Rattle.world3270.proofs.world.World.has_no_protocol_error.Goals as goal
 
 pub returns : goal.returns

@@ -1,7 +1,7 @@
 use Rattle.std.proofs.Common.{subst}
-use Rattle.world3270.specs.ByteWorld.{ByteWorld}
-use Rattle.world3270.specs.Headline.{Headline}
-use Rattle.world3270.specs.SeenBytes.{seen_bytes}
+use Rattle.world3270.specs.model.ByteWorld.{ByteWorld}
+use Rattle.world3270.specs.statement.Headline.{Headline}
+use Rattle.world3270.specs.statement.ByteObservation.{seen_bytes}
 use Rattle.world3270.proofs.world.World.headline_holds.Goals as goal
 
 pub returns : goal.returns

@@ -1,6 +1,6 @@
 use Rattle.std.proofs.Common.{◌≤◌, length, refl, sym, subst, ◌∙◌, arith}
-use Rattle.world3270.specs.ByteSteps.{Steps}
-use Rattle.world3270.specs.Refines.{StepOverMessages}
+use Rattle.world3270.specs.model.ByteSteps.{Steps}
+use Rattle.world3270.specs.refinement.Refines.{StepOverMessages}
 use Rattle.world3270.specs.declared.event.Event.{Event}
 use Rattle.world3270.specs.declared.event.Ran.{Ran}
 use Rattle.world3270.proofs.EventRuns.{one_more}

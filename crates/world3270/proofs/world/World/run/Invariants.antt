@@ -1,5 +1,5 @@
 use Rattle.std.specs.Prelude.{take}
-use Rattle.world3270.specs.ByteRuns.{AllHappen}
+use Rattle.world3270.specs.model.ByteRuns.{AllHappen}
 use Rattle.world3270.proofs.Follows.{Gone}
 use Rattle.world3270.proofs.world.World.run.Given as goal
 

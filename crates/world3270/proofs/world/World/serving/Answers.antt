@@ -1,6 +1,6 @@
 use Rattle.std.proofs.Common.{[], sym, subst}
-use Rattle.world3270.specs.ByteWorld.{ByteWorld}
-use Rattle.world3270.specs.Refines.{Begin, IsBegin, IsReached}
+use Rattle.world3270.specs.model.ByteWorld.{ByteWorld}
+use Rattle.world3270.specs.refinement.Refines.{Begin, IsBegin, IsReached}
 use Rattle.world3270.proofs.world.World.serving.Goals as goal
 
 pub invariant_of-world : goal.invariant_of-world

@@ -1,6 +1,6 @@
 use Rattle.std.proofs.Common.{subst}
-use Rattle.world3270.specs.ByteWorld.{ByteWorld}
-use Rattle.world3270.specs.Shown.{WhatIsAnsweredIsShown}
+use Rattle.world3270.specs.model.ByteWorld.{ByteWorld}
+use Rattle.world3270.specs.statement.Shown.{WhatIsAnsweredIsShown}
 use Rattle.world3270.proofs.world.World.what_is_answered_is_shown.Goals as goal
 
 pub returns : goal.returns

@@ -1,6 +1,6 @@
 use Rattle.std.proofs.Common.{subst}
-use Rattle.world3270.specs.Asked.{WhatIsAskedIsSeen}
-use Rattle.world3270.specs.ByteWorld.{ByteWorld}
+use Rattle.world3270.specs.statement.Asked.{WhatIsAskedIsSeen}
+use Rattle.world3270.specs.model.ByteWorld.{ByteWorld}
 use Rattle.world3270.proofs.world.World.what_is_asked_is_seen.Goals as goal
 
 pub returns : goal.returns

@@ -1,0 +1,18 @@
+use Rattle.std.proofs.Common.{sym, subst}
+use Rattle.job_streams.specs.Runs.{InPieces, IsInput, ending_of}
+use Rattle.scripts.proofs.Endings.{with_input, without_input}
+use Rattle.scripts.proofs.page_job.read_and_print.Goals as goal
+
+pub returns-in-Ok : goal.returns-in-Ok
+returns-in-Ok g c =
+    let old = g.I.Source.seen c.args.input.now in
+    let new = g.I.Source.seen c.read_whole.new.input in
+    let Came = InPieces g.I.Source.gave c.args.input.now c.read_whole.new.input in
+    with_input c.args.job Came (ending_of c.print.result) old new (g.O.Sink.seen c.args.out.now) (g.O.Sink.seen c.print.new.out) c.as_str.result.now
+    (subst (IsInput old new) (sym c.as_str.ensures.value) c.in-Ok.ensures.whole) (subst Came (sym c.as_str.ensures.value) c.in-Ok.ensures.pieces) c.print.ensures
+
+pub returns-in-Err : goal.returns-in-Err
+returns-in-Err g c =
+    without_input c.args.job (InPieces g.I.Source.gave c.args.input.now c.read_whole.new.input) c.in-Err.fault
+    (g.I.Source.seen c.args.input.now) (g.I.Source.seen c.read_whole.new.input) (g.O.Sink.seen c.args.out.now)
+    c.in-Err.ensures.fault c.in-Err.ensures.refused_in_pieces

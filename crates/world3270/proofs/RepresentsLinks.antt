@@ -1,0 +1,586 @@
+-- A connection over bytes stands for one over messages, whatever happens on it.
+use Rattle.std.proofs.Common.{◌≡◌, ◌||◌, not, cond, ℕ, Bool, true, false, Option, None, Some, List, [], ◌∷◌, ◌++◌, map, refl, ap, sym, subst, ◌∙◌, append_assoc, arith}
+use Rattle.std.proofs.lemmas.Grind.{flat_map-append}
+use Rattle.std.proofs.lemmas.List.{append-nil}
+use Rattle.std.specs.List.{AllByRecursion, list_any}
+use Rattle.world3270.specs.refinement.Sendable.{CanBeSent}
+use Rattle.shadow.specs.Pairs.{Pairwise}
+use Rattle.telnet_wire.specs.Items.{WireItem, CanCome, item_tokens, sent_bytes}
+use Rattle.telnet_wire.specs.Laws.{WrongIsFinal}
+use Rattle.telnet_wire.specs.Reading.{Rest, nothing, Delivers, GoesWrong}
+use Rattle.telnet_wire.specs.Token.{text}
+use Rattle.telnet_wire.specs.declared.wire.WireFault.{WireFault}
+use Rattle.tn3270e_msg.specs.Talk.{Saying, follow, says, sayings}
+use Rattle.tn3270e_msg.specs.TermTable.{Term, term_transition}
+use Rattle.tn3270e_msg.specs.declared.cause.Cause.{Cause}
+use Rattle.tn3270e_msg.specs.declared.term_talk.TermState.TheVariants.{Closed}
+use Rattle.term_core.specs.Bytes.{TakesByte, before_byte, link_after}
+use Rattle.term_core.specs.Items.{TakesItem}
+use Rattle.tn3270e_msg.specs.Header.{record_limit}
+use Rattle.term_core.specs.State.{Station, Terminal, Attached}
+use Rattle.host_core.specs.KeepAlive.{no_operation}
+use Rattle.host_core.specs.Messages.{ToTerminal, ToHost}
+use Rattle.world3270.specs.statement.Always.{is_refusal}
+use Rattle.world3270.specs.model.Link.{Link, sent, term_left_if, term_stepped}
+use Rattle.world3270.specs.model.TrackedTerminals.{History, TrackedTerminal, marked, TrackedTakesByte, TrackedTakes, HistoryFollows, tracked_after_key, ByteStep, end_at, EndTakes}
+use Rattle.world3270.specs.refinement.Representation.{with_out}
+use Rattle.world3270.specs.refinement.Represents.{RepresentsDown, RepresentsUp, BytesUp, BytesDown, ByteLink, IsEnd, Holds, BytesRepresent, HostRepresents, TermRepresents, LinkRepresents, LinkRepresentsBy, all_items, is_nop, without_nops}
+use Rattle.world3270.specs.refinement.RepresentsEnds.{IsOpen, TakesKeepSendable, TermTakes, is_painted, NopHasNoEffect, WritesAreMarked, TermPresses}
+use Rattle.world3270.specs.refinement.RepresentsLinks.{RepresentsCompose, RepresentsGoOn, PressRepresents, MayComeAll, NoneCloses, took_down, fed, DownRepresents, DownIsNotRefused, any_painted, BytesAreMarked, HostSendsBy, NopRepresentsBy, UpRepresentsBy, LossRepresents, HostLeaves, TermLeaves}
+use Rattle.world3270.specs.model.Terminal.{TermEnd, TermStep, is_bound, note_came, once_bound, paint_came, read_came, took, key_came}
+use Rattle.world3270.proofs.Represents.{all_spoken, nop_is, pairs_more}
+
+-- ---- history
+
+pub history_follows : HistoryFollows
+history_follows old [] new taken =
+    (old.history, ap (λ (t : Terminal). record { terminal = t; history = old.history }) taken)
+history_follows old (byte ∷ bytes) new taken =
+    let mid : TrackedTerminal = record { terminal = taken.0; history = marked old.terminal.station taken.0.station old.history } in
+    let more = history_follows mid bytes new taken.2 in
+    (more.0, (mid, record { takes = taken.1; history = refl }, more.1))
+
+-- ---- what is said goes up
+
+said_goes_up : RepresentsCompose all_items RepresentsUp → (lost : Bool) (rest : Rest) (bytes out : List ℕ) (messages more : List ToHost) (items : List WireItem)
+    → BytesUp rest bytes messages → out ≡ sent_bytes items → AllByRecursion (CanCome record_limit) items → Pairwise RepresentsUp items more
+    → BytesUp rest (sent lost bytes out) (sent lost messages more)
+said_goes_up compose true rest bytes out messages more items stands is fit said = stands
+said_goes_up compose false rest bytes out messages more items stands is fit said =
+    subst (λ (b : List ℕ). BytesUp rest (bytes ++ b) (messages ++ more)) (sym is) (compose rest bytes messages more items stands fit said)
+
+sent_nothing : {X : Type 0} (lost : Bool) (queue : List X) → queue ≡ sent lost queue []
+sent_nothing true queue = refl
+sent_nothing false queue = sym (append-nil queue)
+
+sent_twice : {X : Type 0} (lost : Bool) (queue some others : List X) → sent lost (sent lost queue some) others ≡ sent lost queue (some ++ others)
+sent_twice true queue some others = refl
+sent_twice false queue some others = append_assoc queue some others
+
+-- ---- keys
+
+-- what it said is handed on
+silenced : (rest : Rest) (tracked : TrackedTerminal) (end : TermEnd) → Holds rest tracked end → Holds rest (record tracked { terminal = record tracked.terminal { out = [] } }) end
+silenced rest tracked end holds = record { talk = holds.talk; attached = holds.attached; is_end = holds.is_end }
+
+pub press_stands : TermPresses → RepresentsCompose all_items RepresentsUp → PressRepresents
+press_stands presses compose key bytes link terminal stands here sendable =
+    let term = stands.term terminal here in
+    let at_key = presses key bytes.tracked term.rest link.term term.holds sendable in
+    let new : TrackedTerminal = tracked_after_key key bytes.tracked in
+    let out : new.terminal.out ≡ sent_bytes at_key.items = at_key.sent ∙ ap (λ (b : List ℕ). b ++ sent_bytes at_key.items) term.silent in
+    record {
+      lost = stands.lost;
+      host_here = stands.host_here;
+      term_here = stands.term_here;
+      read = stands.read;
+      up = subst (λ (l : Bool). BytesUp stands.read (sent l bytes.up new.terminal.out) (sent link.lost link.up (key_came key link.term).sends)) (sym stands.lost)
+          (said_goes_up compose link.lost stands.read bytes.up new.terminal.out link.up (key_came key link.term).sends at_key.items
+          stands.up out at_key.fit at_key.said);
+      host = λ there. let host = stands.host there in record { host = host.host; rest_is = host.rest_is };
+      term = λ which is. record {
+        rest = term.rest;
+        holds = silenced term.rest new (key_came key link.term).end at_key.holds;
+        silent = refl;
+        down = term.down;
+      };
+    }
+
+-- ---- what comes down
+
+-- the connection once messages came down, and what the terminal said to them
+pub record Ran (link now : Link) (old new : TrackedTerminal) (behind : List ℕ) : Type 0 where
+  pub lost : now.lost ≡ link.lost
+  pub host_here : now.host_here ≡ link.host_here
+  pub host : now.host ≡ link.host
+  pub term_here : now.term_here ≡ link.term_here
+  pub rest : Rest
+  pub holds : Holds rest new now.term
+  pub down : BytesDown rest behind now.down
+  pub says : List WireItem
+  pub out : new.terminal.out ≡ old.terminal.out ++ sent_bytes says
+  pub sends : List ToHost
+  pub up : now.up ≡ sent link.lost link.up sends
+  pub said : Pairwise RepresentsUp says sends
+  pub fit : AllByRecursion (CanCome record_limit) says
+  pub none : list_any is_refusal sends ≡ false
+  pub can : CanBeSent now.term.display.size now.term.display.screen
+
+-- the first of the messages came down
+pub record CameSome (link : Link) (old new : TrackedTerminal) (behind : List ℕ) : Type 0 where
+  pub taken : List ToTerminal
+  pub others : List ToTerminal
+  pub whole : link.down ≡ taken ++ others
+  pub ran : Ran link (took_down taken others link) old new behind
+
+all_more : {X : Type 0} (P : X → Type 0) (xs ys : List X) → AllByRecursion P xs → AllByRecursion P ys → AllByRecursion P (xs ++ ys)
+all_more P [] ys h k = k
+all_more P (x ∷ xs) ys h k = (h.0, all_more P xs ys h.1 k)
+
+none_more : {X : Type 0} (test : X → Bool) (xs ys : List X) → list_any test xs ≡ false → list_any test ys ≡ false → list_any test (xs ++ ys) ≡ false
+none_more test [] ys h k = k
+none_more test (x ∷ xs) ys h k = by_test (test x) h (λ (e : list_any test xs ≡ false). none_more test xs ys e k)
+  where
+    by_test : (b : Bool) → (b || list_any test xs) ≡ false → (list_any test xs ≡ false → list_any test (xs ++ ys) ≡ false) → (b || list_any test (xs ++ ys)) ≡ false
+    by_test true e others = absurd (cc)
+    by_test false e others = others e
+
+-- ---- a terminal refuses nothing
+
+talk_refuses_none : (talk : List Saying) → list_any is_refusal (map ToHost.TalksUp talk) ≡ false
+talk_refuses_none [] = refl
+talk_refuses_none (saying ∷ talk) = talk_refuses_none talk
+
+bound_refuses_none : (bound : Bool) (step : TermStep) (end : TermEnd) → list_any is_refusal step.sends ≡ false → list_any is_refusal (once_bound bound step end).sends ≡ false
+bound_refuses_none true step end none = none
+bound_refuses_none false step end none = refl
+
+none_refused : (end : TermEnd) (message : ToTerminal) → list_any is_refusal (took end message).sends ≡ false
+none_refused end (ToTerminal.TalksDown saying) =
+    talk_refuses_none (sayings (follow Closed end.talk.talk (term_transition end.talk.model end.talk.wanted end.talk.talk.state (says saying))).1)
+none_refused end (ToTerminal.Paint number wanted believed) = bound_refuses_none (is_bound end) (paint_came number wanted end) end refl
+none_refused end (ToTerminal.ReadBuffer number) = bound_refuses_none (is_bound end) (read_came end) end refl
+none_refused end (ToTerminal.Note number command) = bound_refuses_none (is_bound end) (note_came number command end) end refl
+
+-- the connection after a message that closes nothing
+abbrev pub stayed : TermStep → List ToTerminal → Link → Link
+stayed step rest link = record link { down = rest; term = step.end; up = sent link.lost link.up step.sends }
+
+stepped_stays : (step : TermStep) (rest others : List ToTerminal) (link : Link) → step.closes ≡ None → others ≡ rest → term_stepped step rest link ≡ stayed step others link
+stepped_stays step rest others link goes_on same =
+    ap (λ (c : Option Cause). term_left_if c (stayed step rest link)) goes_on ∙ ap (λ (m : List ToTerminal). stayed step m link) (sym same)
+
+ran_nothing : (link : Link) (old new : TrackedTerminal) (behind : List ℕ) (rest : Rest) → Holds rest old link.term → BytesDown rest behind link.down
+    → CanBeSent link.term.display.size link.term.display.screen → new ≡ old → Ran link link old new behind
+ran_nothing link old new behind rest holds down can same = record {
+  lost = refl;
+  host_here = refl;
+  host = refl;
+  term_here = refl;
+  rest = rest;
+  holds = subst (λ (s : TrackedTerminal). Holds rest s link.term) (sym same) holds;
+  down = down;
+  says = [];
+  out = ap (λ (s : TrackedTerminal). s.terminal.out) same ∙ sym (append-nil old.terminal.out);
+  sends = [];
+  up = sent_nothing link.lost link.up;
+  said = tt;
+  fit = tt;
+  none = refl;
+  can = can;
+}
+
+-- a byte before that completes nothing
+ran_since : (link now : Link) (old mid new : TrackedTerminal) (behind : List ℕ) → mid.terminal.out ≡ old.terminal.out → Ran link now mid new behind → Ran link now old new behind
+ran_since link now old mid new behind out ran = record {
+  lost = ran.lost;
+  host_here = ran.host_here;
+  host = ran.host;
+  term_here = ran.term_here;
+  rest = ran.rest;
+  holds = ran.holds;
+  down = ran.down;
+  says = ran.says;
+  out = ran.out ∙ ap (λ (b : List ℕ). b ++ sent_bytes ran.says) out;
+  sends = ran.sends;
+  up = ran.up;
+  said = ran.said;
+  fit = ran.fit;
+  none = ran.none;
+  can = ran.can;
+}
+
+-- an item before, to which it says some
+one_more : (link now : Link) (step : TermStep) (rest : List ToTerminal) (old mid new : TrackedTerminal) (behind : List ℕ) (some : List WireItem)
+    → Pairwise RepresentsUp some step.sends → AllByRecursion (CanCome record_limit) some → list_any is_refusal step.sends ≡ false
+    → mid.terminal.out ≡ old.terminal.out ++ sent_bytes some → Ran (stayed step rest link) now mid new behind → Ran link now old new behind
+one_more link now step rest old mid new behind some said fit none out ran = record {
+  lost = ran.lost;
+  host_here = ran.host_here;
+  host = ran.host;
+  term_here = ran.term_here;
+  rest = ran.rest;
+  holds = ran.holds;
+  down = ran.down;
+  says = some ++ ran.says;
+  out = ran.out ∙ ap (λ (b : List ℕ). b ++ sent_bytes ran.says) out ∙ append_assoc old.terminal.out (sent_bytes some) (sent_bytes ran.says)
+      ∙ ap (λ (b : List ℕ). old.terminal.out ++ b) (sym (flat_map-append (λ (item : WireItem). text (item_tokens item)) some ran.says));
+  sends = step.sends ++ ran.sends;
+  up = ran.up ∙ sent_twice link.lost link.up step.sends ran.sends;
+  said = pairs_more RepresentsUp some ran.says step.sends ran.sends said ran.said;
+  fit = all_more (CanCome record_limit) some ran.says fit ran.fit;
+  none = none_more is_refusal step.sends ran.sends none ran.none;
+  can = ran.can;
+}
+
+-- and the messages behind it
+came_more : (message : ToTerminal) (others : List ToTerminal) (link : Link) (old mid new : TrackedTerminal) (behind : List ℕ) (some : List WireItem)
+    → link.down ≡ message ∷ others → (took link.term message).closes ≡ None → Pairwise RepresentsUp some (took link.term message).sends
+    → AllByRecursion (CanCome record_limit) some → mid.terminal.out ≡ old.terminal.out ++ sent_bytes some
+    → CameSome (stayed (took link.term message) others link) mid new behind → CameSome link old new behind
+came_more message others link old mid new behind some whole goes_on said fit out came = record {
+  taken = message ∷ came.taken;
+  others = came.others;
+  whole = whole ∙ ap (λ (m : List ToTerminal). message ∷ m) came.whole;
+  ran = subst (λ (l : Link). Ran link (took_down came.taken came.others l) old new behind)
+      (sym (stepped_stays (took link.term message) (came.taken ++ came.others) others link goes_on came.whole))
+      (one_more link (took_down came.taken came.others (stayed (took link.term message) others link)) (took link.term message) others old mid new behind some said fit (none_refused link.term message) out came.ran);
+}
+
+link_parts : (rest to : Rest) (talk after : Term) → Attached rest talk ≡ Attached to after → (rest ≡ to) × (talk ≡ after)
+link_parts rest to talk after e = (cc, cc)
+
+-- no bytes of the queue break the stream
+pub not_wrong : {X : Type 0} {spoken : List WireItem → List WireItem} {Means : WireItem → X → Type 0} → WrongIsFinal → (rest : Rest) (byte : ℕ) (bytes : List ℕ) (fault : WireFault) (messages : List X)
+    → BytesRepresent spoken Means rest (byte ∷ bytes) messages → GoesWrong record_limit rest (byte ∷ []) fault → ⊥
+not_wrong final rest byte bytes fault messages stands wrong =
+    final record_limit rest (byte ∷ []) bytes fault stands.delivers.tokens nothing wrong stands.delivers.reads stands.delivers.is_rest
+
+pub none_for_none : {X : Type 0} (Means : WireItem → X → Type 0) (taken : List X) → Pairwise Means [] taken → taken ≡ []
+none_for_none Means [] stand = refl
+none_for_none Means (message ∷ messages) stand = absurd stand
+
+no_items : {X : Type 0} (Means : WireItem → X → Type 0) (items : List WireItem) → Pairwise Means items [] → items ≡ []
+no_items Means [] stand = refl
+no_items Means (item ∷ items) stand = absurd stand
+
+-- the talk goes on
+open_now : (end : TermEnd) (messages : List ToTerminal) → MayComeAll end messages → IsOpen end.talk.talk.state
+open_now end [] may = may
+open_now end (message ∷ messages) may = may.0
+
+-- what is to be shown of some bytes, wherever they are taken
+abbrev Comes : List ℕ → List ℕ → TrackedTerminal → Type 0
+Comes front behind new = (old : TrackedTerminal) (rest : Rest) (link : Link)
+    → Holds rest old link.term → BytesDown rest (front ++ behind) link.down → MayComeAll link.term link.down → NoneCloses link.term link.down
+    → CanBeSent link.term.display.size link.term.display.screen → TrackedTakes old front new → CameSome link old new behind
+
+module _ (takes : TermTakes) (keeps : TakesKeepSendable) (nop : NopHasNoEffect) (goes_on : RepresentsGoOn without_nops RepresentsDown) (final : WrongIsFinal) where
+  -- NOP: the messages under way stay
+  nop_comes : (item : WireItem) (others : List ToTerminal) (link : Link) (talk after : Term) (old mid new : TrackedTerminal) (to : Rest) (front behind : List ℕ) (says : List WireItem) (closes : Option Cause)
+      → Comes front behind new → is_nop item ≡ true → link.down ≡ others → BytesDown to (front ++ behind) others
+      → MayComeAll link.term link.down → NoneCloses link.term link.down → CanBeSent link.term.display.size link.term.display.screen → IsEnd (end_at talk old) link.term
+      → EndTakes (end_at talk old) item (record { end = end_at after mid; says = says; closes = closes })
+      → mid.terminal.link ≡ link_after to after closes → mid.terminal.out ≡ old.terminal.out ++ sent_bytes says → TrackedTakes mid front new → CameSome link old new behind
+  nop_comes item others link talk after old mid new to front behind says closes comes is_it whole down may none can is taken at out more =
+      let step : ByteStep = record { end = end_at after mid; says = says; closes = closes } in
+      let unmoved = nop (end_at talk old) link.term step (open_now link.term link.down may) is (subst (λ (i : WireItem). EndTakes (end_at talk old) i step) (nop_is item is_it) taken) in
+      let same_out : mid.terminal.out ≡ old.terminal.out =
+      out ∙ ap (λ (s : List WireItem). old.terminal.out ++ sent_bytes s) (no_items RepresentsUp says unmoved.same.said) ∙ append-nil old.terminal.out in
+      let came = comes mid to link (record { talk = after; attached = at ∙ ap (link_after to after) unmoved.same.closed; is_end = unmoved.same.is_end })
+      (subst (λ (m : List ToTerminal). BytesDown to (front ++ behind) m) (sym whole) down) may none can more in
+      record {
+        taken = came.taken;
+        others = came.others;
+        whole = came.whole;
+        ran = ran_since link (took_down came.taken came.others link) old mid new behind same_out came.ran;
+      }
+
+  -- an item that stands for the first message, or NOP
+  item_comes : (nops : Bool) (item : WireItem) (taken others : List ToTerminal) (link : Link) (talk after : Term) (old mid new : TrackedTerminal) (to : Rest) (front behind : List ℕ) (says : List WireItem) (closes : Option Cause)
+      → Comes front behind new → is_nop item ≡ nops → link.down ≡ taken ++ others → Pairwise RepresentsDown (cond (not nops) (item ∷ []) []) taken → BytesDown to (front ++ behind) others
+      → MayComeAll link.term link.down → NoneCloses link.term link.down → CanBeSent link.term.display.size link.term.display.screen → IsEnd (end_at talk old) link.term
+      → EndTakes (end_at talk old) item (record { end = end_at after mid; says = says; closes = closes })
+      → mid.terminal.link ≡ link_after to after closes → mid.terminal.out ≡ old.terminal.out ++ sent_bytes says → TrackedTakes mid front new → CameSome link old new behind
+  item_comes true item [] others link talk after old mid new to front behind says closes comes is_it whole each down may none can is taken at out more =
+      nop_comes item others link talk after old mid new to front behind says closes comes is_it whole down may none can is taken at out more
+  item_comes true item (message ∷ rest) others link talk after old mid new to front behind says closes comes is_it whole each down may none can is taken at out more = absurd each
+  item_comes false item [] others link talk after old mid new to front behind says closes comes is_it whole each down may none can is taken at out more = absurd each
+  item_comes false item (message ∷ []) others link talk after old mid new to front behind says closes comes is_it whole each down may none can is taken at out more =
+      let all = subst (λ (m : List ToTerminal). MayComeAll link.term m) whole may in
+      let opened = subst (λ (m : List ToTerminal). NoneCloses link.term m) whole none in
+      let step : ByteStep = record { end = end_at after mid; says = says; closes = closes } in
+      let same = takes message item (end_at talk old) link.term step (record { stands = each.0; may = all.1; sendable = can; is_end = is; takes = taken }) in
+      let next : Link = stayed (took link.term message) others link in
+      came_more message others link old mid new behind says whole opened.0 same.said same.fit out
+      (comes mid to next (record { talk = after; attached = at ∙ ap (link_after to after) (same.closed ∙ opened.0); is_end = same.is_end })
+      down all.2 opened.1 (keeps message item link.term each.0 all.1 can) more)
+  item_comes false item (message ∷ other ∷ more) others link talk after old mid new to front behind says closes comes is_it whole each down may none can is taken at out rest = absurd each.1
+
+  -- what the terminal takes with a byte, as the end takes it
+  end_takes : (item : WireItem) (talk same after : Term) (old mid : TrackedTerminal) (says : List WireItem) (closes : Option Cause) (station : Station) → same ≡ talk → station ≡ mid.terminal.station
+      → TakesItem same (before_byte old.terminal.station) item says closes after station → mid.history ≡ marked old.terminal.station mid.terminal.station old.history
+      → EndTakes (end_at talk old) item (record { end = end_at after mid; says = says; closes = closes })
+  end_takes item talk same after old mid says closes station is is_mid taken history = record {
+    takes = subst (λ (s : Station). TakesItem talk (before_byte old.terminal.station) item says closes after s) is_mid
+        (subst (λ (t : Term). TakesItem t (before_byte old.terminal.station) item says closes after station) is taken);
+    history = history;
+  }
+
+  byte_comes : (byte : ℕ) (front behind : List ℕ) (old mid new : TrackedTerminal) (rest : Rest) (link : Link)
+      → Comes front behind new → Holds rest old link.term → BytesDown rest (byte ∷ (front ++ behind)) link.down → MayComeAll link.term link.down → NoneCloses link.term link.down
+      → CanBeSent link.term.display.size link.term.display.screen → mid.history ≡ marked old.terminal.station mid.terminal.station old.history → TakesByte old.terminal byte mid.terminal → TrackedTakes mid front new
+      → CameSome link old new behind
+  byte_comes byte front behind old mid new rest link comes holds down may none can history (TakesByte.goes_on rest' to talk' at' delivers is_mid) more =
+      let is = holds.is_end in
+      let parts = link_parts rest rest' holds.talk talk' (sym holds.attached ∙ at') in
+      let some = goes_on rest to (byte ∷ []) (front ++ behind) [] link.down down (subst (λ (r : Rest). Delivers record_limit r (byte ∷ []) [] to) (sym parts.0) delivers) in
+      let same : link.down ≡ some.others = some.whole ∙ ap (λ (m : List ToTerminal). m ++ some.others) (none_for_none RepresentsDown some.taken some.each) in
+      let stays : mid.history ≡ old.history = history ∙ ap (λ (t : Terminal). marked old.terminal.station t.station old.history) is_mid in
+      let came = comes mid to link
+      (record {
+        talk = holds.talk;
+        attached = ap (λ (t : Terminal). t.link) is_mid ∙ ap (λ (t : Term). Attached to t) (sym parts.1);
+        is_end = record {
+          talk_is = is.talk_is;
+          screen_is = ap (λ (t : Terminal). t.station.screen) is_mid ∙ is.screen_is;
+          keyboard_is = ap (λ (t : Terminal). t.station.keyboard) is_mid ∙ is.keyboard_is;
+          last_restored_is = ap (λ (h : History). h.last_restored) stays ∙ is.last_restored_is;
+          before_restored_is = ap (λ (h : History). h.before_restored) stays ∙ is.before_restored_is;
+          erased_is = ap (λ (h : History). h.erased) stays ∙ is.erased_is;
+        };
+      })
+      (subst (λ (m : List ToTerminal). BytesDown to (front ++ behind) m) (sym same) some.stands) may none can more in
+      record {
+        taken = came.taken;
+        others = came.others;
+        whole = came.whole;
+        ran = ran_since link (took_down came.taken came.others link) old mid new behind (ap (λ (t : Terminal). t.out) is_mid) came.ran;
+      }
+  byte_comes byte front behind old mid new rest link comes holds down may none can history (TakesByte.completes rest' to talk' after item says closes station at' delivers item_taken is_mid) more =
+      let parts = link_parts rest rest' holds.talk talk' (sym holds.attached ∙ at') in
+      let some = goes_on rest to (byte ∷ []) (front ++ behind) (item ∷ []) link.down down (subst (λ (r : Rest). Delivers record_limit r (byte ∷ []) (item ∷ []) to) (sym parts.0) delivers) in
+      item_comes (is_nop item) item some.taken some.others link holds.talk after old mid new to front behind says closes comes refl some.whole some.each some.stands may none can holds.is_end
+      (end_takes item holds.talk talk' after old mid says closes station (sym parts.1) (ap (λ (t : Terminal). t.station) (sym is_mid)) item_taken history)
+      (ap (λ (t : Terminal). t.link) is_mid) (ap (λ (t : Terminal). t.out) is_mid) more
+  byte_comes byte front behind old mid new rest link comes holds down may none can history (TakesByte.breaks rest' talk' fault at' wrong is_mid) more =
+      let parts = link_parts rest rest' holds.talk talk' (sym holds.attached ∙ at') in
+      absurd (not_wrong final rest byte (front ++ behind) fault link.down down (subst (λ (r : Rest). GoesWrong record_limit r (byte ∷ []) fault) (sym parts.0) wrong))
+
+  bytes_come : (front behind : List ℕ) (new : TrackedTerminal) → Comes front behind new
+  bytes_come [] behind new old rest link holds down may none can taken =
+      record { taken = []; others = link.down; whole = refl; ran = ran_nothing link old new behind rest holds down can taken }
+  bytes_come (byte ∷ front) behind new old rest link holds down may none can taken =
+      byte_comes byte front behind old taken.0 new rest link (bytes_come front behind new) holds down may none can taken.1.history taken.1.takes taken.2
+
+  -- ---- the mark of one byte
+
+  or_false : (b : Bool) → b ≡ (b || false)
+  or_false true = refl
+  or_false false = refl
+
+  item_marks : WritesAreMarked → (nops : Bool) (item : WireItem) (taken others : List ToTerminal) (link : Link) (talk after : Term) (old mid : TrackedTerminal) (to : Rest) (behind : List ℕ) (says : List WireItem) (closes : Option Cause)
+      (is_it : is_nop item ≡ nops) (whole : link.down ≡ taken ++ others) (each : Pairwise RepresentsDown (cond (not nops) (item ∷ []) []) taken) (down : BytesDown to behind others)
+      (may : MayComeAll link.term link.down) (none : NoneCloses link.term link.down) (can : CanBeSent link.term.display.size link.term.display.screen) (is : IsEnd (end_at talk old) link.term)
+      (takes_it : EndTakes (end_at talk old) item (record { end = end_at after mid; says = says; closes = closes }))
+      (at : mid.terminal.link ≡ link_after to after closes) (out : mid.terminal.out ≡ old.terminal.out ++ sent_bytes says)
+      → mid.terminal.station.took_write
+      ≡ any_painted link.term (item_comes nops item taken others link talk after old mid mid to [] behind says closes (bytes_come [] behind mid) is_it whole each down may none can is takes_it at out refl).taken
+  unfolding item_comes nop_comes came_more bytes_come
+  item_marks marks true item [] others link talk after old mid to behind says closes is_it whole each down may none can is takes_it at out =
+      let step : ByteStep = record { end = end_at after mid; says = says; closes = closes } in
+      (nop (end_at talk old) link.term step (open_now link.term link.down may) is (subst (λ (i : WireItem). EndTakes (end_at talk old) i step) (nop_is item is_it) takes_it)).unmarked
+  item_marks marks true item (message ∷ rest) others link talk after old mid to behind says closes is_it whole each down may none can is takes_it at out = absurd each
+  item_marks marks false item [] others link talk after old mid to behind says closes is_it whole each down may none can is takes_it at out = absurd each
+  item_marks marks false item (message ∷ []) others link talk after old mid to behind says closes is_it whole each down may none can is takes_it at out =
+      let all = subst (λ (m : List ToTerminal). MayComeAll link.term m) whole may in
+      marks message item (end_at talk old) link.term (record { end = end_at after mid; says = says; closes = closes })
+      (record { stands = each.0; may = all.1; sendable = can; is_end = is; takes = takes_it }) ∙ or_false (is_painted link.term message)
+  item_marks marks false item (message ∷ other ∷ more) others link talk after old mid to behind says closes is_it whole each down may none can is takes_it at out = absurd each.1
+
+  byte_marks : WritesAreMarked → (byte : ℕ) (behind : List ℕ) (old new : TrackedTerminal) (rest : Rest) (link : Link)
+      (holds : Holds rest old link.term) (down : BytesDown rest (byte ∷ behind) link.down) (may : MayComeAll link.term link.down) (none : NoneCloses link.term link.down)
+      (can : CanBeSent link.term.display.size link.term.display.screen) (history : new.history ≡ marked old.terminal.station new.terminal.station old.history) (taken : TakesByte old.terminal byte new.terminal)
+      → new.terminal.station.took_write ≡ any_painted link.term (byte_comes byte [] behind old new new rest link (bytes_come [] behind new) holds down may none can history taken refl).taken
+  unfolding byte_comes bytes_come
+  byte_marks marks byte behind old new rest link holds down may none can history (TakesByte.goes_on rest' to talk' at' delivers is_mid) =
+      ap (λ (t : Terminal). t.station.took_write) is_mid
+  byte_marks marks byte behind old new rest link holds down may none can history (TakesByte.completes rest' to talk' after item says closes station at' delivers item_taken is_mid) =
+      let parts = link_parts rest rest' holds.talk talk' (sym holds.attached ∙ at') in
+      let some = goes_on rest to (byte ∷ []) behind (item ∷ []) link.down down (subst (λ (r : Rest). Delivers record_limit r (byte ∷ []) (item ∷ []) to) (sym parts.0) delivers) in
+      item_marks marks (is_nop item) item some.taken some.others link holds.talk after old new to behind says closes refl some.whole some.each some.stands may none can holds.is_end
+      (end_takes item holds.talk talk' after old new says closes station (sym parts.1) (ap (λ (t : Terminal). t.station) (sym is_mid)) item_taken history)
+      (ap (λ (t : Terminal). t.link) is_mid) (ap (λ (t : Terminal). t.out) is_mid)
+  byte_marks marks byte behind old new rest link holds down may none can history (TakesByte.breaks rest' talk' fault at' wrong is_mid) =
+      let parts = link_parts rest rest' holds.talk talk' (sym holds.attached ∙ at') in
+      absurd (not_wrong final rest byte behind fault link.down down (subst (λ (r : Rest). GoesWrong record_limit r (byte ∷ []) fault) (sym parts.0) wrong))
+
+-- what both ends have once the terminal took what came, and said this
+pub ran_stands : {heard : List WireItem → List WireItem} {Up : WireItem → ToHost → Type 0} (bytes : ByteLink) (link now : Link) (behind said : List ℕ) (new : TrackedTerminal) (stands : LinkRepresentsBy heard Up bytes link)
+    (ran : Ran link now bytes.tracked new behind) → BytesRepresent heard Up stands.read (sent link.lost bytes.up said) (sent link.lost link.up ran.sends)
+    → LinkRepresentsBy heard Up (fed (with_out said new) behind bytes) now
+ran_stands {heard} {Up} bytes link now behind said new stands ran queue = record {
+  lost = stands.lost ∙ sym ran.lost;
+  host_here = stands.host_here ∙ sym ran.host_here;
+  term_here = stands.term_here ∙ sym ran.term_here;
+  read = stands.read;
+  up = subst (λ (m : List ToHost). BytesRepresent heard Up stands.read (sent bytes.lost bytes.up said) m) (sym ran.up)
+      (subst (λ (l : Bool). BytesRepresent heard Up stands.read (sent l bytes.up said) (sent link.lost link.up ran.sends)) (sym stands.lost) queue);
+  host = λ there. let host = stands.host (sym ran.host_here ∙ there) in record { host = host.host ∙ sym ran.host; rest_is = host.rest_is };
+  term = λ which is. record { rest = ran.rest; holds = silenced ran.rest (with_out said new) now.term (record { talk = ran.holds.talk; attached = ran.holds.attached; is_end = ran.holds.is_end }); silent = refl; down = ran.down };
+}
+
+-- as our terminal says it
+ours_stand : RepresentsCompose all_items RepresentsUp → (bytes : ByteLink) (link now : Link) (behind : List ℕ) (new : TrackedTerminal) → LinkRepresents bytes link → bytes.tracked.terminal.out ≡ []
+    → Ran link now bytes.tracked new behind → LinkRepresents (fed new behind bytes) now
+ours_stand compose bytes link now behind new stands silent ran =
+    let out : new.terminal.out ≡ sent_bytes ran.says = ran.out ∙ ap (λ (b : List ℕ). b ++ sent_bytes ran.says) silent in
+    ran_stands bytes link now behind new.terminal.out new stands ran (said_goes_up compose link.lost stands.read bytes.up new.terminal.out link.up ran.sends ran.says stands.up out ran.fit ran.said)
+
+pub down_stands : TermTakes → TakesKeepSendable → NopHasNoEffect → RepresentsCompose all_items RepresentsUp → RepresentsGoOn without_nops RepresentsDown → WrongIsFinal → DownRepresents
+down_stands takes keeps nop compose goes_on final bytes link front behind new ready queue taken =
+    let term = ready.stands.term ready.terminal ready.here in
+    let down : BytesDown term.rest (front ++ behind) link.down = subst (λ (b : List ℕ). BytesDown term.rest b link.down) queue term.down in
+    let came = bytes_come takes keeps nop goes_on final front behind new bytes.tracked term.rest link term.holds down ready.may ready.none ready.sendable taken in
+    record {
+      taken = came.taken;
+      others = came.others;
+      whole = came.whole;
+      stands = ours_stand compose bytes link (took_down came.taken came.others link) behind new ready.stands term.silent came.ran;
+    }
+
+pub down_is_not_refused : TermTakes → TakesKeepSendable → NopHasNoEffect → RepresentsGoOn without_nops RepresentsDown → WrongIsFinal → DownIsNotRefused
+down_is_not_refused takes keeps nop goes_on final bytes link front behind new ready queue taken =
+    let term = ready.stands.term ready.terminal ready.here in
+    let down : BytesDown term.rest (front ++ behind) link.down = subst (λ (b : List ℕ). BytesDown term.rest b link.down) queue term.down in
+    let ran = (bytes_come takes keeps nop goes_on final front behind new bytes.tracked term.rest link term.holds down ready.may ready.none ready.sendable taken).ran in
+    record { says = ran.says; out = ran.out; fit = ran.fit; sends = ran.sends; said = ran.said; none = ran.none }
+
+-- one byte came, and marks a write where a paint came with it that finds the terminal bound
+pub record ByteCame (link : Link) (old new : TrackedTerminal) (behind : List ℕ) : Type 0 where
+  pub came : CameSome link old new behind
+  pub marked : new.terminal.station.took_write ≡ any_painted link.term came.taken
+
+pub byte_came : TermTakes → TakesKeepSendable → NopHasNoEffect → RepresentsGoOn without_nops RepresentsDown → WrongIsFinal → WritesAreMarked → (byte : ℕ) (behind : List ℕ) (old new : TrackedTerminal) (rest : Rest) (link : Link)
+    → Holds rest old link.term → BytesDown rest (byte ∷ behind) link.down → MayComeAll link.term link.down → NoneCloses link.term link.down → CanBeSent link.term.display.size link.term.display.screen
+    → TrackedTakesByte old byte new → ByteCame link old new behind
+byte_came takes keeps nop goes_on final marks byte behind old new rest link holds down may none can taken = record {
+  came = byte_comes takes keeps nop goes_on final byte [] behind old new new rest link (bytes_come takes keeps nop goes_on final [] behind new) holds down may none can taken.history taken.takes refl;
+  marked = byte_marks takes keeps nop goes_on final marks byte behind old new rest link holds down may none can taken.history taken.takes;
+}
+
+pub bytes_are_marked : TermTakes → TakesKeepSendable → NopHasNoEffect → RepresentsCompose all_items RepresentsUp → RepresentsGoOn without_nops RepresentsDown → WrongIsFinal → WritesAreMarked → BytesAreMarked
+bytes_are_marked takes keeps nop compose goes_on final marks bytes link byte behind new ready queue taken =
+    let term = ready.stands.term ready.terminal ready.here in
+    let down : BytesDown term.rest (byte ∷ behind) link.down = subst (λ (b : List ℕ). BytesDown term.rest b link.down) queue term.down in
+    let one = byte_came takes keeps nop goes_on final marks byte behind bytes.tracked new term.rest link term.holds down ready.may ready.none ready.sendable taken in
+    record {
+      came = record {
+        taken = one.came.taken;
+        others = one.came.others;
+        whole = one.came.whole;
+        stands = ours_stand compose bytes link (took_down one.came.taken one.came.others link) behind new ready.stands term.silent one.came.ran;
+      };
+      marked = one.marked;
+    }
+
+-- ---- the host, and losses
+
+goes_down : RepresentsCompose without_nops RepresentsDown → (lost : Bool) (rest : Rest) (bytes : List ℕ) (messages more : List ToTerminal) (items : List WireItem)
+    → BytesDown rest bytes messages → AllByRecursion (CanCome record_limit) items → Pairwise RepresentsDown (without_nops items) more
+    → BytesDown rest (sent lost bytes (sent_bytes items)) (sent lost messages more)
+goes_down compose true rest bytes messages more items stands fit said = stands
+goes_down compose false rest bytes messages more items stands fit said = compose rest bytes messages more items stands fit said
+
+pub host_sends : {heard : List WireItem → List WireItem} {Up : WireItem → ToHost → Type 0} → RepresentsCompose without_nops RepresentsDown → HostSendsBy heard Up
+host_sends compose bytes link conn items messages stands fit said = record {
+  lost = stands.lost;
+  host_here = stands.host_here;
+  term_here = stands.term_here;
+  read = stands.read;
+  up = stands.up;
+  host = λ here. record { host = refl; rest_is = (stands.host here).rest_is };
+  term = λ terminal here. let term = stands.term terminal here in record {
+    rest = term.rest;
+    holds = record { talk = term.holds.talk; attached = term.holds.attached; is_end = term.holds.is_end };
+    silent = term.silent;
+    down = subst (λ (l : Bool). BytesDown term.rest (sent l bytes.down (sent_bytes items)) (sent link.lost link.down messages)) (sym stands.lost)
+        (goes_down compose link.lost term.rest bytes.down link.down messages items term.down fit
+        (subst (λ (l : List WireItem). Pairwise RepresentsDown l messages) (sym (all_spoken items messages said)) said));
+  };
+}
+
+nop_can_come : CanCome record_limit no_operation
+nop_can_come = (λ e. absurd (omega (arith, e)), omega arith)
+
+pub nop_stands : {heard : List WireItem → List WireItem} {Up : WireItem → ToHost → Type 0} → RepresentsCompose without_nops RepresentsDown → NopRepresentsBy heard Up
+nop_stands compose bytes link stands = record {
+  lost = stands.lost;
+  host_here = stands.host_here;
+  term_here = stands.term_here;
+  read = stands.read;
+  up = stands.up;
+  host = λ here. let host = stands.host here in record { host = host.host; rest_is = host.rest_is };
+  term = λ terminal here. let term = stands.term terminal here in record {
+    rest = term.rest;
+    holds = record { talk = term.holds.talk; attached = term.holds.attached; is_end = term.holds.is_end };
+    silent = term.silent;
+    down = subst (λ (l : Bool). BytesDown term.rest (sent l bytes.down (sent_bytes (no_operation ∷ []))) link.down) (sym stands.lost)
+        (subst (λ (m : List ToTerminal). BytesDown term.rest (sent link.lost bytes.down (sent_bytes (no_operation ∷ []))) m) (sym (sent_nothing link.lost link.down))
+        (goes_down compose link.lost term.rest bytes.down link.down [] (no_operation ∷ []) term.down (nop_can_come, tt) tt));
+  };
+}
+
+same_term : (bytes with_bytes : ByteLink) (link with_link : Link) → TermRepresents bytes link
+    → with_bytes.tracked ≡ bytes.tracked → with_bytes.down ≡ bytes.down → with_link.term ≡ link.term → with_link.down ≡ link.down → TermRepresents with_bytes with_link
+same_term bytes with_bytes link with_link term a b c d = record {
+  rest = term.rest;
+  holds = subst (λ (s : TrackedTerminal). Holds term.rest s with_link.term) (sym a) (subst (λ (e : TermEnd). Holds term.rest bytes.tracked e) (sym c) term.holds);
+  silent = ap (λ (s : TrackedTerminal). s.terminal.out) a ∙ term.silent;
+  down = subst (λ (q : List ℕ). BytesDown term.rest q with_link.down) (sym b) (subst (λ (m : List ToTerminal). BytesDown term.rest bytes.down m) (sym d) term.down);
+}
+
+-- Where the host is there, its decoder holds what was read.
+pub up_behind_rest : {heard : List WireItem → List WireItem} {Up : WireItem → ToHost → Type 0} (bytes : ByteLink) (link : Link) → LinkRepresentsBy heard Up bytes link → link.host_here ≡ true
+    → BytesRepresent heard Up bytes.host_rest bytes.up link.up
+up_behind_rest {heard} {Up} bytes link stands here = subst (λ (r : Rest). BytesRepresent heard Up r bytes.up link.up) (sym (stands.host here).rest_is) stands.up
+
+pub up_stands : {heard : List WireItem → List WireItem} {Up : WireItem → ToHost → Type 0} → RepresentsGoOn heard Up → UpRepresentsBy heard Up
+up_stands {heard} {Up} goes_on bytes link front behind items to stands here queue delivers =
+    let host = stands.host here in
+    let some = goes_on bytes.host_rest to front behind items link.up
+    (subst (λ (b : List ℕ). BytesRepresent heard Up bytes.host_rest b link.up) queue (up_behind_rest bytes link stands here)) delivers in
+    record {
+      taken = some.taken;
+      others = some.others;
+      whole = some.whole;
+      each = some.each;
+      stands = record {
+        lost = stands.lost;
+        host_here = stands.host_here;
+        term_here = stands.term_here;
+        read = to;
+        up = some.stands;
+        host = λ there. record { host = host.host; rest_is = refl };
+        term = λ terminal there. same_term bytes _ link _ (stands.term terminal there) refl refl refl refl;
+      };
+    }
+
+pub loss_stands : LossRepresents
+loss_stands bytes link stands = record {
+  lost = refl;
+  host_here = stands.host_here;
+  term_here = stands.term_here;
+  read = stands.read;
+  up = stands.up;
+  host = λ here. let host = stands.host here in record { host = host.host; rest_is = host.rest_is };
+  term = λ terminal here. same_term bytes _ link _ (stands.term terminal here) refl refl refl refl;
+}
+
+no_host : (link : Link) (bytes : ByteLink) (rest : Rest) → false ≡ true → HostRepresents bytes link rest
+no_host link bytes rest e = cc
+
+no_term : (link : Link) (bytes : ByteLink) (terminal : ℕ) → None ≡ Some terminal → TermRepresents bytes link
+no_term link bytes terminal e = cc
+
+pub host_leaves : HostLeaves
+host_leaves bytes link stands = record {
+  lost = refl;
+  host_here = refl;
+  term_here = stands.term_here;
+  read = stands.read;
+  up = stands.up;
+  host = λ here. no_host _ _ stands.read here;
+  term = λ terminal here. same_term bytes _ link _ (stands.term terminal here) refl refl refl refl;
+}
+
+pub term_leaves : TermLeaves
+term_leaves bytes link stands = record {
+  lost = refl;
+  host_here = stands.host_here;
+  term_here = refl;
+  read = stands.read;
+  up = stands.up;
+  host = λ here. let host = stands.host here in record { host = host.host; rest_is = host.rest_is };
+  term = λ terminal here. no_term _ _ terminal here;
+}

@@ -1,0 +1,12 @@
+pub mod ExampleApplication
+pub mod ExampleScreens
+pub mod ExampleEnds
+pub mod ExampleRules
+pub mod ExampleRuns
+pub mod ExampleReads
+pub mod ExampleRestarts
+pub mod ExampleNotes
+pub mod ExampleTargets
+pub mod ExampleQuestions
+pub mod ExampleLosses
+pub mod Example

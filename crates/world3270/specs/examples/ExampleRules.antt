@@ -1,0 +1,201 @@
+-- Runs of one connection of the example, from agreement on: with a terminal that keeps the rules and doesn't wait, and
+-- with terminals that break one rule each. Readers and proofs need them, and nothing rests on them (our profile). The
+-- terminals are of model 2.
+use Rattle.std.specs.Prelude.{◌≡◌, ◌≢◌, ◌∷◌, ◌++◌, ℕ, true, false, List, [], replicate, slice_set, Some, None}
+use Rattle.codes3270.specs.declared.attention.Aid.TheVariants.{Enter, NoAid}
+use Rattle.codes3270.specs.declared.attribute.Cell.TheVariants.{Char}
+use Rattle.codes3270.specs.declared.size.Model.TheVariants.{M2}
+use Rattle.datastream.specs.InboundFields.{modified_data}
+use Rattle.datastream.specs.Screen.{Screen}
+use Rattle.datastream.specs.declared.inbound_part.Form.TheVariants.{Modified}
+use Rattle.keyboard.specs.State.{freed}
+use Rattle.keyboard.specs.declared.key.Key.{Key}
+use Rattle.keyboard.specs.declared.key.Key.TheVariants as key
+use Rattle.tn3270e_msg.specs.Device.{device_for}
+use Rattle.tn3270e_msg.specs.Talk.{start_at}
+use Rattle.tn3270e_msg.specs.declared.host_talk.HostState.TheVariants.{Agreed as HostAgreed}
+use Rattle.tn3270e_msg.specs.declared.term_talk.TermState.TheVariants.{Agreed}
+use Rattle.host_core.specs.Messages.{ToTerminal, ToHost, Verdict}
+use Rattle.host_core.specs.Session.{new_conn}
+use Rattle.host_core.specs.declared.question.Answer.{Answer as ApplicationAnswer}
+use Rattle.host_core.specs.declared.terminals.Terminals.{Terminals}
+use Rattle.host_core.specs.declared.terminals.Terminals.TheVariants.{Any, Waiting}
+use Rattle.world3270.specs.statement.EveryTerminal.{AreByTheRules, Begins, Move, RightOf, ReportedLink, after_moves, moved}
+use Rattle.world3270.specs.examples.ExampleApplication.{example, example_pool, l1, l2, small}
+use Rattle.world3270.specs.examples.ExampleQuestions.{renamed}
+use Rattle.world3270.specs.examples.ExampleScreens.{fresh_sign_on, message_seen, no_message, skipped}
+use Rattle.world3270.specs.model.Link.{term_stepped}
+use Rattle.world3270.specs.statement.RuleLaws.{impatient_key, pasted}
+use Rattle.world3270.specs.statement.Rules.{after_sending, shows}
+use Rattle.world3270.specs.model.Terminal.{TermEnd, TermStep, new_display}
+
+-- ---- what happens
+
+-- A host that serves these terminals has granted L1; the terminal is bound to this LU.
+abbrev pub agreed_with : Terminals → List ℕ → ReportedLink
+agreed_with serves mine =
+    let end : TermEnd = record {
+      waits = false;
+      talk = record { model = M2; wanted = None; talk = start_at (Agreed mine) };
+      display = new_display M2 small;
+    } in
+    record {
+      link = record {
+        lost = false;
+        down = [];
+        up = [];
+        host_here = true;
+        host = record (new_conn serves example) { talk = start_at (HostAgreed (device_for M2) l1) };
+        term_here = Some 0;
+        term = end;
+      };
+      told = end.display;
+      waits = true;
+    }
+
+-- a step of a run, as a function of the connection's state
+abbrev pub Deed : Type 0
+Deed = ReportedLink → ReportedLink
+
+abbrev pub after : List Deed → ReportedLink → ReportedLink
+after [] t = t
+after (deed ∷ deeds) t = after deeds (deed t)
+
+abbrev pub acts : Deed
+acts t = moved example Move.Act t
+
+abbrev pub answers : ApplicationAnswer → Deed
+answers said t = moved example (Move.Answer said) t
+
+abbrev pub goes_down : Deed
+goes_down t = moved example Move.Down t
+
+abbrev pub goes_up : Deed
+goes_up t = moved example (Move.Up example_pool) t
+
+abbrev pub does : (TermEnd → TermStep) → Deed
+does step t = moved example (Move.Operate (step t.link.term)) t
+
+-- a key at a terminal whose Reset ends the wait
+abbrev pub presses : Key → Deed
+presses key = does (impatient_key key)
+
+-- the first panel is shown, and the paint answered
+abbrev pub signs_on : List Deed
+signs_on = acts ∷ goes_down ∷ goes_up ∷ []
+
+-- ---- the wait is ended
+
+-- `A` in the first field, and PF6: the host reads the screen, and asks the application. Then Reset, and `Q` after the
+-- `A`; and the application answers with the second panel, and `B` for the name.
+abbrev pub types_in_the_wait : List Deed
+types_in_the_wait =
+    signs_on ++ presses (key.Char 0x41) ∷ presses (key.Pf 6) ∷ goes_up ∷ acts ∷ goes_down ∷ goes_up ∷ presses key.Reset
+    ∷ presses (key.Char 0x51)
+    ∷ answers renamed ∷ goes_down ∷ goes_up ∷ []
+
+-- the panel that a model 2 is shown in place of the second one, with a name of 15 cells
+abbrev pub small_greeting : List ℕ → Screen
+small_greeting name = record { cells = skipped name ++ message_seen no_message; cursor = 0; aid = NoAid }
+
+-- the name `B`, filled up with nulls
+abbrev pub renamed_seen : List ℕ
+renamed_seen = 0xC2 ∷ replicate 14 0
+
+-- the `Q` that was typed in the wait beside it, in a cell that is protected now
+abbrev pub left_behind : List ℕ
+left_behind = 0xC2 ∷ replicate 5 0 ++ 0xD8 ∷ replicate 8 0
+
+abbrev pub shown_by : ReportedLink → Screen
+shown_by t = t.link.term.display.screen
+
+-- then a PF key that leads to no panel, which is delivered to the host
+abbrev pub decides_behind : List Deed
+decides_behind = types_in_the_wait ++ presses (key.Pf 1) ∷ goes_up ∷ []
+
+-- A host that serves any terminal shows its panel, whatever was typed in the wait. One that relies on the wait leaves
+-- what was typed, and decides next with a belief that isn't true of the screen.
+pub record WaitingRun : Type 0 where
+  pub any : shown_by (after types_in_the_wait (agreed_with Any l1)) ≡ small_greeting renamed_seen
+  pub relying : shown_by (after types_in_the_wait (agreed_with Waiting l1)) ≡ small_greeting left_behind
+  pub wrong : RightOf example l1 (after decides_behind (agreed_with Waiting l1)) → ⊥
+
+-- ---- what was told
+
+-- `A`, and Enter, which the host hears; then Reset, `B` after the `A`, and Enter again, which the host drops
+abbrev pub enters_twice : List Deed
+enters_twice = signs_on ++ presses (key.Char 0x41) ∷ presses key.Enter ∷ goes_up ∷ presses key.Reset
+    ∷ presses (key.Char 0x42) ∷ presses key.Enter ∷ goes_up ∷ []
+
+-- the state with the present display as `told`
+abbrev pub told_the_newest : ReportedLink → ReportedLink
+told_the_newest t = record t { told = t.link.term.display }
+
+-- The host was told what the first Enter sent. `RightOf` doesn't hold with what the second one sent as `told`.
+pub record ToldRun : Type 0 where
+  pub newest : RightOf example l1 (told_the_newest (after enters_twice (agreed_with Any l1))) → ⊥
+
+-- ---- a rule is broken
+
+-- Enter, which is delivered to the host
+abbrev pub enters : List Deed
+enters = presses key.Enter ∷ goes_up ∷ []
+
+-- It doesn't apply: it answers a paint positively, frees the keyboard, and displays what it displayed before.
+abbrev pub unapplied : TermEnd → ToTerminal → TermStep
+unapplied end (ToTerminal.Paint number wanted over) =
+    record {
+      end = record end { display = record end.display { keyboard = freed end.display.keyboard } };
+      sends = ToHost.Response number Verdict.Positive ∷ [];
+      closes = None;
+    }
+unapplied end message = record { end = end; sends = []; closes = None }
+
+abbrev pub ignored : List ToTerminal → Deed
+ignored [] t = t
+ignored (message ∷ rest) t = record t { link = term_stepped (unapplied t.link.term message) rest t.link; waits = false }
+
+abbrev pub ignores : Deed
+ignores t = ignored t.link.down t
+
+-- It edits what is protected: the first letter of `NAME`.
+abbrev pub relabels : TermEnd → TermStep
+relabels end =
+    let screen = end.display.screen in
+    shows end.display.keyboard
+    (record end.display { screen = record screen { cells = slice_set screen.cells 1 (Char 0xE7) } }) [] end
+
+-- It doesn't send what it displays: Enter has the data of the panel as the host left it.
+abbrev pub sends_what_was_left : TermEnd → TermStep
+sends_what_was_left end =
+    let sent = after_sending Enter end.display in
+    shows end.display.keyboard sent
+    (ToHost.Data (modified_data Modified small (record fresh_sign_on { aid = Enter })) ∷ []) end
+
+-- With one rule broken `RightOf` doesn't hold: a paint isn't applied, a protected field is changed, a text isn't sent,
+-- or the terminal is bound to another LU than the host granted.
+pub record BrokenRules : Type 0 where
+  pub applies : RightOf example l1 (after (acts ∷ ignores ∷ goes_up ∷ enters) (agreed_with Any l1)) → ⊥
+  pub edits : RightOf example l1 (after (signs_on ++ does relabels ∷ enters) (agreed_with Any l1)) → ⊥
+  pub sends : RightOf example l1
+      (after (signs_on ++ presses (key.Char 0x41) ∷ does sends_what_was_left ∷ goes_up ∷ []) (agreed_with Any l1)) → ⊥
+  pub binds : RightOf example l1 (agreed_with Any l2) → ⊥
+
+-- ---- the rules are kept
+
+-- Enter, and `A` pasted in the wait
+abbrev pub entered : TermStep
+entered = impatient_key key.Enter (after signs_on (agreed_with Any l1)).link.term
+
+abbrev pub pasted_behind : TermStep
+pasted_behind = pasted (0xC1 ∷ []) entered.end
+
+abbrev pub kept_moves : List Move
+kept_moves = Move.Act ∷ Move.Down ∷ Move.Up example_pool ∷ Move.Operate entered ∷ Move.Operate pasted_behind ∷ []
+
+-- The theorem's premises can be met, and a terminal that meets them need not wait.
+pub record KeptRules : Type 0 where
+  pub begins : Begins example l1 (agreed_with Any l1)
+  pub kept : AreByTheRules example kept_moves (agreed_with Any l1)
+  pub changed : shown_by (after_moves example kept_moves (agreed_with Any l1))
+      ≢ (after_moves example kept_moves (agreed_with Any l1)).told.screen

@@ -1,0 +1,12 @@
+pub mod Terminal
+pub mod Link
+pub mod World
+pub mod Enabled
+pub mod Steps
+pub mod TrackedTerminals
+pub mod Places
+pub mod ByteWorld
+pub mod InFlight
+pub mod NoteTexts
+pub mod ByteSteps
+pub mod ByteRuns

@@ -1,0 +1,15 @@
+pub mod Unreturned
+pub mod LowerLaws
+pub mod View
+pub mod Phases
+pub mod Invariant
+pub mod Represents
+pub mod RepresentsEnds
+pub mod RepresentsLinks
+pub mod Readings
+pub mod Sizes
+pub mod Sendable
+pub mod Representation
+pub mod Deliveries
+pub mod Refines
+pub mod MessageLaws

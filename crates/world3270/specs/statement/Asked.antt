@@ -1,0 +1,146 @@
+-- What the application is asked is what the operator sees (our profile).
+use Rattle.std.specs.Prelude.{◌≡◌, ◌+◌, ℕ, Bool, List, length, Option, Some, None, slice_get, if◌then◌else◌}
+use Rattle.codes3270.specs.declared.attention.Aid.TheVariants.{Clear}
+use Rattle.datastream.specs.Fields.{Field, fields}
+use Rattle.datastream.specs.Inbound.{without_nulls}
+use Rattle.datastream.specs.Screen.{Screen}
+use Rattle.panels.specs.KeptFields.{IsFieldOn}
+use Rattle.panels.specs.Panel.{HaveNumbersApart}
+use Rattle.panels.specs.Screen.{Values}
+use Rattle.panels.specs.Values.{value_of}
+use Rattle.panels.specs.declared.message.Message.{Message}
+use Rattle.panels.specs.declared.panel.Field.{Field as PanelField}
+use Rattle.host_core.specs.Application.{Application, application_of, message_place}
+use Rattle.host_core.specs.Questions.{question_in, question_of}
+use Rattle.host_core.specs.State.{service_at, session_at}
+use Rattle.host_core.specs.declared.question.Question.{Question}
+use Rattle.world3270.specs.statement.AsLeft.{ProtectedIsAsLeft}
+use Rattle.world3270.specs.model.ByteWorld.{ByteWorld, slot_at}
+use Rattle.world3270.specs.model.Link.{Link}
+use Rattle.world3270.specs.refinement.Refines.{IsReached}
+use Rattle.world3270.specs.statement.Observation.{TerminalSeen, seen_link}
+use Rattle.world3270.specs.statement.ByteObservation.{seen_connection}
+use Rattle.world3270.specs.model.World.{World}
+
+-- ---- a text of a question is on the screen
+
+-- Holds if the screen has a field whose attribute is right before the first cell of the panel's field, and whose text,
+-- nulls removed, is this one.
+pub record IsFieldText (field : PanelField) (text : List ℕ) (screen : Screen) : Type 0 where
+  pub index : ℕ
+  pub on_screen : Field
+  pub listed : slice_get (fields screen.cells) index ≡ Some on_screen
+  pub place : on_screen.place + 1 ≡ field.extent.first
+  pub text_is : without_nulls on_screen.text ≡ text
+
+-- Holds if the panel has a field with this number, and this is that field's text on the screen.
+pub record IsPanelText (panel : List PanelField) (number : ℕ) (text : List ℕ) (screen : Screen) : Type 0 where
+  pub index : ℕ
+  pub field : PanelField
+  pub listed : slice_get panel index ≡ Some field
+  pub number_is : field.number ≡ number
+  pub stands : IsFieldText field text screen
+
+-- ---- a question
+
+-- Holds if the question has the AID of the key that the operator pressed (never Clear), the LU that the terminal is
+-- bound to, the cursor address, and for no field another text than the screen shows. `panel`: the named panel's fields.
+pub record IsSeen (panel : List PanelField) (question : Question) (terminal : TerminalSeen) : Type 0 where
+  pub key : question.aid ≡ terminal.screen.aid
+  pub not_clear : terminal.screen.aid ≡ Clear → ⊥
+  pub lu : terminal.bound ≡ Some question.lu
+  pub cursor : question.cursor ≡ terminal.screen.cursor
+  pub texts : (number : ℕ) (text : List ℕ) → value_of question.values number ≡ Some text
+      → IsPanelText panel number text terminal.screen
+
+-- Holds if the panel's field is on the screen, at its address and with its length, and this is its text, nulls removed.
+pub record IsFieldShown (field : PanelField) (text : List ℕ) (screen : Screen) : Type 0 where
+  pub stands : IsFieldText field text screen
+  pub length_is : length stands.on_screen.text ≡ field.extent.length
+
+-- Holds if the question has a text for the field, and the field is on the screen with that text.
+pub record IsFieldAsked (field : PanelField) (question : Question) (screen : Screen) : Type 0 where
+  pub text : List ℕ
+  pub given : value_of question.values field.number ≡ Some text
+  pub shown : IsFieldShown field text screen
+
+-- Holds if the question has each field of the panel, with its text on the screen.
+abbrev pub AreFieldsAsked : List PanelField → Question → Screen → Type 0
+AreFieldsAsked panel question screen = (index : ℕ) (field : PanelField) → slice_get panel index ≡ Some field
+    → IsFieldAsked field question screen
+
+-- ---- the screen is the one that was left
+
+-- Holds if Clear was pressed last, or the protected part of the terminal's screen is as the host's last restoring write
+-- left it, but for the row of messages, which begins at address `row`.
+abbrev pub IsScreenAsLeft : (row : ℕ) → TerminalSeen → Type 0
+IsScreenAsLeft row terminal = (terminal.screen.aid ≡ Clear → ⊥)
+    → ProtectedIsAsLeft row terminal.last_restored.cells terminal.screen.cells
+
+-- ---- of a world over messages
+
+-- Holds if each screen that the application asks for has each field of its panel, and a panel's fields differ in
+-- number.
+pub record ShowsItsFields (app : Application) : Type 0 where
+  pub on_screen : (panel : ℕ) (values : Values) (message : Message) (keep : Bool) (index : ℕ) (field : PanelField)
+      → slice_get (app.fields panel) index ≡ Some field
+      → IsFieldOn (app.screen panel values message keep) field.extent
+  pub numbers : (panel : ℕ) → HaveNumbersApart (app.fields panel)
+
+-- the open question on a connection, if the host is attached; `session` is any number (only a host over bytes counts)
+abbrev pub asked_by : Application → ℕ → Link → Option Question
+asked_by app session link = if link.host_here then question_in app session link.host else None
+
+-- Holds if on each connection with both ends attached, lost or not, an open question has what the terminal shows.
+abbrev pub AskedIsSeen : Application → World → Type 0
+AskedIsSeen app world = (number session : ℕ) (question : Question) (terminal : TerminalSeen)
+    → asked_by app session (world.link number) ≡ Some question
+    → (seen_link (world.link number)).terminal ≡ Some terminal
+    → IsSeen (app.fields question.panel) question terminal
+
+-- Holds if such a question has the text of each field of its panel as that screen shows it, provided that each screen
+-- that the application asks for has its panel's fields.
+abbrev pub FieldsAreSeen : Application → World → Type 0
+FieldsAreSeen app world = ShowsItsFields app → (number session : ℕ) (question : Question) (terminal : TerminalSeen)
+    → asked_by app session (world.link number) ≡ Some question
+    → (seen_link (world.link number)).terminal ≡ Some terminal
+    → AreFieldsAsked (app.fields question.panel) question terminal.screen
+
+-- Holds if the protected part of each attached terminal's screen is as it was left, on a lost connection too.
+abbrev pub ScreensAreAsLeft : World → Type 0
+ScreensAreAsLeft world = (number : ℕ) (terminal : TerminalSeen)
+    → (seen_link (world.link number)).terminal ≡ Some terminal
+    → IsScreenAsLeft (message_place (world.link number).term.display.size) terminal
+
+-- ---- of a world over bytes
+
+-- the address at which the row of messages, the last row, begins on a terminal's screen
+abbrev pub row_at : ℕ → ByteWorld → ℕ
+row_at terminal world = message_place (slot_at terminal world).tracked.terminal.station.screen.size
+
+-- the question that is open on connection `number`, as `Host::question` returns it
+abbrev pub asked_at : ℕ → ByteWorld → Option Question
+asked_at number world = question_of (application_of world.host.panels) (session_at number world.host)
+    (service_at number world.host)
+
+-- Holds if the question has the key, the LU, the cursor and each field of the panel as the terminal shows them, and the
+-- protected part of the screen is as it was left.
+pub record IsPanelSeen (panel : List PanelField) (row : ℕ) (question : Question)
+    (terminal : TerminalSeen) : Type 0 where
+  pub seen : IsSeen panel question terminal
+  pub fields : AreFieldsAsked panel question terminal.screen
+  pub protected : ProtectedIsAsLeft row terminal.last_restored.cells terminal.screen.cells
+
+-- Holds if each open question has what its terminal shows; and the protected part of each attached terminal's screen
+-- is as it was left, whether or not a question is open.
+pub record WhatIsAskedIsSeen (world : ByteWorld) : Type 0 where
+  pub questions : (number : ℕ) (question : Question) (terminal : TerminalSeen)
+      → asked_at number world ≡ Some question → (seen_connection number world).terminal ≡ Some terminal
+      → IsPanelSeen ((application_of world.host.panels).fields question.panel)
+      (row_at terminal.number world) question terminal
+  pub screens : (number : ℕ) (terminal : TerminalSeen) → (seen_connection number world).terminal ≡ Some terminal
+      → IsScreenAsLeft (row_at terminal.number world) terminal
+
+-- `WhatIsAskedIsSeen` holds of each world whose bytes represent a world over messages.
+abbrev pub AskedIsSeenOverBytes : Type 0
+AskedIsSeenOverBytes = (bytes : ByteWorld) → IsReached bytes → WhatIsAskedIsSeen bytes
